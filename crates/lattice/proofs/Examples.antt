@@ -1,0 +1,73 @@
+-- Level tables computed by the definitions: document 01's M9, M10 and M11, the table of request 6, and one for each way to fail.
+-- Assumes nothing.
+use Prim.Native.Nat.{ℕ}
+use mathlib.Core.Path.{_≡_, refl}
+use mathlib.Core.Bool.{true, false}
+use mathlib.Core.List.{List, [], _∷_}
+use Rattle.lattice.specs.Range.{all, first}
+use Rattle.lattice.specs.Order.{strictly, incomparable, reflexive, antisymmetric, transitive, isOrder}
+use Rattle.lattice.specs.Join.{isLeast, join, hasJoins}
+use Rattle.lattice.specs.Table.{dominates, namesPresent, isOrdered, joinOf, verdictOf, numberOf}
+
+-- document 01's number for a table
+abbrev number : List ℕ → ℕ
+number masks = numberOf (verdictOf masks)
+
+-- level 3 over 1 and 2, and these over 0
+abbrev diamond : List ℕ
+diamond = 0x01 ∷ 0x03 ∷ 0x05 ∷ 0x0F ∷ []
+
+pub record Examples : Type 0 where
+  m9 : number diamond ≡ 0
+  m9-bound : joinOf diamond 1 2 ≡ 3
+  m9-strictly : strictly (dominates diamond) 3 0 ≡ true
+  m9-not-itself : strictly (dominates diamond) 3 3 ≡ false
+  m9-incomparable : incomparable (dominates diamond) 1 2 ≡ true
+  m9-comparable : incomparable (dominates diamond) 1 3 ≡ false
+  m10 : number (0x01 ∷ 0x02 ∷ []) ≡ 5
+  m11 : number (0x03 ∷ 0x03 ∷ []) ≡ 4
+  -- request 6: no greatest lower bound of 0 and 1 is asked for yet
+  no-lower-bound : number (0x01 ∷ 0x02 ∷ 0x07 ∷ []) ≡ 0
+  -- least by dominance and not by number: level 0 is an upper bound of 1 and 2 too
+  top-first : joinOf (0x0F ∷ 0x02 ∷ 0x04 ∷ 0x0E ∷ []) 1 2 ≡ 3
+  top-first-passes : number (0x0F ∷ 0x02 ∷ 0x04 ∷ 0x0E ∷ []) ≡ 0
+  -- two upper bounds of 0 and 1, neither of which dominates the other
+  no-least : number (0x01 ∷ 0x02 ∷ 0x07 ∷ 0x0B ∷ []) ≡ 5
+  -- 2 over 1, 1 over 0, and 2 not over 0
+  gap : number (0x01 ∷ 0x03 ∷ 0x06 ∷ []) ≡ 4
+  own-bit-missing : number (0x01 ∷ 0x01 ∷ []) ≡ 4
+  absent-level-named : number (0x01 ∷ 0x07 ∷ []) ≡ 4
+  -- a table of 17 masks of 16 bits: the last has no room for its own bit
+  too-many :
+      number
+      (0x1 ∷ 0x3 ∷ 0x7 ∷ 0xF ∷ 0x1F ∷ 0x3F ∷ 0x7F ∷ 0xFF ∷ 0x1FF ∷ 0x3FF ∷ 0x7FF ∷ 0xFFF ∷ 0x1FFF ∷ 0x3FFF ∷ 0x7FFF ∷ 0xFFFF ∷ 0xFFFF ∷ [])
+      ≡ 4
+  sixteen :
+      number
+      (0x1 ∷ 0x3 ∷ 0x7 ∷ 0xF ∷ 0x1F ∷ 0x3F ∷ 0x7F ∷ 0xFF ∷ 0x1FF ∷ 0x3FF ∷ 0x7FF ∷ 0xFFF ∷ 0x1FFF ∷ 0x3FFF ∷ 0x7FFF ∷ 0xFFFF ∷ [])
+      ≡ 0
+  no-levels : number [] ≡ 0
+
+pub examples : Examples
+unfolding all first reflexive antisymmetric transitive isOrder isLeast join hasJoins dominates namesPresent isOrdered verdictOf
+examples =
+    record {
+      m9 = refl;
+      m9-bound = refl;
+      m9-strictly = refl;
+      m9-not-itself = refl;
+      m9-incomparable = refl;
+      m9-comparable = refl;
+      m10 = refl;
+      m11 = refl;
+      no-lower-bound = refl;
+      top-first = refl;
+      top-first-passes = refl;
+      no-least = refl;
+      gap = refl;
+      own-bit-missing = refl;
+      absent-level-named = refl;
+      too-many = refl;
+      sixteen = refl;
+      no-levels = refl;
+    }

@@ -1,0 +1,141 @@
+-- Laws of tests: the halves of `&&`, and what `all` and `first` say of the numbers below n. Assumes nothing.
+use Prim.Native.Nat.{ℕ, zero, suc, _≤_, _<_}
+use mathlib.Core.Path.{_≡_, refl, sym, _∙_, ap}
+use mathlib.Core.Bool.{Bool, true, false, not, cond, _&&_, true≢false, false≢true}
+use native.Mathlib.Omega.{arith}
+use native.Mathlib.Decide.{decLt}
+use Rattle.lattice.specs.Range.{implies, all, first}
+
+pub and-left : (a b : Bool) → (a && b) ≡ true → a ≡ true
+and-left true b e = refl
+and-left false b e = e
+
+pub and-right : (a b : Bool) → (a && b) ≡ true → b ≡ true
+and-right true b e = e
+and-right false b e = absurd (false≢true e)
+
+pub and-both : (a b : Bool) → a ≡ true → b ≡ true → (a && b) ≡ true
+and-both a b p q = rw (p, q)
+
+pub and-fails-left : (a b : Bool) → a ≡ false → (a && b) ≡ false
+and-fails-left a b p = rw p
+
+pub and-fails-right : (a b : Bool) → b ≡ false → (a && b) ≡ false
+and-fails-right true b p = p
+and-fails-right false b p = refl
+
+pub implies-then : (a b : Bool) → implies a b ≡ true → a ≡ true → b ≡ true
+implies-then true b e p = e
+implies-then false b e p = absurd (false≢true p)
+
+pub implies-when : (a b : Bool) → (a ≡ true → b ≡ true) → implies a b ≡ true
+implies-when true b f = f refl
+implies-when false b f = refl
+
+pub implies-left : (a b : Bool) → a ≡ false → implies a b ≡ true
+implies-left a b p = rw p
+
+pub implies-fails : (a b : Bool) → a ≡ true → b ≡ false → implies a b ≡ false
+implies-fails a b p q = rw (p, q)
+
+-- tests made by a branch on the first half: what each way answers
+pub and-taken : (a b r : Bool) → a ≡ true → r ≡ b → r ≡ (a && b)
+and-taken a b r p q = rw p q
+
+pub unless-taken : (a b r : Bool) → a ≡ true → r ≡ b → not r ≡ not (implies a b)
+unless-taken a b r p q = rw (p, q)
+
+pub unless-left : (a b : Bool) → a ≡ false → false ≡ not (implies a b)
+unless-left a b p = rw p
+
+pub not-both : (b : Bool) → b ≡ true → b ≡ false → ⊥
+not-both b p q = true≢false (sym p ∙ q)
+
+-- a number below suc n is below n, or n
+data Split (i n : ℕ) : Type 0 where
+  below : i < n → Split i n
+  last : i ≡ n → Split i n
+
+split : (i n : ℕ) → i < suc n → Split i n
+split i n h = elim (decLt i n) [ yes l ↦ below l | no g ↦ last (omega arith) ]
+
+-- `all`, taken apart and put together
+pub all-each : (n : ℕ) (p : ℕ → Bool) → all n p ≡ true → (i : ℕ) → i < n → p i ≡ true
+unfolding all
+all-each zero p e i h = absurd (omega arith)
+all-each (suc n) p e i h =
+    elim (split i n h) [
+      | below l ↦ all-each n p (and-left (all n p) (p n) e) i l
+      | last q ↦ rw q (and-right (all n p) (p n) e)
+    ]
+
+pub all-every : (n : ℕ) (p : ℕ → Bool) → ((i : ℕ) → i < n → p i ≡ true) → all n p ≡ true
+unfolding all
+all-every zero p f = refl
+all-every (suc n) p f =
+    and-both (all n p) (p n) (all-every n p (λ i h. f i (omega arith))) (f n (omega arith))
+
+pub all-fails : (n : ℕ) (p : ℕ → Bool) (i : ℕ) → i < n → p i ≡ false → all n p ≡ false
+all-fails n p i h q = go (all n p) refl
+  where
+    go : (b : Bool) → all n p ≡ b → b ≡ false
+    go true e = absurd (not-both (p i) (all-each n p e i h) q)
+    go false e = refl
+
+-- `first`: it is at most n; below n it passes, and nothing before it does
+pub first-le : (n : ℕ) (p : ℕ → Bool) → first n p ≤ n
+unfolding first
+first-le zero p = omega arith
+first-le (suc n) p = go (p zero) (first-le n (λ i. p (suc i)))
+  where
+    go : (b : Bool) → first n (λ i. p (suc i)) ≤ n → cond b zero (suc (first n (λ i. p (suc i)))) ≤ suc n
+    go true h = omega arith
+    go false h = omega arith
+
+pub first-passes : (n : ℕ) (p : ℕ → Bool) → first n p < n → p (first n p) ≡ true
+unfolding first
+first-passes zero p h = absurd (omega arith)
+first-passes (suc n) p h = go (p zero) refl h (first-passes n (λ i. p (suc i)))
+  where
+    rest : ℕ
+    rest = first n (λ i. p (suc i))
+
+    go : (b : Bool) → p zero ≡ b → cond b zero (suc rest) < suc n → (rest < n → p (suc rest) ≡ true) → p (cond b zero (suc rest)) ≡ true
+    go true e l f = e
+    go false e l f = f (omega arith)
+
+pub first-before : (n : ℕ) (p : ℕ → Bool) (i : ℕ) → i < first n p → p i ≡ false
+unfolding first
+first-before zero p i h = absurd (omega arith)
+first-before (suc n) p i h = go (p zero) refl i h (first-before n (λ k. p (suc k)))
+  where
+    rest : ℕ
+    rest = first n (λ k. p (suc k))
+
+    go : (b : Bool) → p zero ≡ b → (k : ℕ) → k < cond b zero (suc rest) → ((j : ℕ) → j < rest → p (suc j) ≡ false) → p k ≡ false
+    go true e k l f = absurd (omega arith)
+    go false e zero l f = e
+    go false e (suc j) l f = f j (omega arith)
+
+-- the number that passes with none before it is the first; where none passes the first is n
+pub first-at : (n : ℕ) (p : ℕ → Bool) (i : ℕ) → i < n → p i ≡ true → ((k : ℕ) → k < i → p k ≡ false) → first n p ≡ i
+first-at n p i h e f = go (decLt (first n p) i) (decLt i (first n p))
+  where
+    go : Dec (first n p < i) → Dec (i < first n p) → first n p ≡ i
+    go (yes l) g = absurd (not-both (p (first n p)) (first-passes n p (omega arith)) (f (first n p) l))
+    go (no l) (yes g) = absurd (not-both (p i) e (first-before n p i g))
+    go (no l) (no g) = omega arith
+
+pub first-none : (n : ℕ) (p : ℕ → Bool) → ((k : ℕ) → k < n → p k ≡ false) → first n p ≡ n
+first-none n p f = go (decLt (first n p) n)
+  where
+    go : Dec (first n p < n) → first n p ≡ n
+    go (yes l) = absurd (not-both (p (first n p)) (first-passes n p l) (f (first n p) l))
+    go (no g) = omega (arith, first-le n p)
+
+pub first-found : (n : ℕ) (p : ℕ → Bool) (i : ℕ) → i < n → p i ≡ true → first n p < n
+first-found n p i h e = go (decLt (first n p) n)
+  where
+    go : Dec (first n p < n) → first n p < n
+    go (yes l) = l
+    go (no g) = absurd (not-both (p i) e (first-before n p i (omega arith)))

@@ -1,0 +1,45 @@
+-- A level table: a mask for each level, and the questions of document 01 that are put of it. Assumes nothing.
+use Prim.Native.Nat.{ℕ, _/_, _%_, _^_}
+use mathlib.Core.Bool.{Bool, true, false, cond, _&&_}
+use mathlib.Core.List.{List}
+use lib.Dec.{eqb, ltb}
+use lib.ListN.{length, getD}
+use Rattle.lattice.specs.Range.{all}
+use Rattle.lattice.specs.Order.{Dominance, isOrder}
+use Rattle.lattice.specs.Join.{join, hasJoins}
+use Rattle.lattice.specs.declared.Verdict.{Verdict}
+use Rattle.lattice.specs.declared.Verdict.the-variants.{Passed, NotOrdered, NoJoin}
+
+-- bit k, worth 2^k, is set
+abbrev pub bit : ℕ → ℕ → Bool
+bit mask k = eqb (mask / 2 ^ k % 2) 1
+
+-- "bit k is set when this level dominates level k"
+unfoldable pub dominates : List ℕ → Dominance
+dominates masks i k = bit (getD masks i 0) k
+
+-- question 4: does each mask name only present levels
+unfoldable pub namesPresent : List ℕ → Bool
+namesPresent masks = all (length masks) (λ i. ltb (getD masks i 0) (2 ^ length masks))
+
+-- question 4
+unfoldable pub isOrdered : List ℕ → Bool
+isOrdered masks = namesPresent masks && isOrder (length masks) (dominates masks)
+
+-- the join of two levels of the table
+abbrev pub joinOf : List ℕ → ℕ → ℕ → ℕ
+joinOf masks = join (length masks) (dominates masks)
+
+-- question 5
+abbrev pub isJoined : List ℕ → Bool
+isJoined masks = hasJoins (length masks) (dominates masks)
+
+-- the lowest question that says no, or that both say yes
+unfoldable pub verdictOf : List ℕ → Verdict
+verdictOf masks = cond (isOrdered masks) (cond (isJoined masks) Passed NoJoin) NotOrdered
+
+-- document 01's number of a verdict; its place is 0
+abbrev pub numberOf : Verdict → ℕ
+numberOf Passed = 0
+numberOf NotOrdered = 4
+numberOf NoJoin = 5
