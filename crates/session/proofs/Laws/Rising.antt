@@ -1,0 +1,136 @@
+-- Positions in a list along which a number never falls: the elements below k stand first, then those at k. Assumes nothing.
+use Prim.Native.Nat.{ℕ, zero, suc, _+_, _≤_, _<_}
+use mathlib.Core.Path.{_≡_, refl, sym, _∙_, ap}
+use mathlib.Core.Bool.{Bool, true, false, _&&_}
+use mathlib.Core.List.{List, [], _∷_}
+use native.Mathlib.Nat.{zero-add, suc-add, le-trans}
+use native.Mathlib.Decide.{decLt}
+use native.Mathlib.Omega.{arith}
+use borrow.Author.Tests.{leb-true, le-leb, lt-leb, lt-ltb, le-ltb, eq-eqb, ne-eqb}
+use lib.Dec.{eqb, leb, ltb}
+use lib.ListN.{length, getD}
+use Rattle.lattice.proofs.Laws.Range.{and-left, and-right, and-both, and-fails-left, and-fails-right}
+use Rattle.session.specs.Lists.{select, risingFrom}
+use Rattle.session.proofs.Laws.Lists.{Truth, holds, fails, truth, select-yes, select-no}
+
+-- two numbers, compared
+pub data Order (a b : ℕ) : Type 0 where
+  less : a < b → Order a b
+  same : a ≡ b → Order a b
+  more : b < a → Order a b
+
+pub order : (a b : ℕ) → Order a b
+order a b = elim (decLt a b) [
+  | yes l ↦ less l
+  | no g ↦ elim (decLt b a) [ yes l ↦ more l | no h ↦ same (omega arith) ]
+]
+
+module _ {A : Type 0} (f : A → ℕ) where
+  -- how many elements are below k, and how many at k
+  abbrev pub below : ℕ → List A → ℕ
+  below k xs = length (select (λ x. ltb (f x) k) xs)
+
+  abbrev pub among : ℕ → List A → List A
+  among k xs = select (λ x. eqb (f x) k) xs
+
+  pub rising-head : (b : ℕ) (x : A) (xs : List A) → risingFrom f b (x ∷ xs) ≡ true → b ≤ f x
+  unfolding risingFrom
+  rising-head b x xs e = leb-true b (f x) (and-left (leb b (f x)) (risingFrom f (f x) xs) e)
+
+  pub rising-tail : (b : ℕ) (x : A) (xs : List A) → risingFrom f b (x ∷ xs) ≡ true → risingFrom f (f x) xs ≡ true
+  unfolding risingFrom
+  rising-tail b x xs e = and-right (leb b (f x)) (risingFrom f (f x) xs) e
+
+  pub rising-cons : (b : ℕ) (x : A) (xs : List A) → b ≤ f x → risingFrom f (f x) xs ≡ true → risingFrom f b (x ∷ xs) ≡ true
+  unfolding risingFrom
+  rising-cons b x xs h e = and-both (leb b (f x)) (risingFrom f (f x) xs) (le-leb b (f x) h) e
+
+  pub rising-lower : (a b : ℕ) (xs : List A) → a ≤ b → risingFrom f b xs ≡ true → risingFrom f a xs ≡ true
+  rising-lower a b [] h e = unfold risingFrom in refl
+  rising-lower a b (x ∷ xs) h e = rising-cons a x xs (le-trans h (rising-head b x xs e)) (rising-tail b x xs e)
+
+  -- a choice from a rising list is rising
+  pub rising-select : (p : A → Bool) (b : ℕ) (xs : List A) → risingFrom f b xs ≡ true → risingFrom f b (select p xs) ≡ true
+  rising-select p b [] e = unfold select risingFrom in refl
+  rising-select p b (x ∷ xs) e = elim (truth (p x)) [
+    | holds t ↦ rw (select-yes p x xs t) (rising-cons b x (select p xs) (rising-head b x xs e) (rising-select p (f x) xs (rising-tail b x xs e)))
+    | fails t ↦ rw (select-no p x xs t) (rising-select p b xs (rising-lower b (f x) xs (rising-head b x xs e) (rising-tail b x xs e)))
+  ]
+
+  -- nothing in a list that rises from b is below b
+  none-below : (k b : ℕ) (xs : List A) → k ≤ b → risingFrom f b xs ≡ true → below k xs ≡ 0
+  none-below k b [] h e = unfold select in refl
+  none-below k b (x ∷ xs) h e =
+      let g : k ≤ f x = le-trans h (rising-head b x xs e) in
+      ap length (select-no (λ y. ltb (f y) k) x xs (le-ltb (f x) k g)) ∙ none-below k (f x) xs g (rising-tail b x xs e)
+
+  none-among : (k b : ℕ) (xs : List A) → k < b → risingFrom f b xs ≡ true → among k xs ≡ []
+  none-among k b [] h e = unfold select in refl
+  none-among k b (x ∷ xs) h e =
+      let g : b ≤ f x = rising-head b x xs e in
+      let g' : k < f x = omega arith in
+      select-no (λ y. eqb (f y) k) x xs (ne-eqb (f x) k (omega arith)) ∙ none-among k (f x) xs g' (rising-tail b x xs e)
+
+  -- the elements below k are the first ones
+  pub first-below : (d : A) (k b : ℕ) (xs : List A) → risingFrom f b xs ≡ true → (j : ℕ) → j < below k xs → f (getD xs j d) < k
+  first-below d k b [] e j h = absurd (unfold select in omega arith)
+  first-below d k b (x ∷ xs) e j h = elim (decLt (f x) k) [
+    | yes l ↦ go j (rw (select-yes (λ y. ltb (f y) k) x xs (lt-ltb (f x) k l)) at h) l (first-below d k (f x) xs (rising-tail b x xs e))
+    | no g ↦ absurd (empty (none-below k (f x) xs (omega arith) (rising-tail b x xs e)) (rw (select-no (λ y. ltb (f y) k) x xs (le-ltb (f x) k (omega arith))) at h))
+  ]
+    where
+      go : (i : ℕ) → i < suc (below k xs) → f x < k → ((i : ℕ) → i < below k xs → f (getD xs i d) < k) → f (getD (x ∷ xs) i d) < k
+      go zero l m ih = m
+      go (suc i) l m ih = ih i (omega arith)
+
+      empty : below k xs ≡ 0 → j < below k xs → ⊥
+      empty z l = omega arith
+
+  -- and after them stand none
+  pub rest-above : (d : A) (k b : ℕ) (xs : List A) → risingFrom f b xs ≡ true → (j : ℕ) → j < length xs → below k xs ≤ j → k ≤ f (getD xs j d)
+  rest-above d k b [] e j h l = absurd (omega arith)
+  rest-above d k b (x ∷ xs) e j h l = elim (decLt (f x) k) [
+    | yes m ↦ go j h (rw (select-yes (λ y. ltb (f y) k) x xs (lt-ltb (f x) k m)) at l) (rest-above d k (f x) xs (rising-tail b x xs e))
+    | no g ↦ up j h (omega arith) (rest-above d k (f x) xs (rising-tail b x xs e)) (none-below k (f x) xs (omega arith) (rising-tail b x xs e))
+  ]
+    where
+      go : (i : ℕ) → i < suc (length xs) → suc (below k xs) ≤ i → ((i : ℕ) → i < length xs → below k xs ≤ i → k ≤ f (getD xs i d)) → k ≤ f (getD (x ∷ xs) i d)
+      go zero m o ih = absurd (omega arith)
+      go (suc i) m o ih = ih i (omega arith) (omega arith)
+
+      up : (i : ℕ) → i < suc (length xs) → k ≤ f x → ((i : ℕ) → i < length xs → below k xs ≤ i → k ≤ f (getD xs i d)) → below k xs ≡ 0 → k ≤ f (getD (x ∷ xs) i d)
+      up zero m o ih z = o
+      up (suc i) m o ih z = ih i (omega arith) (omega arith)
+
+  -- one more: those below k + 1 are those below k and those at k
+  pub below-more : (k : ℕ) (xs : List A) → below (suc k) xs ≡ below k xs + length (among k xs)
+  below-more k [] = unfold select in refl
+  below-more k (x ∷ xs) = elim (order (f x) k) [
+    | less l ↦ rw (select-yes (λ y. ltb (f y) (suc k)) x xs (lt-ltb (f x) (suc k) (omega arith)), select-yes (λ y. ltb (f y) k) x xs (lt-ltb (f x) k l), select-no (λ y. eqb (f y) k) x xs (ne-eqb (f x) k (omega arith))) (omega (arith, below-more k xs))
+    | same q ↦ rw (select-yes (λ y. ltb (f y) (suc k)) x xs (lt-ltb (f x) (suc k) (omega arith)), select-no (λ y. ltb (f y) k) x xs (le-ltb (f x) k (omega arith)), select-yes (λ y. eqb (f y) k) x xs (eq-eqb (f x) k q)) (omega (arith, below-more k xs))
+    | more l ↦ rw (select-no (λ y. ltb (f y) (suc k)) x xs (le-ltb (f x) (suc k) l), select-no (λ y. ltb (f y) k) x xs (le-ltb (f x) k (omega arith)), select-no (λ y. eqb (f y) k) x xs (ne-eqb (f x) k (omega arith))) (below-more k xs)
+  ]
+
+  -- the elements at k stand right after those below it, in their order
+  pub among-at : (d : A) (k b : ℕ) (xs : List A) → risingFrom f b xs ≡ true → (j : ℕ) → j < length (among k xs) → getD (among k xs) j d ≡ getD xs (below k xs + j) d
+  among-at d k b [] e j h = absurd (unfold select in omega arith)
+  among-at d k b (x ∷ xs) e j h = elim (order (f x) k) [
+    | less l ↦
+        rw (select-no (λ y. eqb (f y) k) x xs (ne-eqb (f x) k (omega arith)), select-yes (λ y. ltb (f y) k) x xs (lt-ltb (f x) k l), suc-add (below k xs) j)
+        (among-at d k (f x) xs (rising-tail b x xs e) j (rw (select-no (λ y. eqb (f y) k) x xs (ne-eqb (f x) k (omega arith))) at h))
+    | same q ↦
+        rw (select-yes (λ y. eqb (f y) k) x xs (eq-eqb (f x) k q), select-no (λ y. ltb (f y) k) x xs (le-ltb (f x) k (omega arith)))
+        (here j (none-below k (f x) xs (omega arith) (rising-tail b x xs e)) (rw (select-yes (λ y. eqb (f y) k) x xs (eq-eqb (f x) k q)) at h)
+        (among-at d k (f x) xs (rising-tail b x xs e)))
+    | more l ↦
+        absurd (gone (none-among k (f x) xs l (rising-tail b x xs e)) (rw (select-no (λ y. eqb (f y) k) x xs (ne-eqb (f x) k (omega arith))) at h))
+  ]
+    where
+      here : (i : ℕ) → below k xs ≡ 0 → i < suc (length (among k xs))
+          → ((i : ℕ) → i < length (among k xs) → getD (among k xs) i d ≡ getD xs (below k xs + i) d)
+          → getD (x ∷ among k xs) i d ≡ getD (x ∷ xs) (below k xs + i) d
+      here zero z l ih = rw z
+      here (suc i) z l ih = ih i (omega arith) ∙ rw (z, zero-add i, zero-add (suc i))
+
+      gone : among k xs ≡ [] → j < length (among k xs) → ⊥
+      gone z l = omega (arith, ap length z)

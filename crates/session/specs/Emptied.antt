@@ -1,0 +1,29 @@
+-- A session emptied for a level. Assumes nothing.
+use Prim.Native.Nat.{ℕ, _-_}
+use mathlib.Core.Bool.{Bool, not, cond, _&&_}
+use mathlib.Core.List.{List, _++_, map}
+use lib.Dec.{eqb}
+use lib.ListN.{take, replicate}
+use Rattle.lattice.specs.Table.{dominates}
+use Rattle.session.specs.Limits.{recordBytes}
+use Rattle.session.specs.Lists.{select, joined}
+use Rattle.session.specs.Record.{Record, recordsOf, kindOf, numberOf, levelByte}
+use Rattle.session.specs.Parts.{masksOf}
+use Rattle.session.specs.Meaning.{levelOf}
+
+-- level c does not dominate level l of the session
+abbrev pub hides : List ℕ → ℕ → ℕ → Bool
+hides s c l = not (dominates (masksOf s) c l)
+
+-- "its kind 3 records are left out": the records that stay
+unfoldable pub stays : List ℕ → ℕ → Record → Bool
+stays s c rec = not (eqb (kindOf rec) 3 && hides s c (levelOf s (numberOf rec)))
+
+-- "its kind 2 record has mask and fields 0": bytes 3 to 15
+unfoldable pub blanked : List ℕ → ℕ → Record → Record
+blanked s c rec =
+    cond (eqb (kindOf rec) 2 && hides s c (levelByte rec)) (take 3 rec ++ replicate (recordBytes - 3) 0) rec
+
+-- "for each object whose level that level does not dominate .. All else stays"
+unfoldable pub emptied : ℕ → List ℕ → List ℕ
+emptied c s = joined (map (blanked s c) (select (stays s c) (recordsOf s)))

@@ -1,0 +1,8 @@
+-- What the contracts of this crate cite, and what a reader of it must believe.
+pub mod Limits
+pub mod Lists
+pub mod Record
+pub mod Parts
+pub mod Questions
+pub mod Meaning
+pub mod Emptied

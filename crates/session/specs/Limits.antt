@@ -1,0 +1,35 @@
+-- The numbers that document 01 fixes. Assumes nothing.
+use Prim.Native.Nat.{ℕ, _+_}
+
+-- "A record is 16 bytes"
+abbrev pub recordBytes : ℕ
+recordBytes = 16
+
+-- question 3
+abbrev pub maxLevels : ℕ
+maxLevels = 8
+
+abbrev pub maxObjects : ℕ
+maxObjects = 32
+
+abbrev pub maxSteps : ℕ
+maxSteps = 256
+
+-- question 1: the levels, objects and steps of question 3, and the root message
+abbrev pub maxRecords : ℕ
+maxRecords = 297
+
+-- question 7: "at most 16 steps a method"
+abbrev pub maxMethod : ℕ
+maxMethod = 16
+
+-- "message name (0 to 15)"
+abbrev pub names : ℕ
+names = 16
+
+-- "registers 0 to 3", "three 32-bit fields"
+abbrev pub registers : ℕ
+registers = 4
+
+abbrev pub fields : ℕ
+fields = 3

@@ -1,0 +1,35 @@
+-- What an accepted session says. Assumes nothing.
+use Prim.Native.Nat.{ℕ}
+use mathlib.Core.List.{List, [], map}
+use lib.ListN.{getD}
+use Rattle.session.specs.Record.{levelByte, fieldIn, numberOf, nameOf, stepOf, parameterOf}
+use Rattle.session.specs.Parts.{objectRecords, key, methodRecords, rootRecord}
+use Rattle.session.specs.declared.Value.{Value}
+use Rattle.session.specs.declared.Step.{Step}
+use Rattle.session.specs.declared.Step.the-variants.{End}
+
+-- an object's level
+abbrev pub levelOf : List ℕ → ℕ → ℕ
+levelOf s object = levelByte (getD (objectRecords s) object [])
+
+-- what a field of an object holds at first
+abbrev pub fieldOf : List ℕ → ℕ → ℕ → Value
+fieldOf s object k = fieldIn (getD (objectRecords s) object []) k
+
+-- the steps of the method (object, name). "A name without steps is an empty method"
+abbrev pub methodOf : List ℕ → ℕ → ℕ → List Step
+methodOf s object name = map stepOf (methodRecords s (key object name))
+
+-- a method's step, counted from 0, or the script's end
+abbrev pub stepAt : List ℕ → ℕ → ℕ → ℕ → Step
+stepAt s object name j = getD (methodOf s object name) j End
+
+-- the root message
+abbrev pub rootObject : List ℕ → ℕ
+rootObject s = numberOf (rootRecord s)
+
+abbrev pub rootName : List ℕ → ℕ
+rootName s = nameOf (rootRecord s)
+
+abbrev pub rootParameter : List ℕ → Value
+rootParameter s = parameterOf (rootRecord s)

@@ -1,0 +1,51 @@
+-- The parts of a session: its records of each kind, the level table, the steps of a method. Assumes nothing.
+use Prim.Native.Nat.{ℕ, _+_, _*_, _^_}
+use mathlib.Core.Bool.{Bool, _&&_}
+use mathlib.Core.List.{List, [], map}
+use lib.Dec.{eqb}
+use lib.ListN.{length, getD}
+use Rattle.session.specs.Lists.{select}
+use Rattle.session.specs.Record.{Record, recordsOf, kindOf, numberOf, maskOf, nameOf}
+
+unfoldable pub ofKind : ℕ → List ℕ → List Record
+ofKind k s = select (λ rec. eqb (kindOf rec) k) (recordsOf s)
+
+-- "Kind 1, level", "Kind 2, object", "Kind 3, script step", "Kind 4, root message"
+abbrev pub levelRecords : List ℕ → List Record
+levelRecords = ofKind 1
+
+abbrev pub objectRecords : List ℕ → List Record
+objectRecords = ofKind 2
+
+abbrev pub stepRecords : List ℕ → List Record
+stepRecords = ofKind 3
+
+abbrev pub rootRecords : List ℕ → List Record
+rootRecords = ofKind 4
+
+abbrev pub levelCount : List ℕ → ℕ
+levelCount s = length (levelRecords s)
+
+abbrev pub objectCount : List ℕ → ℕ
+objectCount s = length (objectRecords s)
+
+abbrev pub stepCount : List ℕ → ℕ
+stepCount s = length (stepRecords s)
+
+-- the level table
+unfoldable pub masksOf : List ℕ → List ℕ
+masksOf s = map maskOf (levelRecords s)
+
+-- the pair (object, name) of a step, as one number that is ordered as the pairs are: by object, then by name
+abbrev pub key : ℕ → ℕ → ℕ
+key object name = 2 ^ 8 * object + name
+
+abbrev pub keyOf : Record → ℕ
+keyOf rec = key (numberOf rec) (nameOf rec)
+
+-- the steps of the method (object, name), in their order
+unfoldable pub methodRecords : List ℕ → ℕ → List Record
+methodRecords s k = select (λ rec. eqb (keyOf rec) k) (stepRecords s)
+
+abbrev pub rootRecord : List ℕ → Record
+rootRecord s = getD (rootRecords s) 0 []

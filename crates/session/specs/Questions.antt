@@ -1,0 +1,135 @@
+-- Questions 1 to 8 of document 01, in its order and words, and the verdict on a list of bytes. Assumes nothing.
+use Prim.Native.Nat.{ℕ, _+_, _*_, _/_, _%_, _^_}
+use mathlib.Core.Bool.{Bool, true, false, cond, _&&_, _||_}
+use mathlib.Core.List.{List, [], _∷_}
+use lib.Dec.{eqb, leb, ltb}
+use lib.ListN.{length}
+use Rattle.lattice.specs.Range.{all}
+use Rattle.lattice.specs.Table.{isOrdered, isJoined}
+use Rattle.session.specs.Limits.{recordBytes, maxRecords, maxLevels, maxObjects, maxSteps, maxMethod, names, registers, fields}
+use Rattle.session.specs.Lists.{every, risingFrom, countsFrom}
+use Rattle.session.specs.Record.{Record, recordsOf, byteOf, unused, from, between, kindOf, numberOf, levelByte, holds, nameOf, stepOf}
+use Rattle.session.specs.Parts.{levelRecords, objectRecords, stepRecords, rootRecords, levelCount, objectCount, stepCount, masksOf, keyOf, methodRecords, rootRecord}
+use Rattle.session.specs.declared.Step.{Step}
+use Rattle.session.specs.declared.Step.the-variants.{End, Set, Add, Jump, Read, Write, Send, Quit}
+use Rattle.session.specs.declared.Verdict.{Verdict}
+use Rattle.session.specs.declared.Verdict.the-variants.{Accepted, Length, Kinds, Numbering, NotOrdered, NoJoin, Object, Script, Root}
+
+-- 1. Is the length 1 to 297 whole records?
+unfoldable pub question1 : List ℕ → Bool
+question1 s =
+    eqb (length s % recordBytes) 0 && leb 1 (length s / recordBytes) && leb (length s / recordBytes) maxRecords
+
+-- 2. Are kinds 1 to 4 and never falling, with at least one of each of kinds 1 and 2, and exactly one kind 4?
+unfoldable pub question2 : List ℕ → Bool
+question2 s =
+    every (λ rec. leb 1 (kindOf rec) && leb (kindOf rec) 4) (recordsOf s)
+    && risingFrom kindOf 0 (recordsOf s)
+    && leb 1 (levelCount s)
+    && leb 1 (objectCount s)
+    && eqb (length (rootRecords s)) 1
+
+-- 3. Are there at most 8 levels, 32 objects, 256 steps, levels and objects numbered 0, 1, 2.. in order, unnamed bytes of kind 1 zero?
+unfoldable pub question3 : List ℕ → Bool
+question3 s =
+    leb (levelCount s) maxLevels
+    && leb (objectCount s) maxObjects
+    && leb (stepCount s) maxSteps
+    && countsFrom numberOf 0 (levelRecords s)
+    && countsFrom numberOf 0 (objectRecords s)
+    && every (unused (from 3)) (levelRecords s)
+
+-- 4. Does each mask name only present levels and its own, do no two levels dominate each other, and does dominance carry through?
+abbrev pub question4 : List ℕ → Bool
+question4 s = isOrdered (masksOf s)
+
+-- 5. Has every pair of levels a least upper bound?
+abbrev pub question5 : List ℕ → Bool
+question5 s = isJoined (masksOf s)
+
+-- an object's level present, its mask below 8, each NIL field 0
+unfoldable pub objectValid : ℕ → Record → Bool
+objectValid levels rec =
+    ltb (levelByte rec) levels
+    && ltb (byteOf rec 3) (2 ^ fields)
+    && all fields (λ k. holds rec k || unused (between (4 + 4 * k) (8 + 4 * k)) rec)
+
+-- 6. Is each object's level present, its mask below 8, each NIL field 0?
+unfoldable pub question6 : List ℕ → Bool
+question6 s = every (objectValid (levelCount s)) (objectRecords s)
+
+-- the operands of a step in a method of so many steps, and "Operands not named here are 0". No operation but 1 to 7 is valid
+unfoldable pub operandsValid : ℕ → ℕ → Record → Step → Bool
+operandsValid objects count rec End = false
+operandsValid objects count rec (Set a n) = ltb a registers && unused (λ k. between 5 8 k || from 12 k) rec
+operandsValid objects count rec (Add a b) = ltb a registers && ltb b registers && unused (from 6) rec
+operandsValid objects count rec (Jump a b) = ltb a registers && leb b count && unused (from 6) rec
+operandsValid objects count rec (Read a b) = ltb a registers && ltb b fields && unused (from 6) rec
+operandsValid objects count rec (Write a b) = ltb a registers && ltb b fields && unused (from 6) rec
+operandsValid objects count rec (Send a b c) = ltb a registers && ltb b names && ltb c objects && unused (from 7) rec
+operandsValid objects count rec (Quit a) = ltb a registers && unused (from 5) rec
+
+-- a step, among so many objects and in a method of so many steps: object present, name at most 15, operation 1 to 7, registers
+-- 0 to 3, fields 0 to 2, jump target at most the method's step count, SEND's name and object valid, unused bytes 0
+unfoldable pub stepValid : ℕ → ℕ → Record → Bool
+stepValid objects count rec =
+    ltb (numberOf rec) objects && ltb (nameOf rec) names && operandsValid objects count rec (stepOf rec)
+
+-- a step in its method, which has at most 16 steps
+unfoldable pub scriptValid : List ℕ → Record → Bool
+scriptValid s rec =
+    let count = length (methodRecords s (keyOf rec)) in
+    leb count maxMethod && stepValid (objectCount s) count rec
+
+-- 7. In steps: .. (object, name) never falling, at most 16 steps a method ..?
+unfoldable pub question7 : List ℕ → Bool
+question7 s = risingFrom keyOf 0 (stepRecords s) && every (scriptValid s) (stepRecords s)
+
+-- the root's object present, name at most 15, tag 0 or 1, a NIL parameter 0, unused bytes 0
+unfoldable pub rootValid : ℕ → Record → Bool
+rootValid objects rec =
+    ltb (numberOf rec) objects
+    && ltb (nameOf rec) names
+    && leb (byteOf rec 3) 1
+    && (eqb (byteOf rec 3) 1 || unused (between 4 8) rec)
+    && unused (from 8) rec
+
+-- 8. Is the root's object present, name at most 15, tag 0 or 1, a NIL parameter 0, unused bytes 0?
+abbrev pub question8 : List ℕ → Bool
+question8 s = rootValid (objectCount s) (rootRecord s)
+
+-- a question's answer, and the verdict where it says no
+pub record Asked : Type 0 where
+  pub says : Bool
+  pub refusal : Verdict
+
+-- "each put of the whole input before the next": the refusal of the first question that says no
+unfoldable pub firstNo : List Asked → Verdict
+firstNo [] = Accepted
+firstNo (q ∷ qs) = cond (q .says) (firstNo qs) (q .refusal)
+
+-- the questions that Check uses, in the order in which they are put
+unfoldable pub verdictOf : List ℕ → Verdict
+verdictOf s =
+    firstNo
+    (record { says = question1 s; refusal = Length }
+    ∷ record { says = question2 s; refusal = Kinds }
+    ∷ record { says = question3 s; refusal = Numbering }
+    ∷ record { says = question4 s; refusal = NotOrdered }
+    ∷ record { says = question5 s; refusal = NoJoin }
+    ∷ record { says = question6 s; refusal = Object }
+    ∷ record { says = question7 s; refusal = Script }
+    ∷ record { says = question8 s; refusal = Root }
+    ∷ [])
+
+-- document 01's number of a verdict; its place is 0
+abbrev pub numberOfVerdict : Verdict → ℕ
+numberOfVerdict Accepted = 0
+numberOfVerdict Length = 1
+numberOfVerdict Kinds = 2
+numberOfVerdict Numbering = 3
+numberOfVerdict NotOrdered = 4
+numberOfVerdict NoJoin = 5
+numberOfVerdict Object = 6
+numberOfVerdict Script = 7
+numberOfVerdict Root = 8
