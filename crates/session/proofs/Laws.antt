@@ -2,3 +2,8 @@
 pub mod Lists
 pub mod Rising
 pub mod Verdict
+pub mod Record
+pub mod Parts
+pub mod Choice
+pub mod Emptied
+pub mod EmptiedAccepted

@@ -5,6 +5,7 @@ use mathlib.Core.List.{List, [], map}
 use lib.Dec.{eqb}
 use lib.ListN.{length, getD}
 use Rattle.session.specs.Lists.{select}
+use Rattle.session.specs.declared.Layout.{Layout}
 use Rattle.session.specs.Record.{Record, recordsOf, kindOf, numberOf, maskOf, nameOf}
 
 unfoldable pub ofKind : ℕ → List ℕ → List Record
@@ -31,6 +32,10 @@ objectCount s = length (objectRecords s)
 
 abbrev pub stepCount : List ℕ → ℕ
 stepCount s = length (stepRecords s)
+
+-- a session's shape
+abbrev pub layoutOf : List ℕ → Layout
+layoutOf s = record { levels = levelCount s; objects = objectCount s; steps = stepCount s }
 
 -- the level table
 unfoldable pub masksOf : List ℕ → List ℕ

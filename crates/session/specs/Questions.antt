@@ -1,5 +1,5 @@
 -- Questions 1 to 8 of document 01, in its order and words, and the verdict on a list of bytes. Assumes nothing.
-use Prim.Native.Nat.{ℕ, _+_, _*_, _/_, _%_, _^_}
+use Prim.Native.Nat.{ℕ, _+_, _*_, _%_, _^_}
 use mathlib.Core.Bool.{Bool, true, false, cond, _&&_, _||_}
 use mathlib.Core.List.{List, [], _∷_}
 use lib.Dec.{eqb, leb, ltb}
@@ -8,7 +8,7 @@ use Rattle.lattice.specs.Range.{all}
 use Rattle.lattice.specs.Table.{isOrdered, isJoined}
 use Rattle.session.specs.Limits.{recordBytes, maxRecords, maxLevels, maxObjects, maxSteps, maxMethod, names, registers, fields}
 use Rattle.session.specs.Lists.{every, risingFrom, countsFrom}
-use Rattle.session.specs.Record.{Record, recordsOf, byteOf, unused, from, between, kindOf, numberOf, levelByte, holds, nameOf, stepOf}
+use Rattle.session.specs.Record.{Record, recordCount, recordsOf, byteOf, unused, from, between, kindOf, numberOf, levelByte, holds, nameOf, stepOf}
 use Rattle.session.specs.Parts.{levelRecords, objectRecords, stepRecords, rootRecords, levelCount, objectCount, stepCount, masksOf, keyOf, methodRecords, rootRecord}
 use Rattle.session.specs.declared.Step.{Step}
 use Rattle.session.specs.declared.Step.the-variants.{End, Set, Add, Jump, Read, Write, Send, Quit}
@@ -18,16 +18,16 @@ use Rattle.session.specs.declared.Verdict.the-variants.{Accepted, Length
 -- 1. Is the length 1 to 297 whole records?
 unfoldable pub question1 : List ℕ → Bool
 question1 s =
-    eqb (length s % recordBytes) 0 && leb 1 (length s / recordBytes) && leb (length s / recordBytes) maxRecords
+    eqb (length s % recordBytes) 0 && leb 1 (recordCount s) && leb (recordCount s) maxRecords
+
+-- kinds are 1 to 4 and never falling
+unfoldable pub kindsRise : List ℕ → Bool
+kindsRise s =
+    every (λ rec. leb 1 (kindOf rec) && leb (kindOf rec) 4) (recordsOf s) && risingFrom kindOf 0 (recordsOf s)
 
 -- 2. Are kinds 1 to 4 and never falling, with at least one of each of kinds 1 and 2, and exactly one kind 4?
 unfoldable pub question2 : List ℕ → Bool
-question2 s =
-    every (λ rec. leb 1 (kindOf rec) && leb (kindOf rec) 4) (recordsOf s)
-    && risingFrom kindOf 0 (recordsOf s)
-    && leb 1 (levelCount s)
-    && leb 1 (objectCount s)
-    && eqb (length (rootRecords s)) 1
+question2 s = kindsRise s && leb 1 (levelCount s) && leb 1 (objectCount s) && eqb (length (rootRecords s)) 1
 
 -- 3. Are there at most 8 levels, 32 objects, 256 steps, levels and objects numbered 0, 1, 2.. in order, unnamed bytes of kind 1 zero?
 unfoldable pub question3 : List ℕ → Bool

@@ -20,8 +20,12 @@ Record = List ℕ
 unfoldable pub recordAt : List ℕ → ℕ → Record
 recordAt s r = take recordBytes (drop (recordBytes * r) s)
 
+-- how many whole records there are
+abbrev pub recordCount : List ℕ → ℕ
+recordCount s = length s / recordBytes
+
 unfoldable pub recordsOf : List ℕ → List Record
-recordsOf s = tab (length s / recordBytes) (recordAt s)
+recordsOf s = tab (recordCount s) (recordAt s)
 
 -- "bytes count from 0"
 abbrev pub byteOf : Record → ℕ → ℕ
@@ -36,12 +40,12 @@ wordOf rec k =
 unfoldable pub unused : (ℕ → Bool) → Record → Bool
 unused chosen rec = all recordBytes (λ k. implies (chosen k) (eqb (byteOf rec k) 0))
 
--- the bytes from place a on, and those from a up to e
-abbrev pub from : ℕ → ℕ → Bool
-from a k = leb a k
-
+-- the bytes from place a up to e, and those from a on
 abbrev pub between : ℕ → ℕ → ℕ → Bool
 between a e k = leb a k && ltb k e
+
+abbrev pub from : ℕ → ℕ → Bool
+from a = between a recordBytes
 
 -- "Byte 0 is the kind"
 abbrev pub kindOf : Record → ℕ
@@ -71,13 +75,16 @@ fieldIn rec k = cond (holds rec k) (Number (wordOf rec (4 + 4 * k))) Nil
 abbrev pub nameOf : Record → ℕ
 nameOf rec = byteOf rec 2
 
--- kind 3: "byte 3 operation, bytes 4, 5, 6 operands a, b, c, bytes 8 to 11 a number n". No operation is the script's end
-unfoldable pub stepOf : Record → Step
-stepOf rec =
+-- kind 3: "bytes 4, 5, 6 operands a, b, c, bytes 8 to 11 a number n": the step by each operation, from 0 on
+abbrev pub operations : Record → List Step
+operations rec =
     let a = byteOf rec 4 in
     let b = byteOf rec 5 in
-    let c = byteOf rec 6 in
-    getD (End ∷ Set a (wordOf rec 8) ∷ Add a b ∷ Jump a b ∷ Read a b ∷ Write a b ∷ Send a b c ∷ Quit a ∷ []) (byteOf rec 3) End
+    End ∷ Set a (wordOf rec 8) ∷ Add a b ∷ Jump a b ∷ Read a b ∷ Write a b ∷ Send a b (byteOf rec 6) ∷ Quit a ∷ []
+
+-- kind 3: "byte 3 operation"
+unfoldable pub stepOf : Record → Step
+stepOf rec = getD (operations rec) (byteOf rec 3) End
 
 -- kind 4: "byte 3 tag (1 number, 0 NIL), bytes 4 to 7 parameter"
 abbrev pub parameterOf : Record → Value

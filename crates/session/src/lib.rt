@@ -1,4 +1,7 @@
 // Sessions: the 16-byte records of document 01, its questions 1 to 8, and what an accepted session says.
+mod kinds;
+mod record;
+
 ghost use mathlib.Core.Path.{_≡_};
 
 // A field, a register, a parameter or a reply: NIL or a number.
@@ -19,6 +22,14 @@ pub enum Step {
     Write { a: u8, b: u8 },
     Send { a: u8, b: u8, c: u8 },
     Quit { a: u8 },
+}
+
+// How many levels, objects and script steps a session has. Its records stand in that order, the
+// root message last.
+pub struct Layout {
+    pub levels: usize,
+    pub objects: usize,
+    pub steps: usize,
 }
 
 // What the questions that document 01's Check uses say of a session: that all say yes, or the

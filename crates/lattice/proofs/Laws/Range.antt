@@ -1,6 +1,6 @@
 -- Laws of tests: the halves of `&&`, and what `all` and `first` say of the numbers below n. Assumes nothing.
 use Prim.Native.Nat.{ℕ, zero, suc, _≤_, _<_}
-use mathlib.Core.Path.{_≡_, refl, sym, _∙_, ap}
+use mathlib.Core.Path.{_≡_, refl, sym, _∙_, ap₂}
 use mathlib.Core.Bool.{Bool, true, false, not, cond, _&&_, true≢false, false≢true}
 use native.Mathlib.Omega.{arith}
 use native.Mathlib.Decide.{decLt}
@@ -48,6 +48,10 @@ unless-taken a b r p q = rw (p, q)
 pub unless-left : (a b : Bool) → a ≡ false → false ≡ not (implies a b)
 unless-left a b p = rw p
 
+pub refuted : (b : Bool) → (b ≡ true → ⊥) → b ≡ false
+refuted true f = absurd (f refl)
+refuted false f = refl
+
 pub not-both : (b : Bool) → b ≡ true → b ≡ false → ⊥
 not-both b p q = true≢false (sym p ∙ q)
 
@@ -81,6 +85,18 @@ all-fails n p i h q = go (all n p) refl
     go : (b : Bool) → all n p ≡ b → b ≡ false
     go true e = absurd (not-both (p i) (all-each n p e i h) q)
     go false e = refl
+
+-- where one test is two, so is the test of all
+pub all-both : (n : ℕ) (p q r : ℕ → Bool) → ((i : ℕ) → r i ≡ (p i && q i)) → all n r ≡ (all n p && all n q)
+unfolding all
+all-both zero p q r f = refl
+all-both (suc n) p q r f = ap₂ _&&_ (all-both n p q r f) (f n) ∙ swap (all n p) (all n q) (p n) (q n)
+  where
+    swap : (a b c d : Bool) → (a && b && (c && d)) ≡ (a && c && (b && d))
+    swap true true c d = refl
+    swap true false true d = refl
+    swap true false false d = refl
+    swap false b c d = refl
 
 -- `first`: it is at most n; below n it passes, and nothing before it does
 pub first-le : (n : ℕ) (p : ℕ → Bool) → first n p ≤ n

@@ -3,14 +3,11 @@ use Prim.Native.Nat.{ℕ, zero, suc, _+_, _≤_, _<_}
 use mathlib.Core.Path.{_≡_, refl, sym, _∙_, ap}
 use mathlib.Core.Bool.{Bool, true, false, not, cond, _&&_}
 use mathlib.Core.List.{List, [], _∷_, _++_, map}
-use native.Mathlib.Nat.{zero-add, add-zero, suc-add}
-use native.Mathlib.Decide.{decLt}
 use native.Mathlib.Omega.{arith}
-use borrow.Author.Tests.{leb-true, le-leb, lt-ltb, le-ltb, ltb-true, eq-eqb, ne-eqb, eqb-true}
-use lib.Dec.{eqb, leb, ltb}
+use borrow.Author.Tests.{not-true}
 use lib.ListN.{length, getD}
 use Rattle.lattice.proofs.Laws.Range.{and-left, and-right, and-both, and-fails-left, and-fails-right}
-use Rattle.session.specs.Lists.{every, select, risingFrom, countsFrom, tab, joined}
+use Rattle.session.specs.Lists.{every, select, tab}
 
 -- a Bool with the equation that says what it is
 pub data Truth (b : Bool) : Type 0 where
@@ -73,6 +70,13 @@ module _ {A : Type 0} (p : A → Bool) where
   select-all (x ∷ xs) e =
       select-yes x xs (and-left (p x) (every p xs) e) ∙ ap (λ l. x ∷ l) (select-all xs (and-right (p x) (every p xs) e))
 
+  -- where none passes nothing is left
+  pub select-none : (xs : List A) → every (λ x. not (p x)) xs ≡ true → select p xs ≡ []
+  unfolding every
+  select-none [] e = unfold select in refl
+  select-none (x ∷ xs) e =
+      select-no x xs (not-true (p x) (and-left (not (p x)) _ e)) ∙ select-none xs (and-right (not (p x)) _ e)
+
 -- what each element passes, each chosen one passes
 module _ {A : Type 0} (p q : A → Bool) where
   pub every-select : (xs : List A) → every q xs ≡ true → every q (select p xs) ≡ true
@@ -82,3 +86,15 @@ module _ {A : Type 0} (p q : A → Bool) where
     | holds t ↦ rw (select-yes p x xs t) (and-both (q x) _ (and-left (q x) (every q xs) e) (every-select xs (and-right (q x) (every q xs) e)))
     | fails t ↦ rw (select-no p x xs t) (every-select xs (and-right (q x) (every q xs) e))
   ]
+
+-- `tab`, by number
+pub length-tab : {A : Type 0} (n : ℕ) (f : ℕ → A) → length (tab n f) ≡ n
+unfolding tab
+length-tab zero f = refl
+length-tab (suc n) f = ap suc (length-tab n (λ i. f (suc i)))
+
+pub getD-tab : {A : Type 0} (d : A) (n : ℕ) (f : ℕ → A) (i : ℕ) → i < n → getD (tab n f) i d ≡ f i
+unfolding tab
+getD-tab d zero f i h = absurd (omega arith)
+getD-tab d (suc n) f zero h = refl
+getD-tab d (suc n) f (suc i) h = getD-tab d n (λ i. f (suc i)) i (omega arith)

@@ -1,4 +1,4 @@
--- Positions in a list along which a number never falls: the elements below k stand first, then those at k. Assumes nothing.
+-- Positions in a list along which a number never falls: the elements countBelow f k stand first, then those at k. Assumes nothing.
 use Prim.Native.Nat.{ℕ, zero, suc, _+_, _≤_, _<_}
 use mathlib.Core.Path.{_≡_, refl, sym, _∙_, ap}
 use mathlib.Core.Bool.{Bool, true, false, _&&_}
@@ -10,7 +10,7 @@ use borrow.Author.Tests.{leb-true, le-leb, lt-leb, lt-ltb, le-ltb, eq-eqb, ne-eq
 use lib.Dec.{eqb, leb, ltb}
 use lib.ListN.{length, getD}
 use Rattle.lattice.proofs.Laws.Range.{and-left, and-right, and-both, and-fails-left, and-fails-right}
-use Rattle.session.specs.Lists.{select, risingFrom}
+use Rattle.session.specs.Lists.{select, countBelow, risingFrom}
 use Rattle.session.proofs.Laws.Lists.{Truth, holds, fails, truth, select-yes, select-no}
 
 -- two numbers, compared
@@ -26,10 +26,7 @@ order a b = elim (decLt a b) [
 ]
 
 module _ {A : Type 0} (f : A → ℕ) where
-  -- how many elements are below k, and how many at k
-  abbrev pub below : ℕ → List A → ℕ
-  below k xs = length (select (λ x. ltb (f x) k) xs)
-
+  -- the elements at k
   abbrev pub among : ℕ → List A → List A
   among k xs = select (λ x. eqb (f x) k) xs
 
@@ -58,7 +55,7 @@ module _ {A : Type 0} (f : A → ℕ) where
   ]
 
   -- nothing in a list that rises from b is below b
-  none-below : (k b : ℕ) (xs : List A) → k ≤ b → risingFrom f b xs ≡ true → below k xs ≡ 0
+  none-below : (k b : ℕ) (xs : List A) → k ≤ b → risingFrom f b xs ≡ true → countBelow f k xs ≡ 0
   none-below k b [] h e = unfold select in refl
   none-below k b (x ∷ xs) h e =
       let g : k ≤ f x = le-trans h (rising-head b x xs e) in
@@ -71,52 +68,52 @@ module _ {A : Type 0} (f : A → ℕ) where
       let g' : k < f x = omega arith in
       select-no (λ y. eqb (f y) k) x xs (ne-eqb (f x) k (omega arith)) ∙ none-among k (f x) xs g' (rising-tail b x xs e)
 
-  -- the elements below k are the first ones
-  pub first-below : (d : A) (k b : ℕ) (xs : List A) → risingFrom f b xs ≡ true → (j : ℕ) → j < below k xs → f (getD xs j d) < k
+  -- the elements countBelow f k are the first ones
+  pub first-below : (d : A) (k b : ℕ) (xs : List A) → risingFrom f b xs ≡ true → (j : ℕ) → j < countBelow f k xs → f (getD xs j d) < k
   first-below d k b [] e j h = absurd (unfold select in omega arith)
   first-below d k b (x ∷ xs) e j h = elim (decLt (f x) k) [
     | yes l ↦ go j (rw (select-yes (λ y. ltb (f y) k) x xs (lt-ltb (f x) k l)) at h) l (first-below d k (f x) xs (rising-tail b x xs e))
     | no g ↦ absurd (empty (none-below k (f x) xs (omega arith) (rising-tail b x xs e)) (rw (select-no (λ y. ltb (f y) k) x xs (le-ltb (f x) k (omega arith))) at h))
   ]
     where
-      go : (i : ℕ) → i < suc (below k xs) → f x < k → ((i : ℕ) → i < below k xs → f (getD xs i d) < k) → f (getD (x ∷ xs) i d) < k
+      go : (i : ℕ) → i < suc (countBelow f k xs) → f x < k → ((i : ℕ) → i < countBelow f k xs → f (getD xs i d) < k) → f (getD (x ∷ xs) i d) < k
       go zero l m ih = m
       go (suc i) l m ih = ih i (omega arith)
 
-      empty : below k xs ≡ 0 → j < below k xs → ⊥
+      empty : countBelow f k xs ≡ 0 → j < countBelow f k xs → ⊥
       empty z l = omega arith
 
   -- and after them stand none
-  pub rest-above : (d : A) (k b : ℕ) (xs : List A) → risingFrom f b xs ≡ true → (j : ℕ) → j < length xs → below k xs ≤ j → k ≤ f (getD xs j d)
+  pub rest-above : (d : A) (k b : ℕ) (xs : List A) → risingFrom f b xs ≡ true → (j : ℕ) → j < length xs → countBelow f k xs ≤ j → k ≤ f (getD xs j d)
   rest-above d k b [] e j h l = absurd (omega arith)
   rest-above d k b (x ∷ xs) e j h l = elim (decLt (f x) k) [
     | yes m ↦ go j h (rw (select-yes (λ y. ltb (f y) k) x xs (lt-ltb (f x) k m)) at l) (rest-above d k (f x) xs (rising-tail b x xs e))
     | no g ↦ up j h (omega arith) (rest-above d k (f x) xs (rising-tail b x xs e)) (none-below k (f x) xs (omega arith) (rising-tail b x xs e))
   ]
     where
-      go : (i : ℕ) → i < suc (length xs) → suc (below k xs) ≤ i → ((i : ℕ) → i < length xs → below k xs ≤ i → k ≤ f (getD xs i d)) → k ≤ f (getD (x ∷ xs) i d)
+      go : (i : ℕ) → i < suc (length xs) → suc (countBelow f k xs) ≤ i → ((i : ℕ) → i < length xs → countBelow f k xs ≤ i → k ≤ f (getD xs i d)) → k ≤ f (getD (x ∷ xs) i d)
       go zero m o ih = absurd (omega arith)
       go (suc i) m o ih = ih i (omega arith) (omega arith)
 
-      up : (i : ℕ) → i < suc (length xs) → k ≤ f x → ((i : ℕ) → i < length xs → below k xs ≤ i → k ≤ f (getD xs i d)) → below k xs ≡ 0 → k ≤ f (getD (x ∷ xs) i d)
+      up : (i : ℕ) → i < suc (length xs) → k ≤ f x → ((i : ℕ) → i < length xs → countBelow f k xs ≤ i → k ≤ f (getD xs i d)) → countBelow f k xs ≡ 0 → k ≤ f (getD (x ∷ xs) i d)
       up zero m o ih z = o
       up (suc i) m o ih z = ih i (omega arith) (omega arith)
 
-  -- one more: those below k + 1 are those below k and those at k
-  pub below-more : (k : ℕ) (xs : List A) → below (suc k) xs ≡ below k xs + length (among k xs)
-  below-more k [] = unfold select in refl
-  below-more k (x ∷ xs) = elim (order (f x) k) [
-    | less l ↦ rw (select-yes (λ y. ltb (f y) (suc k)) x xs (lt-ltb (f x) (suc k) (omega arith)), select-yes (λ y. ltb (f y) k) x xs (lt-ltb (f x) k l), select-no (λ y. eqb (f y) k) x xs (ne-eqb (f x) k (omega arith))) (omega (arith, below-more k xs))
-    | same q ↦ rw (select-yes (λ y. ltb (f y) (suc k)) x xs (lt-ltb (f x) (suc k) (omega arith)), select-no (λ y. ltb (f y) k) x xs (le-ltb (f x) k (omega arith)), select-yes (λ y. eqb (f y) k) x xs (eq-eqb (f x) k q)) (omega (arith, below-more k xs))
-    | more l ↦ rw (select-no (λ y. ltb (f y) (suc k)) x xs (le-ltb (f x) (suc k) l), select-no (λ y. ltb (f y) k) x xs (le-ltb (f x) k (omega arith)), select-no (λ y. eqb (f y) k) x xs (ne-eqb (f x) k (omega arith))) (below-more k xs)
+  -- one more: those countBelow f k + 1 are those countBelow f k and those at k
+  pub count-more : (k : ℕ) (xs : List A) → countBelow f (suc k) xs ≡ countBelow f k xs + length (among k xs)
+  count-more k [] = unfold select in refl
+  count-more k (x ∷ xs) = elim (order (f x) k) [
+    | less l ↦ rw (select-yes (λ y. ltb (f y) (suc k)) x xs (lt-ltb (f x) (suc k) (omega arith)), select-yes (λ y. ltb (f y) k) x xs (lt-ltb (f x) k l), select-no (λ y. eqb (f y) k) x xs (ne-eqb (f x) k (omega arith))) (omega (arith, count-more k xs))
+    | same q ↦ rw (select-yes (λ y. ltb (f y) (suc k)) x xs (lt-ltb (f x) (suc k) (omega arith)), select-no (λ y. ltb (f y) k) x xs (le-ltb (f x) k (omega arith)), select-yes (λ y. eqb (f y) k) x xs (eq-eqb (f x) k q)) (omega (arith, count-more k xs))
+    | more l ↦ rw (select-no (λ y. ltb (f y) (suc k)) x xs (le-ltb (f x) (suc k) l), select-no (λ y. ltb (f y) k) x xs (le-ltb (f x) k (omega arith)), select-no (λ y. eqb (f y) k) x xs (ne-eqb (f x) k (omega arith))) (count-more k xs)
   ]
 
   -- the elements at k stand right after those below it, in their order
-  pub among-at : (d : A) (k b : ℕ) (xs : List A) → risingFrom f b xs ≡ true → (j : ℕ) → j < length (among k xs) → getD (among k xs) j d ≡ getD xs (below k xs + j) d
+  pub among-at : (d : A) (k b : ℕ) (xs : List A) → risingFrom f b xs ≡ true → (j : ℕ) → j < length (among k xs) → getD (among k xs) j d ≡ getD xs (countBelow f k xs + j) d
   among-at d k b [] e j h = absurd (unfold select in omega arith)
   among-at d k b (x ∷ xs) e j h = elim (order (f x) k) [
     | less l ↦
-        rw (select-no (λ y. eqb (f y) k) x xs (ne-eqb (f x) k (omega arith)), select-yes (λ y. ltb (f y) k) x xs (lt-ltb (f x) k l), suc-add (below k xs) j)
+        rw (select-no (λ y. eqb (f y) k) x xs (ne-eqb (f x) k (omega arith)), select-yes (λ y. ltb (f y) k) x xs (lt-ltb (f x) k l), suc-add (countBelow f k xs) j)
         (among-at d k (f x) xs (rising-tail b x xs e) j (rw (select-no (λ y. eqb (f y) k) x xs (ne-eqb (f x) k (omega arith))) at h))
     | same q ↦
         rw (select-yes (λ y. eqb (f y) k) x xs (eq-eqb (f x) k q), select-no (λ y. ltb (f y) k) x xs (le-ltb (f x) k (omega arith)))
@@ -126,11 +123,68 @@ module _ {A : Type 0} (f : A → ℕ) where
         absurd (gone (none-among k (f x) xs l (rising-tail b x xs e)) (rw (select-no (λ y. eqb (f y) k) x xs (ne-eqb (f x) k (omega arith))) at h))
   ]
     where
-      here : (i : ℕ) → below k xs ≡ 0 → i < suc (length (among k xs))
-          → ((i : ℕ) → i < length (among k xs) → getD (among k xs) i d ≡ getD xs (below k xs + i) d)
-          → getD (x ∷ among k xs) i d ≡ getD (x ∷ xs) (below k xs + i) d
+      here : (i : ℕ) → countBelow f k xs ≡ 0 → i < suc (length (among k xs))
+          → ((i : ℕ) → i < length (among k xs) → getD (among k xs) i d ≡ getD xs (countBelow f k xs + i) d)
+          → getD (x ∷ among k xs) i d ≡ getD (x ∷ xs) (countBelow f k xs + i) d
       here zero z l ih = rw z
       here (suc i) z l ih = ih i (omega arith) ∙ rw (z, zero-add i, zero-add (suc i))
 
       gone : among k xs ≡ [] → j < length (among k xs) → ⊥
       gone z l = omega (arith, ap length z)
+
+  -- rising, said of neighbours
+  pub rising-next : (d : A) (b : ℕ) (xs : List A) → risingFrom f b xs ≡ true → (i : ℕ) → suc i < length xs → f (getD xs i d) ≤ f (getD xs (suc i) d)
+  rising-next d b [] e i h = absurd (omega arith)
+  rising-next d b (x ∷ []) e i h = absurd (omega arith)
+  rising-next d b (x ∷ y ∷ xs) e zero h = rising-head (f x) y xs (rising-tail b x (y ∷ xs) e)
+  rising-next d b (x ∷ y ∷ xs) e (suc i) h = rising-next d (f x) (y ∷ xs) (rising-tail b x (y ∷ xs) e) i (omega arith)
+
+  pub rising-all : (d : A) (b : ℕ) (xs : List A) → (0 < length xs → b ≤ f (getD xs 0 d))
+      → ((i : ℕ) → suc i < length xs → f (getD xs i d) ≤ f (getD xs (suc i) d)) → risingFrom f b xs ≡ true
+  rising-all d b [] h g = unfold risingFrom in refl
+  rising-all d b (x ∷ []) h g = rising-cons b x [] (h (omega arith)) (unfold risingFrom in refl)
+  rising-all d b (x ∷ y ∷ xs) h g =
+      rising-cons b x (y ∷ xs) (h (omega arith))
+      (rising-all d (f x) (y ∷ xs) (λ l. g zero (omega arith)) (λ i l. g (suc i) (omega arith)))
+
+-- a walk from 0 up along which f never falls and is at least b: where it stands, and the last value that it saw
+pub record Climbed (f : ℕ → ℕ) (b r low : ℕ) : Type 0 where
+  pub least : (i : ℕ) → i < r → b ≤ f i
+  pub next : (i : ℕ) → suc i < r → f i ≤ f (suc i)
+  pub seen : (i : ℕ) → suc i ≡ r → low ≡ f i
+  pub start : r ≡ 0 → low ≡ b
+  pub floor : b ≤ low
+
+module _ (f : ℕ → ℕ) (b : ℕ) where
+  pub climbed-none : Climbed f b 0 b
+  climbed-none =
+      record {
+        least = λ i h. absurd (omega arith);
+        next = λ i h. absurd (omega arith);
+        seen = λ i e. absurd (omega arith);
+        start = λ e. refl;
+        floor = omega arith;
+      }
+
+  pub climbed-more : (r low : ℕ) → Climbed f b r low → low ≤ f r → Climbed f b (r + 1) (f r)
+  climbed-more r low c h =
+      record {
+        least = λ i l. elim (order i r) [
+          | less g ↦ c .least i g
+          | same e ↦ rw e (le-trans (c .floor) h)
+          | more g ↦ absurd (omega arith)
+        ];
+        next = λ i l. elim (order (suc i) r) [
+          | less g ↦ c .next i g
+          | same e ↦ rw (e, ← (c .seen i e)) h
+          | more g ↦ absurd (omega arith)
+        ];
+        seen = λ i e. let g : r ≡ i = omega arith in ap f g;
+        start = λ e. absurd (omega arith);
+        floor = le-trans (c .floor) h;
+      }
+
+  -- a value below the last one seen is a fall, or below b
+  pub climbed-fails : (r low : ℕ) → Climbed f b r low → f r < low → b ≤ f r → ((i : ℕ) → suc i ≡ r → f i ≤ f (suc i)) → ⊥
+  climbed-fails zero low c h g n = omega (arith, c .start refl)
+  climbed-fails (suc r) low c h g n = omega (arith, c .seen r refl, n r refl)

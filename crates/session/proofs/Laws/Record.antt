@@ -1,0 +1,116 @@
+-- Laws of a record: where its bytes stand, when chosen bytes are unused, which step it is. Assumes nothing.
+use Prim.Native.Nat.{ℕ, zero, suc, _+_, _*_, _≤_, _<_}
+use mathlib.Core.Path.{_≡_, refl, sym, _∙_, ap}
+use mathlib.Core.Bool.{Bool, true, false, _&&_, _||_}
+use mathlib.Core.List.{List, [], _∷_}
+use mathlib.Core.Logic.{_⊎_, inl, inr}
+use native.Mathlib.Decide.{decLt}
+use native.Mathlib.Omega.{arith}
+use borrow.Author.Tests.{leb-true, ltb-true, eqb-true, le-leb, lt-ltb, eq-eqb, ne-eqb}
+use lib.Dec.{eqb, leb, ltb}
+use lib.ListN.{length, getD, List·getD-eq-default}
+use lib.Seq.{getD-take, getD-drop}
+use Rattle.lattice.specs.Range.{implies, all}
+use Rattle.lattice.proofs.Laws.Range.{and-left, and-right, and-both, and-fails-left, and-fails-right, implies-then, implies-when, implies-left, implies-fails, all-each, all-every, all-fails, all-both}
+use Rattle.session.specs.Limits.{recordBytes}
+use Rattle.session.specs.Record.{Record, recordAt, recordCount, recordsOf, byteOf, wordOf, unused, between, operations, stepOf}
+use Rattle.session.proofs.Laws.Lists.{length-tab, getD-tab}
+use Rattle.session.specs.declared.Step.{Step}
+use Rattle.session.specs.declared.Step.the-variants.{End, Set, Add, Jump, Read, Write, Send, Quit}
+
+-- byte k of record r stands at 16 r + k
+pub byte-is : (s : List ℕ) (r k : ℕ) → k < recordBytes → byteOf (recordAt s r) k ≡ getD s (16 * r + k) 0
+unfolding recordAt
+byte-is s r k h = rw (getD-take, getD-drop)
+
+-- the records, by number
+pub records-length : (s : List ℕ) → length (recordsOf s) ≡ recordCount s
+unfolding recordsOf
+records-length s = length-tab (recordCount s) (recordAt s)
+
+pub record-is : (s : List ℕ) (r : ℕ) → r < recordCount s → getD (recordsOf s) r [] ≡ recordAt s r
+unfolding recordsOf
+record-is s r h = getD-tab [] (recordCount s) (recordAt s) r h
+
+-- the bytes from a up to e, one by one
+pub unused-every : (a e : ℕ) (rec : Record) → ((k : ℕ) → a ≤ k → k < e → byteOf rec k ≡ 0) → unused (between a e) rec ≡ true
+unfolding unused
+unused-every a e rec f =
+    all-every recordBytes _ λ k h. implies-when (between a e k) (eqb (byteOf rec k) 0)
+    λ t. eq-eqb (byteOf rec k) 0
+    (f k (leb-true a k (and-left (leb a k) (ltb k e) t)) (ltb-true k e (and-right (leb a k) (ltb k e) t)))
+
+pub unused-each : (a e : ℕ) (rec : Record) → unused (between a e) rec ≡ true → e ≤ recordBytes → (k : ℕ) → a ≤ k → k < e → byteOf rec k ≡ 0
+unfolding unused
+unused-each a e rec u l k h g =
+    eqb-true (byteOf rec k) 0
+    (implies-then (between a e k) (eqb (byteOf rec k) 0)
+    (all-each recordBytes (λ k. implies (between a e k) (eqb (byteOf rec k) 0)) u k (omega arith))
+    (and-both (leb a k) (ltb k e) (le-leb a k h) (lt-ltb k e g)))
+
+pub unused-fails : (a e : ℕ) (rec : Record) (k : ℕ) → e ≤ recordBytes → a ≤ k → k < e → (byteOf rec k ≡ 0 → ⊥) → unused (between a e) rec ≡ false
+unfolding unused
+unused-fails a e rec k l h g n =
+    all-fails recordBytes _ k (omega arith)
+    (implies-fails (between a e k) (eqb (byteOf rec k) 0) (and-both (leb a k) (ltb k e) (le-leb a k h) (lt-ltb k e g)) (ne-eqb (byteOf rec k) 0 n))
+
+-- two choices together are unused where each is
+pub unused-or : (p q : ℕ → Bool) (rec : Record) → unused (λ k. p k || q k) rec ≡ (unused p rec && unused q rec)
+unfolding unused
+unused-or p q rec = all-both recordBytes _ _ _ (λ k. or-implies (p k) (q k) (eqb (byteOf rec k) 0))
+  where
+    or-implies : (a b c : Bool) → implies (a || b) c ≡ (implies a c && implies b c)
+    or-implies true true true = refl
+    or-implies true true false = refl
+    or-implies true false true = refl
+    or-implies true false false = refl
+    or-implies false b c = refl
+
+-- a number that is none of 1 to 7
+pub no-operation : (x : ℕ)
+    → (x ≡ 1 → ⊥) → (x ≡ 2 → ⊥) → (x ≡ 3 → ⊥) → (x ≡ 4 → ⊥) → (x ≡ 5 → ⊥) → (x ≡ 6 → ⊥) → (x ≡ 7 → ⊥)
+    → (x ≡ 0) ⊎ (7 < x)
+no-operation zero n1 n2 n3 n4 n5 n6 n7 = inl refl
+no-operation (suc zero) n1 n2 n3 n4 n5 n6 n7 = absurd (n1 refl)
+no-operation (suc (suc zero)) n1 n2 n3 n4 n5 n6 n7 = absurd (n2 refl)
+no-operation (suc (suc (suc zero))) n1 n2 n3 n4 n5 n6 n7 = absurd (n3 refl)
+no-operation (suc (suc (suc (suc zero)))) n1 n2 n3 n4 n5 n6 n7 = absurd (n4 refl)
+no-operation (suc (suc (suc (suc (suc zero))))) n1 n2 n3 n4 n5 n6 n7 = absurd (n5 refl)
+no-operation (suc (suc (suc (suc (suc (suc zero)))))) n1 n2 n3 n4 n5 n6 n7 = absurd (n6 refl)
+no-operation (suc (suc (suc (suc (suc (suc (suc zero))))))) n1 n2 n3 n4 n5 n6 n7 = absurd (n7 refl)
+no-operation (suc (suc (suc (suc (suc (suc (suc (suc x)))))))) n1 n2 n3 n4 n5 n6 n7 = inr (omega arith)
+
+-- the step that is made of an operation byte and the operands read
+module _ (rec : Record) where
+  pub step-set : (a n : ℕ) → byteOf rec 3 ≡ 1 → a ≡ byteOf rec 4 → n ≡ wordOf rec 8 → Set a n ≡ stepOf rec
+  unfolding stepOf
+  step-set a n o e0 e1 = rw (o, e0, e1)
+
+  pub step-add : (a b : ℕ) → byteOf rec 3 ≡ 2 → a ≡ byteOf rec 4 → b ≡ byteOf rec 5 → Add a b ≡ stepOf rec
+  unfolding stepOf
+  step-add a b o e0 e1 = rw (o, e0, e1)
+
+  pub step-jump : (a b : ℕ) → byteOf rec 3 ≡ 3 → a ≡ byteOf rec 4 → b ≡ byteOf rec 5 → Jump a b ≡ stepOf rec
+  unfolding stepOf
+  step-jump a b o e0 e1 = rw (o, e0, e1)
+
+  pub step-read : (a b : ℕ) → byteOf rec 3 ≡ 4 → a ≡ byteOf rec 4 → b ≡ byteOf rec 5 → Read a b ≡ stepOf rec
+  unfolding stepOf
+  step-read a b o e0 e1 = rw (o, e0, e1)
+
+  pub step-write : (a b : ℕ) → byteOf rec 3 ≡ 5 → a ≡ byteOf rec 4 → b ≡ byteOf rec 5 → Write a b ≡ stepOf rec
+  unfolding stepOf
+  step-write a b o e0 e1 = rw (o, e0, e1)
+
+  pub step-send : (a b c : ℕ) → byteOf rec 3 ≡ 6 → a ≡ byteOf rec 4 → b ≡ byteOf rec 5 → c ≡ byteOf rec 6 → Send a b c ≡ stepOf rec
+  unfolding stepOf
+  step-send a b c o e0 e1 e2 = rw (o, e0, e1, e2)
+
+  pub step-quit : (a : ℕ) → byteOf rec 3 ≡ 7 → a ≡ byteOf rec 4 → Quit a ≡ stepOf rec
+  unfolding stepOf
+  step-quit a o e0 = rw (o, e0)
+
+  pub step-end : (byteOf rec 3 ≡ 0) ⊎ (7 < byteOf rec 3) → End ≡ stepOf rec
+  unfolding stepOf
+  step-end (inl e) = rw e
+  step-end (inr h) = sym (List·getD-eq-default (operations rec) End h)

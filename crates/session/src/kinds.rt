@@ -1,0 +1,58 @@
+// Question 2: the kinds of the records, and how many there are of each.
+use crate::Layout;
+use crate::record;
+ghost use mathlib.Core.Path.{_≡_};
+ghost use mathlib.Core.Bool.{true};
+ghost use Prim.Native.Nat.{_≤_};
+ghost use Rattle.session.specs.Lists.{countBelow};
+ghost use Rattle.session.specs.Record.{recordsOf, kindOf};
+ghost use Rattle.session.specs.Parts.{layoutOf};
+ghost use Rattle.session.specs.Questions.{kindsRise, question2};
+
+// Whether kinds are 1 to 4 and never falling.
+fn kinds_rise(session: &[u8]) -> bool
+    ensures { λ x. ⌜ x ≡ kindsRise (now (session .entry)) ⌝ }
+{
+    let mut low = 1;
+    for r in 0..session.len() / 16 {
+        let kind = record::byte_at(session, r, 0);
+        if kind < low {
+            return false;
+        }
+        if 4 < kind {
+            return false;
+        }
+        low = kind;
+    }
+    true
+}
+
+// How many records have a kind below `kind`, at least `start` of them. They stand first.
+fn count_below(session: &[u8], start: usize, kind: u8) -> usize
+    requires { ⌜ kindsRise (now session) ≡ true ⌝ }
+    requires { ⌜ start ≤ countBelow kindOf kind (recordsOf (now session)) ⌝ }
+    ensures { λ x. ⌜ x ≡ countBelow kindOf kind (recordsOf (now (session .entry))) ⌝ }
+{
+    let n = session.len() / 16;
+    for r in start..n {
+        if kind <= record::byte_at(session, r, 0) {
+            return r;
+        }
+    }
+    n
+}
+
+// How many levels, objects and steps there are, of a session whose kinds never fall.
+fn count_kinds(session: &[u8]) -> Layout
+    requires { ⌜ kindsRise (now session) ≡ true ⌝ }
+    ensures { λ x. ⌜ x ≡ layoutOf (now (session .entry)) ⌝ }
+{
+    let objects = count_below(session, 0, 2);
+    let steps = count_below(session, objects, 3);
+    let root = count_below(session, steps, 4);
+    Layout {
+        levels: objects,
+        objects: steps - objects,
+        steps: root - steps,
+    }
+}

@@ -1,0 +1,73 @@
+// One record of a session: its bytes, its words, the test that unused bytes are 0, and its step.
+use crate::Step;
+ghost use mathlib.Core.Path.{_≡_};
+ghost use Prim.Native.Nat.{_+_, _≤_, _<_};
+ghost use Rattle.session.specs.Limits.{recordBytes};
+ghost use Rattle.session.specs.Record.{recordAt, recordCount, byteOf, wordOf, unused, between, stepOf};
+
+// A byte as a 32-bit number.
+fn wide(b: u8) -> u32
+    ensures { λ r. ⌜ r ≡ b ⌝ }
+{
+    b as u32
+}
+
+// Byte `k` of record `r`.
+pub fn byte_at(session: &[u8], r: usize, k: usize) -> u8
+    requires { ⌜ (r < recordCount (now session)) × (k < recordBytes) ⌝ }
+    ensures { λ x. ⌜ x ≡ byteOf (recordAt (now (session .entry)) r) k ⌝ }
+{
+    session[16 * r + k]
+}
+
+// The 32-bit number in the bytes from `k` on of record `r`.
+pub fn word_at(session: &[u8], r: usize, k: usize) -> u32
+    requires { ⌜ (r < recordCount (now session)) × (k + 4 ≤ recordBytes) ⌝ }
+    ensures { λ x. ⌜ x ≡ wordOf (recordAt (now (session .entry)) r) k ⌝ }
+{
+    let b0 = wide(byte_at(session, r, k));
+    let b1 = wide(byte_at(session, r, k + 1));
+    let b2 = wide(byte_at(session, r, k + 2));
+    let b3 = wide(byte_at(session, r, k + 3));
+    b0 + 256 * b1 + 65536 * b2 + 16777216 * b3
+}
+
+// Whether the bytes from `a` up to `e` of record `r` are 0.
+pub fn is_unused(session: &[u8], r: usize, a: usize, e: usize) -> bool
+    requires { ⌜ (r < recordCount (now session)) × (e ≤ recordBytes) ⌝ }
+    ensures { λ x. ⌜ x ≡ unused (between a e) (recordAt (now (session .entry)) r) ⌝ }
+{
+    for k in a..e {
+        if byte_at(session, r, k) != 0 {
+            return false;
+        }
+    }
+    true
+}
+
+// The script step that record `r` is.
+pub fn step_in(session: &[u8], r: usize) -> Step
+    requires { ⌜ r < recordCount (now session) ⌝ }
+    ensures { λ x. ⌜ x ≡ stepOf (recordAt (now (session .entry)) r) ⌝ }
+{
+    let a = byte_at(session, r, 4);
+    let b = byte_at(session, r, 5);
+    let op = byte_at(session, r, 3);
+    match op {
+        1 => Step::Set {
+            a,
+            n: word_at(session, r, 8),
+        },
+        2 => Step::Add { a, b },
+        3 => Step::Jump { a, b },
+        4 => Step::Read { a, b },
+        5 => Step::Write { a, b },
+        6 => Step::Send {
+            a,
+            b,
+            c: byte_at(session, r, 6),
+        },
+        7 => Step::Quit { a },
+        _ => Step::End,
+    }
+}
