@@ -7,3 +7,6 @@ pub mod Parts
 pub mod Choice
 pub mod Emptied
 pub mod EmptiedAccepted
+pub mod Scripts
+pub mod Fill
+pub mod Numbering

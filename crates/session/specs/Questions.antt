@@ -1,7 +1,7 @@
 -- Questions 1 to 8 of document 01, in its order and words, and the verdict on a list of bytes. Assumes nothing.
 use Prim.Native.Nat.{ℕ, _+_, _*_, _%_, _^_}
 use mathlib.Core.Bool.{Bool, true, false, cond, _&&_, _||_}
-use mathlib.Core.List.{List, [], _∷_}
+use mathlib.Core.List.{List, [], _∷_, _++_}
 use lib.Dec.{eqb, leb, ltb}
 use lib.ListN.{length}
 use Rattle.lattice.specs.Range.{all}
@@ -9,7 +9,7 @@ use Rattle.lattice.specs.Table.{isOrdered, isJoined}
 use Rattle.session.specs.Limits.{recordBytes, maxRecords, maxLevels, maxObjects, maxSteps, maxMethod, names, registers, fields}
 use Rattle.session.specs.Lists.{every, risingFrom, countsFrom}
 use Rattle.session.specs.Record.{Record, recordCount, recordsOf, byteOf, unused, from, between, kindOf, numberOf, levelByte, holds, nameOf, stepOf}
-use Rattle.session.specs.Parts.{levelRecords, objectRecords, stepRecords, rootRecords, levelCount, objectCount, stepCount, masksOf, keyOf, methodRecords, rootRecord}
+use Rattle.session.specs.Parts.{levelRecords, objectRecords, stepRecords, rootRecords, levelCount, objectCount, stepCount, masksOf, keyOf, ofMethod, rootRecord}
 use Rattle.session.specs.declared.Step.{Step}
 use Rattle.session.specs.declared.Step.the-variants.{End, Set, Add, Jump, Read, Write, Send, Quit}
 use Rattle.session.specs.declared.Verdict.{Verdict}
@@ -75,15 +75,22 @@ unfoldable pub stepValid : ℕ → ℕ → Record → Bool
 stepValid objects count rec =
     ltb (numberOf rec) objects && ltb (nameOf rec) names && operandsValid objects count rec (stepOf rec)
 
--- a step in its method, which has at most 16 steps
-unfoldable pub scriptValid : List ℕ → Record → Bool
-scriptValid s rec =
-    let count = length (methodRecords s (keyOf rec)) in
-    leb count maxMethod && stepValid (objectCount s) count rec
+-- a step among some steps, of which those of its method are at most 16
+unfoldable pub scriptValid : ℕ → List Record → Record → Bool
+scriptValid objects steps rec =
+    let count = length (ofMethod (keyOf rec) steps) in
+    leb count maxMethod && stepValid objects count rec
 
--- 7. In steps: .. (object, name) never falling, at most 16 steps a method ..?
-unfoldable pub question7 : List ℕ → Bool
-question7 s = risingFrom keyOf 0 (stepRecords s) && every (scriptValid s) (stepRecords s)
+abbrev pub methodsValid : ℕ → List Record → Bool
+methodsValid objects steps = every (scriptValid objects steps) steps
+
+unfoldable pub scriptsValid : ℕ → List Record → Bool
+scriptsValid objects steps = risingFrom keyOf 0 steps && methodsValid objects steps
+
+-- 7. In steps: object present, name at most 15, (object, name) never falling, at most 16 steps a method, operation 1 to 7, registers
+-- 0 to 3, fields 0 to 2, jump target at most the method's step count, SEND's name and object valid, unused bytes 0?
+abbrev pub question7 : List ℕ → Bool
+question7 s = scriptsValid (objectCount s) (stepRecords s)
 
 -- the root's object present, name at most 15, tag 0 or 1, a NIL parameter 0, unused bytes 0
 unfoldable pub rootValid : ℕ → Record → Bool
@@ -108,19 +115,27 @@ unfoldable pub firstNo : List Asked → Verdict
 firstNo [] = Accepted
 firstNo (q ∷ qs) = cond (q .says) (firstNo qs) (q .refusal)
 
--- the questions that Check uses, in the order in which they are put
-unfoldable pub verdictOf : List ℕ → Verdict
-verdictOf s =
-    firstNo
-    (record { says = question1 s; refusal = Length }
-    ∷ record { says = question2 s; refusal = Kinds }
-    ∷ record { says = question3 s; refusal = Numbering }
+-- the questions that Check uses, in the order in which they are put: of the records, of the levels, of what the session says
+abbrev pub ofRecords : List ℕ → List Asked
+ofRecords s = record { says = question1 s; refusal = Length } ∷ record { says = question2 s; refusal = Kinds } ∷ []
+
+abbrev pub ofLevels : List ℕ → List Asked
+ofLevels s =
+    record { says = question3 s; refusal = Numbering }
     ∷ record { says = question4 s; refusal = NotOrdered }
     ∷ record { says = question5 s; refusal = NoJoin }
-    ∷ record { says = question6 s; refusal = Object }
+    ∷ []
+
+abbrev pub ofContents : List ℕ → List Asked
+ofContents s =
+    record { says = question6 s; refusal = Object }
     ∷ record { says = question7 s; refusal = Script }
     ∷ record { says = question8 s; refusal = Root }
-    ∷ [])
+    ∷ []
+
+-- the verdict on a list of bytes
+unfoldable pub verdictOf : List ℕ → Verdict
+verdictOf s = firstNo (ofRecords s ++ (ofLevels s ++ ofContents s))
 
 -- document 01's number of a verdict; its place is 0
 abbrev pub numberOfVerdict : Verdict → ℕ

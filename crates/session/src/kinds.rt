@@ -6,11 +6,11 @@ ghost use mathlib.Core.Bool.{true};
 ghost use Prim.Native.Nat.{_≤_};
 ghost use Rattle.session.specs.Lists.{countBelow};
 ghost use Rattle.session.specs.Record.{recordsOf, kindOf};
-ghost use Rattle.session.specs.Parts.{layoutOf};
+ghost use Rattle.session.specs.Parts.{layoutOf, Counted};
 ghost use Rattle.session.specs.Questions.{kindsRise, question2};
 
 // Whether kinds are 1 to 4 and never falling.
-fn kinds_rise(session: &[u8]) -> bool
+pub fn kinds_rise(session: &[u8]) -> bool
     ensures { λ x. ⌜ x ≡ kindsRise (now (session .entry)) ⌝ }
 {
     let mut low = 1;
@@ -43,7 +43,7 @@ fn count_below(session: &[u8], start: usize, kind: u8) -> usize
 }
 
 // How many levels, objects and steps there are, of a session whose kinds never fall.
-fn count_kinds(session: &[u8]) -> Layout
+pub fn count_kinds(session: &[u8]) -> Layout
     requires { ⌜ kindsRise (now session) ≡ true ⌝ }
     ensures { λ x. ⌜ x ≡ layoutOf (now (session .entry)) ⌝ }
 {
@@ -55,4 +55,19 @@ fn count_kinds(session: &[u8]) -> Layout
         objects: steps - objects,
         steps: root - steps,
     }
+}
+
+// The rest of question 2: whether there is a level, an object, and exactly one root message.
+pub fn are_present(session: &[u8], levels: usize, objects: usize, steps: usize) -> bool
+    requires { ⌜ kindsRise (now session) ≡ true ⌝ }
+    requires { ⌜ Counted (now session) levels objects steps ⌝ }
+    ensures { λ x. ⌜ x ≡ question2 (now (session .entry)) ⌝ }
+{
+    if levels < 1 {
+        return false;
+    }
+    if objects < 1 {
+        return false;
+    }
+    levels + objects + steps + 1 == session.len() / 16
 }

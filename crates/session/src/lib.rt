@@ -1,8 +1,18 @@
 // Sessions: the 16-byte records of document 01, its questions 1 to 8, and what an accepted session says.
 mod kinds;
+mod levels;
+mod objects;
 mod record;
+mod root;
+mod scripts;
 
 ghost use mathlib.Core.Path.{_≡_};
+ghost use mathlib.Core.Bool.{true};
+ghost use mathlib.Core.List.{_++_};
+ghost use Prim.Native.Nat.{_≤_};
+ghost use Rattle.lattice.specs.Table as table;
+ghost use Rattle.session.specs.Parts.{levelCount, Counted, masksOf};
+ghost use Rattle.session.specs.Questions.{kindsRise, question1, question2, ofLevels, ofContents, firstNo, verdictOf};
 
 // A field, a register, a parameter or a reply: NIL or a number.
 pub enum Value {
@@ -44,4 +54,87 @@ pub enum Verdict {
     Object,
     Script,
     Root,
+}
+
+// Questions 6 to 8, of a session of which question 2 said yes.
+fn check_contents(session: &[u8], levels: usize, objects: usize, steps: usize) -> Verdict
+    requires { ⌜ question2 (now session) ≡ true ⌝ }
+    requires { ⌜ Counted (now session) levels objects steps ⌝ }
+    ensures { λ x. ⌜ x ≡ firstNo (ofContents (now (session .entry))) ⌝ }
+{
+    let first = levels + objects;
+    let root = first + steps;
+    if !objects::are_valid(session, levels, objects, levels) {
+        return Verdict::Object;
+    }
+    if !scripts::are_valid(session, first, root, objects) {
+        return Verdict::Script;
+    }
+    if root::is_valid(session, root, objects) {
+        Verdict::Accepted
+    } else {
+        Verdict::Root
+    }
+}
+
+// What the questions about a level table say of the session's.
+fn check_table(session: &[u8], levels: usize) -> lattice::Verdict
+    requires { ⌜ (kindsRise (now session) ≡ true) × (levels ≡ levelCount (now session)) × (levels ≤ 16) ⌝ }
+    ensures { λ x. ⌜ x ≡ table.verdictOf (masksOf (now (session .entry))) ⌝ }
+{
+    let mut masks = [0u16; 16];
+    levels::fill_masks(session, levels, &mut masks);
+    lattice::check(&masks[..levels])
+}
+
+// Questions 3 to 8, of a session of which question 2 said yes.
+fn check_levels(session: &[u8], levels: usize, objects: usize, steps: usize) -> Verdict
+    requires { ⌜ question2 (now session) ≡ true ⌝ }
+    requires { ⌜ Counted (now session) levels objects steps ⌝ }
+    ensures { λ x. ⌜ x ≡ firstNo (ofLevels (now (session .entry)) ++ ofContents (now (session .entry))) ⌝ }
+{
+    if !levels::are_numbered(session, levels, objects, steps) {
+        return Verdict::Numbering;
+    }
+    let table = check_table(session, levels);
+    match table {
+        lattice::Verdict::Passed => check_contents(session, levels, objects, steps),
+        lattice::Verdict::NotOrdered => Verdict::NotOrdered,
+        lattice::Verdict::NoJoin => Verdict::NoJoin,
+    }
+}
+
+// Question 1.
+fn is_whole(session: &[u8]) -> bool
+    ensures { λ x. ⌜ x ≡ question1 (now (session .entry)) ⌝ }
+{
+    let n = session.len();
+    if n % 16 != 0 {
+        return false;
+    }
+    if n / 16 < 1 {
+        return false;
+    }
+    n / 16 <= 297
+}
+
+// Checks a session: what questions 1 to 8 say of any bytes, of any length and content.
+pub fn check(session: &[u8]) -> Verdict
+    ensures { λ x. ⌜ x ≡ verdictOf (now (session .entry)) ⌝ }
+{
+    if !is_whole(session) {
+        return Verdict::Length;
+    }
+    if !kinds::kinds_rise(session) {
+        return Verdict::Kinds;
+    }
+    let layout = kinds::count_kinds(session);
+    let levels = layout.levels;
+    let objects = layout.objects;
+    let steps = layout.steps;
+    if kinds::are_present(session, levels, objects, steps) {
+        check_levels(session, levels, objects, steps)
+    } else {
+        Verdict::Kinds
+    }
 }

@@ -99,22 +99,41 @@ pub both-pass : (masks : List ℕ) → isOrdered masks ≡ true → isJoined mas
 unfolding verdictOf
 both-pass masks o j = rw (o, j)
 
-pub passed-ordered : (masks : List ℕ) → verdictOf masks ≡ Passed → isOrdered masks ≡ true
-unfolding verdictOf
-passed-ordered masks e = go (isOrdered masks) (isJoined masks) e
-  where
-    go : (a b : Bool) → cond a (cond b Passed NoJoin) NotOrdered ≡ Passed → a ≡ true
-    go true b t = refl
-    go false b t = cc
+module _ (masks : List ℕ) where
+  pub passed-ordered : verdictOf masks ≡ Passed → isOrdered masks ≡ true
+  unfolding verdictOf
+  passed-ordered e = go (isOrdered masks) (isJoined masks) e
+    where
+      go : (a b : Bool) → cond a (cond b Passed NoJoin) NotOrdered ≡ Passed → a ≡ true
+      go true b t = refl
+      go false b t = cc
 
-pub passed-joined : (masks : List ℕ) → verdictOf masks ≡ Passed → isJoined masks ≡ true
-unfolding verdictOf
-passed-joined masks e = go (isOrdered masks) (isJoined masks) e
-  where
-    go : (a b : Bool) → cond a (cond b Passed NoJoin) NotOrdered ≡ Passed → b ≡ true
-    go true true t = refl
-    go true false t = cc
-    go false b t = cc
+  pub passed-joined : verdictOf masks ≡ Passed → isJoined masks ≡ true
+  unfolding verdictOf
+  passed-joined e = go (isOrdered masks) (isJoined masks) e
+    where
+      go : (a b : Bool) → cond a (cond b Passed NoJoin) NotOrdered ≡ Passed → b ≡ true
+      go true true t = refl
+      go true false t = cc
+      go false b t = cc
+
+  pub refused-ordered : verdictOf masks ≡ NotOrdered → isOrdered masks ≡ false
+  unfolding verdictOf
+  refused-ordered e = go (isOrdered masks) (isJoined masks) e
+    where
+      go : (a b : Bool) → cond a (cond b Passed NoJoin) NotOrdered ≡ NotOrdered → a ≡ false
+      go true true t = cc
+      go true false t = cc
+      go false b t = refl
+
+  pub refused-joined : verdictOf masks ≡ NoJoin → (isOrdered masks ≡ true) × (isJoined masks ≡ false)
+  unfolding verdictOf
+  refused-joined e = go (isOrdered masks) (isJoined masks) e
+    where
+      go : (a b : Bool) → cond a (cond b Passed NoJoin) NotOrdered ≡ NoJoin → (a ≡ true) × (b ≡ false)
+      go true true t = (cc, cc)
+      go true false t = (refl, refl)
+      go false b t = (cc, cc)
 
 -- the levels of a table that passed are a join semilattice
 pub passed : (masks : List ℕ) → verdictOf masks ≡ Passed → JoinSemilattice (length masks) (dominates masks)

@@ -15,7 +15,7 @@ use Rattle.lattice.proofs.Laws.Table.{bit-beyond}
 use Rattle.session.specs.Lists.{every, select, risingFrom}
 use Rattle.session.specs.Record.{Record, recordsOf, byteOf, kindOf, numberOf, maskOf, levelByte, nameOf, fieldIn, stepOf}
 use Rattle.session.specs.Parts.{ofKind, objectRecords, stepRecords, levelCount, objectCount, masksOf, key, keyOf, methodRecords, rootRecord}
-use Rattle.session.specs.Questions.{question7, stepValid, scriptValid}
+use Rattle.session.specs.Questions.{stepValid, scriptValid, methodsValid, scriptsValid}
 use Rattle.session.specs.Meaning.{levelOf, fieldOf, methodOf}
 use Rattle.session.specs.Emptied.{hides, stays, blanked, emptied}
 use Rattle.session.specs.declared.Value.the-variants.{Nil}
@@ -59,28 +59,28 @@ module _ (s : List ℕ) where
   unfolding methodRecords
   method-kinds k = every-select (λ rec. eqb (keyOf rec) k) (λ rec. eqb (kindOf rec) 3) (stepRecords s) (kinds 3)
 
-  pub steps-valid : AllYes s → every (scriptValid s) (stepRecords s) ≡ true
-  unfolding question7
-  steps-valid y = and-right (risingFrom keyOf 0 (stepRecords s)) (every (scriptValid s) (stepRecords s)) (y .seven)
+  pub steps-valid : AllYes s → every (scriptValid (objectCount s) (stepRecords s)) (stepRecords s) ≡ true
+  unfolding scriptsValid
+  steps-valid y = and-right (risingFrom keyOf 0 (stepRecords s)) (methodsValid (objectCount s) (stepRecords s)) (y .seven)
 
-  pub step-name : (rec : Record) → scriptValid s rec ≡ true → ltb (nameOf rec) 16 ≡ true
+  pub step-name : (rec : Record) → scriptValid (objectCount s) (stepRecords s) rec ≡ true → ltb (nameOf rec) 16 ≡ true
   unfolding scriptValid stepValid
   step-name rec e = search (and-left, and-right)
 
   pub method-object : AllYes s → (o m : ℕ) → m < 256 → every (λ rec. eqb (numberOf rec) o) (methodRecords s (key o m)) ≡ true
   unfolding methodRecords
   method-object y o m h =
-      every-then (λ rec. eqb (keyOf rec) (key o m) && scriptValid s rec) (λ rec. eqb (numberOf rec) o) same (methodRecords s (key o m))
-      (every-both (λ rec. eqb (keyOf rec) (key o m)) (scriptValid s) (methodRecords s (key o m))
+      every-then (λ rec. eqb (keyOf rec) (key o m) && scriptValid (objectCount s) (stepRecords s) rec) (λ rec. eqb (numberOf rec) o) same (methodRecords s (key o m))
+      (every-both (λ rec. eqb (keyOf rec) (key o m)) (scriptValid (objectCount s) (stepRecords s)) (methodRecords s (key o m))
       (select-passes (λ rec. eqb (keyOf rec) (key o m)) (stepRecords s))
-      (every-select (λ rec. eqb (keyOf rec) (key o m)) (scriptValid s) (stepRecords s) (steps-valid y)))
+      (every-select (λ rec. eqb (keyOf rec) (key o m)) (scriptValid (objectCount s) (stepRecords s)) (stepRecords s) (steps-valid y)))
     where
-      same : (rec : Record) → (eqb (keyOf rec) (key o m) && scriptValid s rec) ≡ true → eqb (numberOf rec) o ≡ true
+      same : (rec : Record) → (eqb (keyOf rec) (key o m) && scriptValid (objectCount s) (stepRecords s) rec) ≡ true → eqb (numberOf rec) o ≡ true
       same rec e =
-          let l : nameOf rec < 16 = ltb-true (nameOf rec) 16 (step-name rec (and-right (eqb (keyOf rec) (key o m)) (scriptValid s rec) e)) in
+          let l : nameOf rec < 16 = ltb-true (nameOf rec) 16 (step-name rec (and-right (eqb (keyOf rec) (key o m)) (scriptValid (objectCount s) (stepRecords s) rec) e)) in
           eq-eqb (numberOf rec) o
           (key-object (numberOf rec) (nameOf rec) o m (omega arith) h
-          (eqb-true (keyOf rec) (key o m) (and-left (eqb (keyOf rec) (key o m)) (scriptValid s rec) e)))
+          (eqb-true (keyOf rec) (key o m) (and-left (eqb (keyOf rec) (key o m)) (scriptValid (objectCount s) (stepRecords s) rec) e)))
 
 module _ (s : List ℕ) (c : ℕ) where
   -- an object's record that is to be blanked

@@ -12,8 +12,8 @@ use Rattle.lattice.specs.Table.{bit}
 use Rattle.lattice.proofs.Laws.Range.{and-left, and-right, and-both, implies-when, all-every}
 use Rattle.session.specs.Lists.{every, select, risingFrom, countsFrom}
 use Rattle.session.specs.Record.{Record, recordsOf, byteOf, unused, between, kindOf, numberOf, levelByte, nameOf}
-use Rattle.session.specs.Parts.{ofKind, objectRecords, stepRecords, rootRecords, levelCount, stepCount, keyOf}
-use Rattle.session.specs.Questions.{question1, kindsRise, question2, question3, question4, question5, question6, question7, question8, objectValid, scriptValid, verdictOf}
+use Rattle.session.specs.Parts.{ofKind, objectRecords, stepRecords, rootRecords, levelCount, objectCount, stepCount, keyOf, methodRecords}
+use Rattle.session.specs.Questions.{question1, kindsRise, question2, question3, question4, question5, question6, question7, question8, objectValid, scriptValid, scriptsValid, verdictOf}
 use Rattle.session.specs.Emptied.{stays, blanked, emptied}
 use Rattle.session.specs.declared.Verdict.the-variants.{Accepted}
 use Rattle.session.proofs.Laws.Lists.{holds, fails, truth, every-select, select-passes, select-length}
@@ -131,22 +131,27 @@ module _ (s : List ℕ) (c : ℕ) (y : AllYes s) where
       (every-then (objectValid (levelCount s)) (λ rec. objectValid (levelCount s) (blanked s c rec)) (object-blanked (levelCount s)) (objectRecords s) (y .six))
 
   -- 7. a step stays with all the steps of its method
-  script-stays : (rec : Record) → eqb (kindOf rec) 3 ≡ true → stays s c rec ≡ true → scriptValid s rec ≡ true → scriptValid (emptied c s) rec ≡ true
-  unfolding scriptValid
+  script-stays : (rec : Record) → eqb (kindOf rec) 3 ≡ true → stays s c rec ≡ true → scriptValid (objectCount s) (stepRecords s) rec ≡ true → scriptValid (objectCount (emptied c s)) (stepRecords (emptied c s)) rec ≡ true
+  unfolding scriptValid methodRecords
   script-stays rec k t v =
       let l : nameOf rec < 16 = ltb-true (nameOf rec) 16 (step-name s rec v) in
       rw (emptied-method-seen s c y (numberOf rec) (nameOf rec) (omega arith) (seen-stays s c rec k t), emptied-count s c) v
 
   question7-emptied : question7 (emptied c s) ≡ true
-  unfolding question7
+  unfolding scriptsValid
   question7-emptied =
-      rw (emptied-steps s c, rising-select keyOf (stays s c) 0 (stepRecords s) (search (and-left, y .seven)))
-      (every-then (λ rec. eqb (kindOf rec) 3 && stays s c rec && scriptValid s rec) (scriptValid (emptied c s))
-      (λ rec e. script-stays rec (search (and-left, and-right)) (search (and-left, and-right)) (search (and-left, and-right))) (select (stays s c) (stepRecords s))
-      (every-both (λ rec. eqb (kindOf rec) 3 && stays s c rec) (scriptValid s) (select (stays s c) (stepRecords s))
-      (every-both (λ rec. eqb (kindOf rec) 3) (stays s c) (select (stays s c) (stepRecords s))
-      (every-select (stays s c) (λ rec. eqb (kindOf rec) 3) (stepRecords s) (kinds s 3)) (select-passes (stays s c) (stepRecords s)))
-      (every-select (stays s c) (scriptValid s) (stepRecords s) (steps-valid s y))))
+      let steps = stepRecords s in
+      let kept = select (stays s c) steps in
+      let test = scriptValid (objectCount (emptied c s)) (stepRecords (emptied c s)) in
+      and-both (risingFrom keyOf 0 (stepRecords (emptied c s))) (every test (stepRecords (emptied c s)))
+      (rw (emptied-steps s c) (rising-select keyOf (stays s c) 0 steps (search (and-left, y .seven))))
+      (ap (every test) (emptied-steps s c)
+      ∙ every-then (λ rec. eqb (kindOf rec) 3 && stays s c rec && scriptValid (objectCount s) steps rec) test
+      (λ rec e. script-stays rec (search (and-left, and-right)) (search (and-left, and-right)) (search (and-left, and-right))) kept
+      (every-both (λ rec. eqb (kindOf rec) 3 && stays s c rec) (scriptValid (objectCount s) steps) kept
+      (every-both (λ rec. eqb (kindOf rec) 3) (stays s c) kept
+      (every-select (stays s c) (λ rec. eqb (kindOf rec) 3) steps (kinds s 3)) (select-passes (stays s c) steps))
+      (every-select (stays s c) (scriptValid (objectCount s) steps) steps (steps-valid s y))))
 
   -- 8. the root message is the same
   question8-emptied : question8 (emptied c s) ≡ true

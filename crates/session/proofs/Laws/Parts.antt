@@ -5,16 +5,18 @@ use mathlib.Core.Bool.{Bool, true, false, not, _&&_}
 use mathlib.Core.List.{List, [], _∷_}
 use native.Mathlib.Decide.{decLt}
 use native.Mathlib.Omega.{arith}
-use borrow.Author.Tests.{leb-true, le-leb, lt-ltb, le-ltb, eqb-true}
+use borrow.Author.Tests.{leb-true, le-leb, lt-ltb, le-ltb, eq-eqb, ne-eqb, eqb-true, eqb-false}
 use lib.Dec.{eqb, leb, ltb}
 use lib.ListN.{length, getD}
+use lib.Seq.{ext-getD}
 use Rattle.lattice.proofs.Laws.Range.{and-left, and-right, and-both}
 use Rattle.session.specs.Lists.{every, select, countBelow, risingFrom, tab}
-use Rattle.session.specs.Record.{Record, recordAt, recordCount, recordsOf, kindOf}
-use Rattle.session.specs.Parts.{ofKind, levelRecords, objectRecords, stepRecords, rootRecords, levelCount, objectCount, stepCount, rootRecord}
+use Rattle.session.specs.Record.{Record, recordAt, recordCount, recordsOf, recordsFrom, kindOf}
+use Rattle.session.specs.Parts.{ofKind, levelRecords, objectRecords, stepRecords, rootRecords, levelCount, objectCount, stepCount, layoutOf, Counted, rootRecord}
+use Rattle.session.specs.declared.Layout.{Layout}
 use Rattle.session.specs.Questions.{kindsRise, question2}
-use Rattle.session.proofs.Laws.Record.{records-length, record-is}
-use Rattle.session.proofs.Laws.Lists.{every-each, every-all, select-length, select-all, select-none}
+use Rattle.session.proofs.Laws.Record.{records-length, record-is, from-length, from-at}
+use Rattle.session.proofs.Laws.Lists.{Truth, holds, fails, truth, every-each, every-all, select-length, select-all, select-none}
 use Rattle.session.proofs.Laws.Rising.{among, first-below, rest-above, count-more, among-at, rising-next, rising-all}
 
 -- no more records have a kind below m than there are
@@ -125,6 +127,36 @@ module _ (s : List ℕ) (k : kindsRise s ≡ true) where
 
   pub step-is : (j : ℕ) → j < stepCount s → getD (stepRecords s) j [] ≡ recordAt s (levelCount s + objectCount s + j)
   step-is j h = among-is 3 j h (omega (arith, below-3, below-5)) ∙ ap (recordAt s) (omega (arith, below-3))
+
+-- a shape, in its numbers
+pub counted : (s : List ℕ) (l : Layout) → l ≡ layoutOf s → Counted s (l .levels) (l .objects) (l .steps)
+counted s l e =
+    record { levels-are = ap (λ x. x .levels) e; objects-are = ap (λ x. x .objects) e; steps-are = ap (λ x. x .steps) e }
+
+-- question 2 says no where the kinds fall
+pub question2-falls : (s : List ℕ) → kindsRise s ≡ false → question2 s ≡ false
+unfolding question2
+question2-falls s k = rw k
+
+-- the rest of question 2, by how many records there are
+pub question2-is : (s : List ℕ) → kindsRise s ≡ true →
+    question2 s ≡ (leb 1 (levelCount s) && leb 1 (objectCount s) && eqb (levelCount s + objectCount s + stepCount s + 1) (recordCount s))
+unfolding question2
+question2-is s k = rw (k, roots)
+  where
+    roots : eqb (length (rootRecords s)) 1 ≡ eqb (levelCount s + objectCount s + stepCount s + 1) (recordCount s)
+    roots =
+        let n = levelCount s + objectCount s + stepCount s in
+        elim (truth (eqb (length (rootRecords s)) 1)) [
+          | holds e ↦ e ∙ sym (eq-eqb (n + 1) (recordCount s) (omega (arith, below-5 s k, eqb-true (length (rootRecords s)) 1 e)))
+          | fails e ↦ e ∙ sym (ne-eqb (n + 1) (recordCount s) (λ q. eqb-false (length (rootRecords s)) 1 e (omega (arith, below-5 s k))))
+        ]
+
+-- the steps, as some records from one on
+pub steps-from : (s : List ℕ) → kindsRise s ≡ true → stepRecords s ≡ recordsFrom s (levelCount s + objectCount s) (stepCount s)
+steps-from s k =
+    ext-getD [] (stepRecords s) (recordsFrom s (levelCount s + objectCount s) (stepCount s)) (sym (from-length s _ _))
+    (λ i h. step-is s k i h ∙ sym (from-at s (levelCount s + objectCount s) (stepCount s) i h))
 
 -- the root message is the last record
 module _ (s : List ℕ) (q : question2 s ≡ true) where

@@ -1,5 +1,5 @@
 -- Laws of a record: where its bytes stand, when chosen bytes are unused, which step it is. Assumes nothing.
-use Prim.Native.Nat.{ℕ, zero, suc, _+_, _*_, _≤_, _<_}
+use Prim.Native.Nat.{ℕ, zero, suc, _+_, _-_, _*_, _≤_, _<_}
 use mathlib.Core.Path.{_≡_, refl, sym, _∙_, ap}
 use mathlib.Core.Bool.{Bool, true, false, _&&_, _||_}
 use mathlib.Core.List.{List, [], _∷_}
@@ -13,7 +13,7 @@ use lib.Seq.{getD-take, getD-drop}
 use Rattle.lattice.specs.Range.{implies, all}
 use Rattle.lattice.proofs.Laws.Range.{and-left, and-right, and-both, and-fails-left, and-fails-right, implies-then, implies-when, implies-left, implies-fails, all-each, all-every, all-fails, all-both}
 use Rattle.session.specs.Limits.{recordBytes}
-use Rattle.session.specs.Record.{Record, recordAt, recordCount, recordsOf, byteOf, wordOf, unused, between, operations, stepOf}
+use Rattle.session.specs.Record.{Record, recordAt, recordCount, recordsOf, recordsFrom, byteOf, wordOf, unused, between, operations, stepOf}
 use Rattle.session.proofs.Laws.Lists.{length-tab, getD-tab}
 use Rattle.session.specs.declared.Step.{Step}
 use Rattle.session.specs.declared.Step.the-variants.{End, Set, Add, Jump, Read, Write, Send, Quit}
@@ -31,6 +31,21 @@ records-length s = length-tab (recordCount s) (recordAt s)
 pub record-is : (s : List ℕ) (r : ℕ) → r < recordCount s → getD (recordsOf s) r [] ≡ recordAt s r
 unfolding recordsOf
 record-is s r h = getD-tab [] (recordCount s) (recordAt s) r h
+
+-- some records from one on, by number
+pub from-length : (s : List ℕ) (a n : ℕ) → length (recordsFrom s a n) ≡ n
+unfolding recordsFrom
+from-length s a n = length-tab n (λ i. recordAt s (a + i))
+
+pub from-at : (s : List ℕ) (a n i : ℕ) → i < n → getD (recordsFrom s a n) i [] ≡ recordAt s (a + i)
+unfolding recordsFrom
+from-at s a n i h = getD-tab [] n (λ i. recordAt s (a + i)) i h
+
+pub from-is : (s : List ℕ) (a e r : ℕ) → a ≤ r → r < e → getD (recordsFrom s a (e - a)) (r - a) [] ≡ recordAt s r
+from-is s a e r h l =
+    let m : r - a < e - a = omega arith in
+    let z : a + (r - a) ≡ r = omega arith in
+    from-at s a (e - a) (r - a) m ∙ ap (recordAt s) z
 
 -- the bytes from a up to e, one by one
 pub unused-every : (a e : ℕ) (rec : Record) → ((k : ℕ) → a ≤ k → k < e → byteOf rec k ≡ 0) → unused (between a e) rec ≡ true

@@ -1,9 +1,9 @@
 -- Positions in a list along which a number never falls: the elements countBelow f k stand first, then those at k. Assumes nothing.
-use Prim.Native.Nat.{ℕ, zero, suc, _+_, _≤_, _<_}
+use Prim.Native.Nat.{ℕ, zero, suc, _+_, _-_, _≤_, _<_, suc-le-suc}
 use mathlib.Core.Path.{_≡_, refl, sym, _∙_, ap}
 use mathlib.Core.Bool.{Bool, true, false, _&&_}
 use mathlib.Core.List.{List, [], _∷_}
-use native.Mathlib.Nat.{zero-add, suc-add, le-trans}
+use native.Mathlib.Nat.{zero-add, suc-add, le-trans, le-antisymm, le-of-eq}
 use native.Mathlib.Decide.{decLt}
 use native.Mathlib.Omega.{arith}
 use borrow.Author.Tests.{leb-true, le-leb, lt-leb, lt-ltb, le-ltb, eq-eqb, ne-eqb}
@@ -11,7 +11,7 @@ use lib.Dec.{eqb, leb, ltb}
 use lib.ListN.{length, getD}
 use Rattle.lattice.proofs.Laws.Range.{and-left, and-right, and-both, and-fails-left, and-fails-right}
 use Rattle.session.specs.Lists.{select, countBelow, risingFrom}
-use Rattle.session.proofs.Laws.Lists.{Truth, holds, fails, truth, select-yes, select-no}
+use Rattle.session.proofs.Laws.Lists.{Truth, holds, fails, truth, select-yes, select-no, select-length}
 
 -- two numbers, compared
 pub data Order (a b : ℕ) : Type 0 where
@@ -146,6 +146,55 @@ module _ {A : Type 0} (f : A → ℕ) where
   rising-all d b (x ∷ y ∷ xs) h g =
       rising-cons b x (y ∷ xs) (h (omega arith))
       (rising-all d (f x) (y ∷ xs) (λ l. g zero (omega arith)) (λ i l. g (suc i) (omega arith)))
+
+  -- rising, said of any two
+  pub rising-le : (d : A) (b : ℕ) (xs : List A) → risingFrom f b xs ≡ true → (i j : ℕ) → i ≤ j → j < length xs → f (getD xs i d) ≤ f (getD xs j d)
+  rising-le d b xs e i j h l = elim (decLt (f (getD xs j d)) (f (getD xs i d))) [
+    | yes m ↦ absurd (elim (decLt j (countBelow f (f (getD xs i d)) xs)) [
+      | yes g ↦ let z : f (getD xs i d) < f (getD xs i d) = first-below d (f (getD xs i d)) b xs e i (le-trans (suc-le-suc h) g) in omega arith
+      | no g ↦ let z : f (getD xs i d) ≤ f (getD xs j d) = rest-above d (f (getD xs i d)) b xs e j l (omega arith) in omega arith
+    ])
+    | no g ↦ omega arith
+  ]
+
+  -- how many elements are at k, by the places of the first of them and of the first above
+  pub run-length : (d : A) (b : ℕ) (xs : List A) → risingFrom f b xs ≡ true → (k p q : ℕ) → p < q → q ≤ length xs
+      → ((i : ℕ) → i < p → f (getD xs i d) < k) → ((i : ℕ) → p ≤ i → i < q → f (getD xs i d) ≡ k) → (q < length xs → k < f (getD xs q d))
+      → length (among k xs) ≡ q - p
+  run-length d b xs e k p q h l lo at hi = omega (arith, count-more k xs, starts, ends)
+    where
+      none-after : (m i : ℕ) → i < length xs → m ≤ f (getD xs i d) → countBelow f m xs ≤ i
+      none-after m i j g = elim (decLt i (countBelow f m xs)) [
+        | yes t ↦ let z : f (getD xs i d) < m = first-below d m b xs e i t in absurd (omega arith)
+        | no t ↦ omega arith
+      ]
+
+      counted : (m i : ℕ) → i < length xs → f (getD xs i d) < m → i < countBelow f m xs
+      counted m i j g = elim (decLt i (countBelow f m xs)) [
+        | yes t ↦ t
+        | no t ↦ let z : m ≤ f (getD xs i d) = rest-above d m b xs e i j (omega arith) in absurd (omega arith)
+      ]
+
+      upto : (m i : ℕ) → i ≤ length xs → ((j : ℕ) → j < i → f (getD xs j d) < m) → i ≤ countBelow f m xs
+      upto m zero j g = omega arith
+      upto m (suc i) j g = counted m i j (g i (omega arith))
+
+      starts : countBelow f k xs ≡ p
+      starts =
+          le-antisymm (none-after k p (omega arith) (le-of-eq (sym (at p (omega arith) h))))
+          (upto k p (omega arith) lo)
+
+      before : (i : ℕ) → i < q → f (getD xs i d) < suc k
+      before i g = elim (decLt i p) [
+        | yes t ↦ let z : f (getD xs i d) < k = lo i t in omega arith
+        | no t ↦ let z : f (getD xs i d) ≡ k = at i (omega arith) g in omega arith
+      ]
+
+      ends : countBelow f (suc k) xs ≡ q
+      ends = elim (decLt q (length xs)) [
+        | yes t ↦ le-antisymm (none-after (suc k) q t (hi t)) (upto (suc k) q l before)
+        | no t ↦ le-antisymm (le-trans (select-length (λ x. ltb (f x) (suc k)) xs) (omega arith)) (upto (suc k) q l before)
+      ]
 
 -- a walk from 0 up along which f never falls and is at least b: where it stands, and the last value that it saw
 pub record Climbed (f : ℕ → ℕ) (b r low : ℕ) : Type 0 where

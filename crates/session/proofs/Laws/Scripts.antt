@@ -1,0 +1,211 @@
+-- Laws of scripts: the steps of a method stand together, and how many they are. Assumes nothing.
+use Prim.Native.Nat.{ℕ, zero, suc, _+_, _-_, _≤_, _<_}
+use mathlib.Core.Path.{_≡_, refl, sym, _∙_, ap}
+use mathlib.Core.Bool.{Bool, true, false, not, _&&_}
+use mathlib.Core.List.{List, []}
+use native.Mathlib.Nat.{le-trans, le-of-lt}
+use native.Mathlib.Decide.{decLt}
+use native.Mathlib.Omega.{arith}
+use borrow.Author.Tests.{leb-true, le-leb, eqb-true, eqb-false, eq-eqb, ne-eqb, not-true, not-false}
+use lib.Arith.{lt-of-le-ne}
+use lib.Dec.{eqb, leb}
+use lib.ListN.{length, getD}
+use Rattle.lattice.specs.Range.{first}
+use Rattle.lattice.proofs.Laws.Range.{and-left, and-right, and-both, refuted, not-both, first-le, first-passes, first-before, first-at, first-none}
+use Rattle.session.specs.Limits.{maxMethod}
+use Rattle.session.specs.Lists.{every, risingFrom}
+use Rattle.session.specs.Record.{Record, recordAt, recordsFrom}
+use Rattle.session.specs.Parts.{keyOf, ofMethod, methodEnd}
+use Rattle.session.specs.Questions.{stepValid, scriptValid, methodsValid}
+use Rattle.session.proofs.Laws.Record.{from-length, from-at, from-is}
+use Rattle.session.proofs.Laws.Lists.{every-each, every-all}
+use Rattle.session.proofs.Laws.Rising.{rising-le, rising-next, rising-all, run-length}
+
+-- the key of a record of a session
+abbrev pub keyAt : List ℕ → ℕ → ℕ
+keyAt s r = keyOf (recordAt s r)
+
+-- `methodEnd`: made by a search from the next record on
+module _ (s : List ℕ) (r e : ℕ) (h : r < e) where
+  abbrev other : ℕ → Bool
+  other i = not (eqb (keyAt s (suc r + i)) (keyAt s r))
+
+  is-other : (i : ℕ) → (keyAt s (suc r + i) ≡ keyAt s r → ⊥) → other i ≡ true
+  is-other i n = ap not (ne-eqb (keyAt s (suc r + i)) (keyAt s r) n)
+
+  not-other : (i : ℕ) → keyAt s (suc r + i) ≡ keyAt s r → other i ≡ false
+  not-other i q = ap not (eq-eqb (keyAt s (suc r + i)) (keyAt s r) q)
+
+  pub end-at : (i : ℕ) → suc r ≤ i → i < e → (keyAt s i ≡ keyAt s r → ⊥) → ((j : ℕ) → suc r ≤ j → j < i → keyAt s j ≡ keyAt s r) → i ≡ methodEnd s r e
+  unfolding methodEnd
+  end-at i l m n f =
+      let z : suc r + (i - suc r) ≡ i = omega arith in
+      let found : first (e - suc r) other ≡ i - suc r =
+      first-at (e - suc r) other (i - suc r) (omega arith) (is-other (i - suc r) (rw z n))
+      (λ k g. not-other k (f (suc r + k) (omega arith) (omega arith))) in
+      omega arith
+
+  pub end-none : ((j : ℕ) → suc r ≤ j → j < e → keyAt s j ≡ keyAt s r) → e ≡ methodEnd s r e
+  unfolding methodEnd
+  end-none f =
+      let found : first (e - suc r) other ≡ e - suc r =
+      first-none (e - suc r) other (λ k g. not-other k (f (suc r + k) (omega arith) (omega arith))) in
+      omega arith
+
+  pub end-after : r < methodEnd s r e
+  unfolding methodEnd
+  end-after = omega arith
+
+  pub end-within : methodEnd s r e ≤ e
+  unfolding methodEnd
+  end-within = omega (arith, first-le (e - suc r) other)
+
+  pub end-same : (j : ℕ) → r ≤ j → j < methodEnd s r e → keyAt s j ≡ keyAt s r
+  unfolding methodEnd
+  end-same j l m = elim (decLt r j) [
+    | yes g ↦
+        let z : suc r + (j - suc r) ≡ j = omega arith in
+        rw z at (eqb-true (keyAt s (suc r + (j - suc r))) (keyAt s r) (not-false _ (first-before (e - suc r) other (j - suc r) (omega arith))))
+    | no g ↦ let z : j ≡ r = omega arith in rw z
+  ]
+
+  pub end-other : methodEnd s r e < e → keyAt s (methodEnd s r e) ≡ keyAt s r → ⊥
+  unfolding methodEnd
+  end-other l q =
+      eqb-false (keyAt s (suc r + first (e - suc r) other)) (keyAt s r)
+      (not-true _ (first-passes (e - suc r) other (omega arith))) q
+
+-- the places p up to q of the steps hold one whole method
+pub record Run (steps : List Record) (p q : ℕ) : Type 0 where
+  pub some : p < q
+  pub within : q ≤ length steps
+  pub below : (i : ℕ) → i < p → keyOf (getD steps i []) < keyOf (getD steps p [])
+  pub same : (i : ℕ) → p ≤ i → i < q → keyOf (getD steps i []) ≡ keyOf (getD steps p [])
+  pub above : q < length steps → keyOf (getD steps p []) < keyOf (getD steps q [])
+
+-- then the method has q − p steps, and each is valid as one of so many
+module _ (steps : List Record) (rising : risingFrom keyOf 0 steps ≡ true) (p q : ℕ) (run : Run steps p q) where
+  pub run-count : (i : ℕ) → p ≤ i → i < q → length (ofMethod (keyOf (getD steps i [])) steps) ≡ q - p
+  run-count i h l =
+      ap (λ k. length (ofMethod k steps)) (run .same i h l)
+      ∙ run-length keyOf [] 0 steps rising (keyOf (getD steps p [])) p q (run .some) (run .within) (run .below) (run .same) (run .above)
+
+  pub run-valid : (objects i : ℕ) → p ≤ i → i < q → scriptValid objects steps (getD steps i []) ≡ (leb (q - p) maxMethod && stepValid objects (q - p) (getD steps i []))
+  unfolding scriptValid
+  run-valid objects i h l = rw (run-count i h l)
+
+  -- the next method starts at q
+  pub run-next : q < length steps → (i : ℕ) → i < q → keyOf (getD steps i []) < keyOf (getD steps q [])
+  run-next h i l = elim (decLt i p) [
+    | yes g ↦ le-trans (run .below i g) (le-of-lt (run .above h))
+    | no g ↦ rw (run .same i (omega arith) l) (run .above h)
+  ]
+
+-- the records from `at` to the end of its method are such a run, where the method starts at `at`
+pub method-run : (s : List ℕ) (a e at : ℕ) → a ≤ at → at < e
+    → risingFrom keyOf 0 (recordsFrom s a (e - a)) ≡ true
+    → ((i : ℕ) → i < at - a → keyOf (getD (recordsFrom s a (e - a)) i []) < keyOf (getD (recordsFrom s a (e - a)) (at - a) []))
+    → Run (recordsFrom s a (e - a)) (at - a) (methodEnd s at e - a)
+method-run s a e at h l rising lo =
+    let steps = recordsFrom s a (e - a) in
+    let next = methodEnd s at e in
+    let after : at < next = end-after s at e l in
+    let within : next ≤ e = end-within s at e l in
+    let here : getD steps (at - a) [] ≡ recordAt s at = from-is s a e at h l in
+    record {
+      some = omega arith;
+      within = omega (arith, from-length s a (e - a));
+      below = lo;
+      same = λ i g m.
+          let z : a ≤ a + i = omega arith in
+          ap keyOf (from-at s a (e - a) i (omega arith)) ∙ end-same s at e l (a + i) (omega arith) (omega arith) ∙ ap keyOf (sym here);
+      above = λ g.
+          let in-range : next < e = omega (arith, from-length s a (e - a)) in
+          let there : getD steps (next - a) [] ≡ recordAt s next = from-is s a e next (omega arith) in-range in
+          let le : keyOf (getD steps (at - a) []) ≤ keyOf (getD steps (next - a) []) = rising-le keyOf [] 0 steps rising (at - a) (next - a) (omega arith) g in
+          lt-of-le-ne le (λ q. end-other s at e l in-range (ap keyOf (sym there) ∙ sym q ∙ ap keyOf here));
+    }
+
+-- a walk from record a to e, method by method: the steps before `at` are whole methods, and valid
+pub record Methods (s : List ℕ) (objects a e at : ℕ) : Type 0 where
+  pub low : a ≤ at
+  pub high : at ≤ e
+  pub valid : (i : ℕ) → i < at - a → scriptValid objects (recordsFrom s a (e - a)) (getD (recordsFrom s a (e - a)) i []) ≡ true
+  pub start : at < e → (i : ℕ) → i < at - a → keyOf (getD (recordsFrom s a (e - a)) i []) < keyOf (getD (recordsFrom s a (e - a)) (at - a) [])
+
+module _ (s : List ℕ) (objects a e : ℕ) where
+  pub methods-none : a ≤ e → Methods s objects a e a
+  methods-none h =
+      record { low = omega arith; high = h; valid = λ i g. absurd (omega arith); start = λ l i g. absurd (omega arith) }
+
+  pub methods-all : (at : ℕ) → Methods s objects a e at → e ≤ at → methodsValid objects (recordsFrom s a (e - a)) ≡ true
+  methods-all at m h =
+      every-all (scriptValid objects (recordsFrom s a (e - a))) [] (recordsFrom s a (e - a))
+      (λ i g. m .valid i (omega (arith, m .high, from-length s a (e - a))))
+
+  module _ (at : ℕ) (rising : risingFrom keyOf 0 (recordsFrom s a (e - a)) ≡ true) (m : Methods s objects a e at) (h : at < e) where
+    run : Run (recordsFrom s a (e - a)) (at - a) (methodEnd s at e - a)
+    run = method-run s a e at (m .low) h rising (m .start h)
+
+    after : at < methodEnd s at e
+    after = end-after s at e h
+
+    within : methodEnd s at e ≤ e
+    within = end-within s at e h
+
+    -- what the test of a step of this method comes to
+    test : (j : ℕ) → j < methodEnd s at e - at →
+        scriptValid objects (recordsFrom s a (e - a)) (recordAt s (at + j))
+        ≡ (leb (methodEnd s at e - at) maxMethod && stepValid objects (methodEnd s at e - at) (recordAt s (at + j)))
+    test j g =
+        let z : (methodEnd s at e - a) - (at - a) ≡ methodEnd s at e - at = omega (arith, m .low, after) in
+        let there : getD (recordsFrom s a (e - a)) (at + j - a) [] ≡ recordAt s (at + j) = from-is s a e (at + j) (omega (arith, m .low)) (omega (arith, within)) in
+        rw (there, z) at (run-valid (recordsFrom s a (e - a)) rising (at - a) (methodEnd s at e - a) run objects (at + j - a) (omega (arith, m .low)) (omega (arith, m .low, after)))
+
+    passes : methodsValid objects (recordsFrom s a (e - a)) ≡ true → (j : ℕ) → j < methodEnd s at e - at
+        → (leb (methodEnd s at e - at) maxMethod && stepValid objects (methodEnd s at e - at) (recordAt s (at + j))) ≡ true
+    passes t j g =
+        let there : getD (recordsFrom s a (e - a)) (at + j - a) [] ≡ recordAt s (at + j) = from-is s a e (at + j) (omega (arith, m .low)) (omega (arith, within)) in
+        let in-range : at + j - a < length (recordsFrom s a (e - a)) = omega (arith, from-length s a (e - a), m .low, within) in
+        rw (there, test j g) at (every-each (scriptValid objects (recordsFrom s a (e - a))) [] (recordsFrom s a (e - a)) t (at + j - a) in-range)
+
+    -- a method of more than 16 steps, and one with a step that is not valid, fail the test
+    pub methods-long : maxMethod < methodEnd s at e - at → methodsValid objects (recordsFrom s a (e - a)) ≡ false
+    methods-long g =
+        refuted (methodsValid objects (recordsFrom s a (e - a))) λ t.
+        let few : methodEnd s at e - at ≤ maxMethod =
+        leb-true (methodEnd s at e - at) maxMethod (and-left _ _ (passes t 0 (omega (arith, after)))) in
+        omega arith
+
+    pub methods-wrong : every (stepValid objects (methodEnd s at e - at)) (recordsFrom s at (methodEnd s at e - at)) ≡ false
+        → methodsValid objects (recordsFrom s a (e - a)) ≡ false
+    methods-wrong g =
+        let n = methodEnd s at e - at in
+        refuted (methodsValid objects (recordsFrom s a (e - a))) λ t.
+        not-both (every (stepValid objects n) (recordsFrom s at n))
+        (every-all (stepValid objects n) [] (recordsFrom s at n) λ j l.
+        let k : j < n = rw (from-length s at n) at l in
+        rw (from-at s at n j k) (and-right (leb n maxMethod) (stepValid objects n (recordAt s (at + j))) (passes t j k)))
+        g
+
+    -- otherwise the walk goes on behind the method
+    pub methods-more : methodEnd s at e - at ≤ maxMethod → every (stepValid objects (methodEnd s at e - at)) (recordsFrom s at (methodEnd s at e - at)) ≡ true
+        → Methods s objects a e (methodEnd s at e)
+    methods-more g t =
+        let n = methodEnd s at e - at in
+        record {
+          low = omega (arith, m .low, after);
+          high = within;
+          valid = λ i l. elim (decLt i (at - a)) [
+            | yes k ↦ m .valid i k
+            | no k ↦
+                let j : a + i ≡ at + (a + i - at) = omega (arith, m .low) in
+                let lt : a + i - at < n = omega (arith, m .low) in
+                let there : getD (recordsFrom s a (e - a)) i [] ≡ recordAt s (at + (a + i - at)) =
+                from-at s a (e - a) i (omega (arith, within, m .low)) ∙ ap (recordAt s) j in
+                rw there (test (a + i - at) lt
+                ∙ and-both (leb n maxMethod) _ (le-leb n maxMethod g)
+                (rw (from-at s at n (a + i - at) lt) at (every-each (stepValid objects n) [] (recordsFrom s at n) t (a + i - at) (rw (from-length s at n) lt))))
+          ];
+          start = λ l i k. run-next (recordsFrom s a (e - a)) rising (at - a) (methodEnd s at e - a) run (omega (arith, from-length s a (e - a), m .low, after)) i k;
+        }

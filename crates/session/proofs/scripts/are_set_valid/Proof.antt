@@ -1,0 +1,34 @@
+-- `session::scripts::are_set_valid` meets its contract: the two parts of the unused bytes, one after the other. Assumes nothing.
+use borrow.Author.Tests.{lt-ltb, le-ltb}
+use mathlib.Core.Path.{sym, _∙_}
+use Rattle.session.specs.Record.{between, from}
+use Rattle.session.specs.Questions.{operandsValid}
+use Rattle.session.proofs.Laws.Record.{unused-or}
+use borrow.Author.Needs.{needs}
+use Rattle.session.proofs.scripts.are_set_valid.Statement.{statement}
+use Rattle.session.proofs.scripts.are_set_valid.Tie as tie
+
+returns : tie.Need-returns
+unfolding operandsValid
+returns c = simp (le-ltb _ _ (c .if1 .taken))
+
+is-unused-requires : tie.Need-is-unused-requires
+is-unused-requires c κs = search needs
+
+is-unused-requires-2 : tie.Need-is-unused-requires-2
+is-unused-requires-2 c κs = search needs
+
+returns-2 : tie.Need-returns-2
+unfolding operandsValid
+returns-2 c =
+    simp (lt-ltb _ _ (c .before .before .before .if1 .left), unused-or (between 5 8) (from 12), sym (c .before .before .is-unused .ensures) ∙ c .before .if2 .taken)
+    (c .is-unused2 .ensures)
+
+returns-3 : tie.Need-returns-3
+unfolding operandsValid
+returns-3 c =
+    simp (lt-ltb _ _ (c .before .before .if1 .left), unused-or (between 5 8) (from 12), sym (c .before .is-unused .ensures) ∙ c .if2 .left)
+
+pub are-set-valid-spec : {M : Type 1} → statement M
+are-set-valid-spec =
+    tie.close (tie.spec returns is-unused-requires is-unused-requires-2 returns-2 returns-3)

@@ -1,0 +1,53 @@
+// Question 6: the objects.
+use crate::record;
+ghost use mathlib.Core.Path.{_≡_};
+ghost use mathlib.Core.Bool.{_||_};
+ghost use Prim.Native.Nat.{_+_, _*_, _≤_, _<_};
+ghost use Rattle.lattice.specs.Range.{all};
+ghost use Rattle.session.specs.Record.{recordAt, recordCount, holds, unused, between};
+ghost use Rattle.session.specs.Questions.{objectValid};
+
+// Whether field `k` of the object in record `r` holds a number, or is NIL with its bytes 0.
+fn is_field_valid(session: &[u8], r: usize, k: usize) -> bool
+    requires { ⌜ (r < recordCount (now session)) × (k < 3) ⌝ }
+    ensures { λ x. ⌜ x ≡ (holds (recordAt (now (session .entry)) r) k || unused (between (4 + 4 * k) (8 + 4 * k)) (recordAt (now (session .entry)) r)) ⌝ }
+{
+    let mask = record::byte_at(session, r, 3);
+    if (mask >> k) % 2 == 1 {
+        true
+    } else {
+        record::is_unused(session, r, 4 + 4 * k, 8 + 4 * k)
+    }
+}
+
+// Whether the object in record `r` is valid among so many levels.
+fn is_valid(session: &[u8], r: usize, levels: usize) -> bool
+    requires { ⌜ r < recordCount (now session) ⌝ }
+    ensures { λ x. ⌜ x ≡ objectValid levels (recordAt (now (session .entry)) r) ⌝ }
+{
+    if levels <= record::byte_at(session, r, 2) as usize {
+        return false;
+    }
+    if 8 <= record::byte_at(session, r, 3) {
+        return false;
+    }
+    for k in 0..3 {
+        if !is_field_valid(session, r, k) {
+            return false;
+        }
+    }
+    true
+}
+
+// Whether the `count` objects from record `first` on are valid among so many levels.
+pub fn are_valid(session: &[u8], first: usize, count: usize, levels: usize) -> bool
+    requires { ⌜ first + count ≤ recordCount (now session) ⌝ }
+    ensures { λ x. ⌜ x ≡ all count (λ i. objectValid levels (recordAt (now (session .entry)) (first + i))) ⌝ }
+{
+    for i in 0..count {
+        if !is_valid(session, first + i, levels) {
+            return false;
+        }
+    }
+    true
+}

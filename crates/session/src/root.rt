@@ -1,0 +1,40 @@
+// Question 8: the root message.
+use crate::record;
+ghost use mathlib.Core.Path.{_≡_};
+ghost use mathlib.Core.Bool.{_||_};
+ghost use Prim.Native.Nat.{_<_};
+ghost use lib.Dec.{eqb};
+ghost use Rattle.session.specs.Record.{recordAt, recordCount, byteOf, unused, between};
+ghost use Rattle.session.specs.Questions.{rootValid};
+
+// Whether the parameter of the root message in record `r` is a number, or NIL with its bytes 0.
+fn is_parameter_valid(session: &[u8], r: usize) -> bool
+    requires { ⌜ r < recordCount (now session) ⌝ }
+    ensures { λ x. ⌜ x ≡ (eqb (byteOf (recordAt (now (session .entry)) r) 3) 1 || unused (between 4 8) (recordAt (now (session .entry)) r)) ⌝ }
+{
+    if record::byte_at(session, r, 3) == 1 {
+        true
+    } else {
+        record::is_unused(session, r, 4, 8)
+    }
+}
+
+// Whether the root message in record `r` is valid among so many objects.
+pub fn is_valid(session: &[u8], r: usize, objects: usize) -> bool
+    requires { ⌜ r < recordCount (now session) ⌝ }
+    ensures { λ x. ⌜ x ≡ rootValid objects (recordAt (now (session .entry)) r) ⌝ }
+{
+    if objects <= record::byte_at(session, r, 1) as usize {
+        return false;
+    }
+    if 16 <= record::byte_at(session, r, 2) {
+        return false;
+    }
+    if 1 < record::byte_at(session, r, 3) {
+        return false;
+    }
+    if !is_parameter_valid(session, r) {
+        return false;
+    }
+    record::is_unused(session, r, 8, 16)
+}

@@ -1,0 +1,186 @@
+// Question 7: the script steps.
+use crate::Step;
+use crate::record;
+ghost use mathlib.Core.Path.{_≡_};
+ghost use mathlib.Core.Bool.{true, _&&_};
+ghost use Prim.Native.Nat.{_+_, _-_, _≤_, _<_};
+ghost use lib.Dec.{ltb};
+ghost use Rattle.session.specs.Limits.{registers};
+ghost use Rattle.session.specs.Lists.{every, risingFrom};
+ghost use Rattle.session.specs.Record.{recordAt, recordCount, recordsFrom, unused, from};
+ghost use Rattle.session.specs.Parts.{keyOf, methodEnd};
+ghost use Rattle.session.specs.Questions.{operandsValid, stepValid, methodsValid, scriptsValid};
+
+// The pair (object, name) of the step in record `r`, as one number.
+pub fn key_at(session: &[u8], r: usize) -> usize
+    requires { ⌜ r < recordCount (now session) ⌝ }
+    ensures { λ x. ⌜ x ≡ keyOf (recordAt (now (session .entry)) r) ⌝ }
+{
+    let object = record::byte_at(session, r, 1) as usize;
+    let name = record::byte_at(session, r, 2) as usize;
+    256 * object + name
+}
+
+// Whether `a` is a register, `b` is below `limit`, and the bytes of record `r` from 6 on are 0.
+fn are_two_valid(session: &[u8], r: usize, a: u8, b: u8, limit: usize) -> bool
+    requires { ⌜ r < recordCount (now session) ⌝ }
+    ensures { λ x. ⌜ x ≡ (ltb a registers && ltb b limit && unused (from 6) (recordAt (now (session .entry)) r)) ⌝ }
+{
+    if 4 <= a {
+        return false;
+    }
+    if limit <= b as usize {
+        return false;
+    }
+    record::is_unused(session, r, 6, 16)
+}
+
+// The operands of SET.
+fn are_set_valid(session: &[u8], r: usize, a: u8, n: u32) -> bool
+    requires { ⌜ r < recordCount (now session) ⌝ }
+    ensures { λ x. ⌜ x ≡ operandsValid 0 0 (recordAt (now (session .entry)) r) (Step.Set a n) ⌝ }
+{
+    if 4 <= a {
+        return false;
+    }
+    if record::is_unused(session, r, 5, 8) {
+        record::is_unused(session, r, 12, 16)
+    } else {
+        false
+    }
+}
+
+// The operands of SEND, among so many objects.
+fn are_send_valid(session: &[u8], r: usize, objects: usize, a: u8, b: u8, c: u8) -> bool
+    requires { ⌜ r < recordCount (now session) ⌝ }
+    ensures { λ x. ⌜ x ≡ operandsValid objects 0 (recordAt (now (session .entry)) r) (Step.Send a b c) ⌝ }
+{
+    if 4 <= a {
+        return false;
+    }
+    if 16 <= b {
+        return false;
+    }
+    if objects <= c as usize {
+        return false;
+    }
+    record::is_unused(session, r, 7, 16)
+}
+
+// The operands of QUIT.
+fn are_quit_valid(session: &[u8], r: usize, a: u8) -> bool
+    requires { ⌜ r < recordCount (now session) ⌝ }
+    ensures { λ x. ⌜ x ≡ operandsValid 0 0 (recordAt (now (session .entry)) r) (Step.Quit a) ⌝ }
+{
+    if 4 <= a {
+        return false;
+    }
+    record::is_unused(session, r, 5, 16)
+}
+
+// The operands of a step in record `r`, among so many objects and in a method of `count` steps.
+fn are_operands_valid(session: &[u8], r: usize, objects: usize, count: usize, step: Step) -> bool
+    requires { ⌜ (r < recordCount (now session)) × (count ≤ 256) ⌝ }
+    ensures { λ x. ⌜ x ≡ operandsValid objects count (recordAt (now (session .entry)) r) step ⌝ }
+{
+    match step {
+        Step::End => false,
+        Step::Set { a, n } => are_set_valid(session, r, a, n),
+        Step::Add { a, b } => are_two_valid(session, r, a, b, 4),
+        Step::Jump { a, b } => are_two_valid(session, r, a, b, count + 1),
+        Step::Read { a, b } => are_two_valid(session, r, a, b, 3),
+        Step::Write { a, b } => are_two_valid(session, r, a, b, 3),
+        Step::Send { a, b, c } => are_send_valid(session, r, objects, a, b, c),
+        Step::Quit { a } => are_quit_valid(session, r, a),
+    }
+}
+
+// Whether the step in record `r` is valid among so many objects and in a method of `count` steps.
+fn is_valid(session: &[u8], r: usize, objects: usize, count: usize) -> bool
+    requires { ⌜ (r < recordCount (now session)) × (count ≤ 256) ⌝ }
+    ensures { λ x. ⌜ x ≡ stepValid objects count (recordAt (now (session .entry)) r) ⌝ }
+{
+    if objects <= record::byte_at(session, r, 1) as usize {
+        return false;
+    }
+    if 16 <= record::byte_at(session, r, 2) {
+        return false;
+    }
+    are_operands_valid(session, r, objects, count, record::step_in(session, r))
+}
+
+// Whether (object, name) never falls over the steps from record `first` up to `end`.
+fn do_keys_rise(session: &[u8], first: usize, end: usize) -> bool
+    requires { ⌜ (first ≤ end) × (end ≤ recordCount (now session)) ⌝ }
+    ensures { λ x. ⌜ x ≡ risingFrom keyOf 0 (recordsFrom (now (session .entry)) first (end - first)) ⌝ }
+{
+    let mut low = 0;
+    for r in first..end {
+        let key = key_at(session, r);
+        if key < low {
+            return false;
+        }
+        low = key;
+    }
+    true
+}
+
+// The first record after `r` and before `end` that is of another method than `r`, or `end`.
+fn method_end(session: &[u8], r: usize, end: usize) -> usize
+    requires { ⌜ (r < end) × (end ≤ recordCount (now session)) ⌝ }
+    ensures { λ x. ⌜ x ≡ methodEnd (now (session .entry)) r end ⌝ }
+{
+    let key = key_at(session, r);
+    for i in r + 1..end {
+        if key_at(session, i) != key {
+            return i;
+        }
+    }
+    end
+}
+
+// Whether the steps of one method, from record `first` up to `end`, are valid among so many objects.
+fn is_method_valid(session: &[u8], first: usize, end: usize, objects: usize) -> bool
+    requires { ⌜ (first ≤ end) × (end ≤ first + 16) × (end ≤ recordCount (now session)) ⌝ }
+    ensures { λ x. ⌜ x ≡ every (stepValid objects (end - first)) (recordsFrom (now (session .entry)) first (end - first)) ⌝ }
+{
+    for r in first..end {
+        if !is_valid(session, r, objects, end - first) {
+            return false;
+        }
+    }
+    true
+}
+
+// Whether the steps from record `first` up to `end`, whose (object, name) never falls, are valid in
+// their methods.
+fn are_methods_valid(session: &[u8], first: usize, end: usize, objects: usize) -> bool
+    requires { ⌜ (first ≤ end) × (end ≤ recordCount (now session)) ⌝ }
+    requires { ⌜ risingFrom keyOf 0 (recordsFrom (now session) first (end - first)) ≡ true ⌝ }
+    ensures { λ x. ⌜ x ≡ methodsValid objects (recordsFrom (now (session .entry)) first (end - first)) ⌝ }
+{
+    let mut at = first;
+    while at < end {
+        let next = method_end(session, at, end);
+        if 16 < next - at {
+            return false;
+        }
+        if !is_method_valid(session, at, next, objects) {
+            return false;
+        }
+        at = next;
+    }
+    true
+}
+
+// Question 7, of the steps from record `first` up to `end`.
+pub fn are_valid(session: &[u8], first: usize, end: usize, objects: usize) -> bool
+    requires { ⌜ (first ≤ end) × (end ≤ recordCount (now session)) ⌝ }
+    ensures { λ x. ⌜ x ≡ scriptsValid objects (recordsFrom (now (session .entry)) first (end - first)) ⌝ }
+{
+    if do_keys_rise(session, first, end) {
+        are_methods_valid(session, first, end, objects)
+    } else {
+        false
+    }
+}
