@@ -47,12 +47,16 @@ question4 s = isOrdered (masksOf s)
 abbrev pub question5 : List ℕ → Bool
 question5 s = isJoined (masksOf s)
 
+-- field k holds a number, or is NIL and 0
+abbrev pub fieldValid : Record → ℕ → Bool
+fieldValid rec k = holds rec k || unused (between (4 + 4 * k) (4 + 4 * k + 4)) rec
+
 -- an object's level present, its mask below 8, each NIL field 0
 unfoldable pub objectValid : ℕ → Record → Bool
 objectValid levels rec =
     ltb (levelByte rec) levels
     && ltb (byteOf rec 3) (2 ^ fields)
-    && all fields (λ k. holds rec k || unused (between (4 + 4 * k) (8 + 4 * k)) rec)
+    && all fields (fieldValid rec)
 
 -- 6. Is each object's level present, its mask below 8, each NIL field 0?
 unfoldable pub question6 : List ℕ → Bool

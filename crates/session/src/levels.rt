@@ -31,7 +31,7 @@ fn is_padded(session: &[u8], count: usize) -> bool
     ensures { λ x. ⌜ x ≡ all count (λ i. unused (from 3) (recordAt (now (session .entry)) i)) ⌝ }
 {
     for i in 0..count {
-        if !record::is_unused(session, i, 3, 16) {
+        if !record::is_unused(session, i, 3) {
             return false;
         }
     }

@@ -1,22 +1,21 @@
 // Question 6: the objects.
 use crate::record;
 ghost use mathlib.Core.Path.{_≡_};
-ghost use mathlib.Core.Bool.{_||_};
-ghost use Prim.Native.Nat.{_+_, _*_, _≤_, _<_};
+ghost use Prim.Native.Nat.{_+_, _≤_, _<_};
 ghost use Rattle.lattice.specs.Range.{all};
-ghost use Rattle.session.specs.Record.{recordAt, recordCount, holds, unused, between};
-ghost use Rattle.session.specs.Questions.{objectValid};
+ghost use Rattle.session.specs.Record.{recordAt, recordCount};
+ghost use Rattle.session.specs.Questions.{fieldValid, objectValid};
 
 // Whether field `k` of the object in record `r` holds a number, or is NIL with its bytes 0.
 fn is_field_valid(session: &[u8], r: usize, k: usize) -> bool
     requires { ⌜ (r < recordCount (now session)) × (k < 3) ⌝ }
-    ensures { λ x. ⌜ x ≡ (holds (recordAt (now (session .entry)) r) k || unused (between (4 + 4 * k) (8 + 4 * k)) (recordAt (now (session .entry)) r)) ⌝ }
+    ensures { λ x. ⌜ x ≡ fieldValid (recordAt (now (session .entry)) r) k ⌝ }
 {
     let mask = record::byte_at(session, r, 3);
     if (mask >> k) % 2 == 1 {
         true
     } else {
-        record::is_unused(session, r, 4 + 4 * k, 8 + 4 * k)
+        record::is_word_unused(session, r, 4 + 4 * k)
     }
 }
 

@@ -15,7 +15,7 @@ fn is_parameter_valid(session: &[u8], r: usize) -> bool
     if record::byte_at(session, r, 3) == 1 {
         true
     } else {
-        record::is_unused(session, r, 4, 8)
+        record::is_word_unused(session, r, 4)
     }
 }
 
@@ -36,5 +36,5 @@ pub fn is_valid(session: &[u8], r: usize, objects: usize) -> bool
     if !is_parameter_valid(session, r) {
         return false;
     }
-    record::is_unused(session, r, 8, 16)
+    record::is_unused(session, r, 8)
 }

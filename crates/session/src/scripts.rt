@@ -32,7 +32,7 @@ fn are_two_valid(session: &[u8], r: usize, a: u8, b: u8, limit: usize) -> bool
     if limit <= b as usize {
         return false;
     }
-    record::is_unused(session, r, 6, 16)
+    record::is_unused(session, r, 6)
 }
 
 // The operands of SET.
@@ -43,8 +43,8 @@ fn are_set_valid(session: &[u8], r: usize, a: u8, n: u32) -> bool
     if 4 <= a {
         return false;
     }
-    if record::is_unused(session, r, 5, 8) {
-        record::is_unused(session, r, 12, 16)
+    if record::are_unused(session, r, 5, 8) {
+        record::is_word_unused(session, r, 12)
     } else {
         false
     }
@@ -64,7 +64,7 @@ fn are_send_valid(session: &[u8], r: usize, objects: usize, a: u8, b: u8, c: u8)
     if objects <= c as usize {
         return false;
     }
-    record::is_unused(session, r, 7, 16)
+    record::is_unused(session, r, 7)
 }
 
 // The operands of QUIT.
@@ -75,7 +75,7 @@ fn are_quit_valid(session: &[u8], r: usize, a: u8) -> bool
     if 4 <= a {
         return false;
     }
-    record::is_unused(session, r, 5, 16)
+    record::is_unused(session, r, 5)
 }
 
 // The operands of a step in record `r`, among so many objects and in a method of `count` steps.

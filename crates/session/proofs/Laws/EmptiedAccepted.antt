@@ -12,8 +12,9 @@ use Rattle.lattice.specs.Table.{bit}
 use Rattle.lattice.proofs.Laws.Range.{and-left, and-right, and-both, implies-when, all-every}
 use Rattle.session.specs.Lists.{every, select, risingFrom, countsFrom}
 use Rattle.session.specs.Record.{Record, recordsOf, byteOf, unused, between, kindOf, numberOf, levelByte, nameOf}
+use Rattle.session.specs.Record
 use Rattle.session.specs.Parts.{ofKind, objectRecords, stepRecords, rootRecords, levelCount, objectCount, stepCount, keyOf, methodRecords}
-use Rattle.session.specs.Questions.{question1, kindsRise, question2, question3, question4, question5, question6, question7, question8, objectValid, scriptValid, scriptsValid, verdictOf}
+use Rattle.session.specs.Questions.{fieldValid, question1, kindsRise, question2, question3, question4, question5, question6, question7, question8, objectValid, scriptValid, scriptsValid, verdictOf}
 use Rattle.session.specs.Emptied.{stays, blanked, emptied}
 use Rattle.session.specs.declared.Verdict.the-variants.{Accepted}
 use Rattle.session.proofs.Laws.Lists.{holds, fails, truth, every-select, select-passes, select-length}
@@ -35,9 +36,9 @@ zero-unused a e rec z =
 zero-valid : (levels : ℕ) (rec : Record) → ltb (levelByte rec) levels ≡ true → ((k : ℕ) → 3 ≤ k → byteOf rec k ≡ 0) → objectValid levels rec ≡ true
 unfolding objectValid
 zero-valid levels rec l z =
-    rw (l, z 3 (omega arith))
-    (all-every 3 (λ k. bit 0 k || unused (between (4 + 4 * k) (8 + 4 * k)) rec)
-    (λ k h. rw (zero-unused (4 + 4 * k) (8 + 4 * k) rec (λ j g. z j (omega arith))) (or-true (bit 0 k))))
+    and-both _ _ (and-both _ _ l (rw (z 3 (omega arith))))
+    (all-every 3 (fieldValid rec) λ k h.
+      rw (zero-unused (4 + 4 * k) (4 + 4 * k + 4) rec (λ j g. z j (omega arith))) (or-true (Record.holds rec k)))
 
 level-present : (levels : ℕ) (rec : Record) → objectValid levels rec ≡ true → ltb (levelByte rec) levels ≡ true
 unfolding objectValid

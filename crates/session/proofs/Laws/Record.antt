@@ -4,17 +4,18 @@ use mathlib.Core.Path.{_≡_, refl, sym, _∙_, ap}
 use mathlib.Core.Bool.{Bool, true, false, _&&_, _||_}
 use mathlib.Core.List.{List, [], _∷_}
 use mathlib.Core.Logic.{_⊎_, inl, inr}
+use native.Mathlib.Nat.{add-zero}
 use native.Mathlib.Decide.{decLt}
 use native.Mathlib.Omega.{arith}
-use borrow.Author.Tests.{leb-true, ltb-true, eqb-true, le-leb, lt-ltb, eq-eqb, ne-eqb}
+use borrow.Author.Tests.{leb-true, ltb-true, eqb-true, eqb-false, le-leb, lt-ltb, eq-eqb, ne-eqb}
 use lib.Dec.{eqb, leb, ltb}
 use lib.ListN.{length, getD, List·getD-eq-default}
 use lib.Seq.{getD-take, getD-drop}
 use Rattle.lattice.specs.Range.{implies, all}
-use Rattle.lattice.proofs.Laws.Range.{and-left, and-right, and-both, and-fails-left, and-fails-right, implies-then, implies-when, implies-left, implies-fails, all-each, all-every, all-fails, all-both}
+use Rattle.lattice.proofs.Laws.Range.{refuted, not-both, and-left, and-right, and-both, and-fails-left, and-fails-right, implies-then, implies-when, implies-left, implies-fails, all-each, all-every, all-fails, all-both}
 use Rattle.session.specs.Limits.{recordBytes}
-use Rattle.session.specs.Record.{Record, recordAt, recordCount, recordsOf, recordsFrom, byteOf, wordOf, unused, between, operations, stepOf}
-use Rattle.session.proofs.Laws.Lists.{length-tab, getD-tab}
+use Rattle.session.specs.Record.{Record, recordAt, recordCount, recordsOf, recordsFrom, byteOf, wordOf, unused, between, from, operations, stepOf}
+use Rattle.session.proofs.Laws.Lists.{Truth, holds, fails, truth, length-tab, getD-tab}
 use Rattle.session.specs.declared.Step.{Step}
 use Rattle.session.specs.declared.Step.the-variants.{End, Set, Add, Jump, Read, Write, Send, Quit}
 
@@ -80,6 +81,52 @@ unused-or p q rec = all-both recordBytes _ _ _ (λ k. or-implies (p k) (q k) (eq
     or-implies true false true = refl
     or-implies true false false = refl
     or-implies false b c = refl
+
+-- a range of bytes is unused where its two parts are
+pub unused-split : (a m e : ℕ) (rec : Record) → a ≤ m → m ≤ e → e ≤ recordBytes
+    → unused (between a e) rec ≡ (unused (between a m) rec && unused (between m e) rec)
+unused-split a m e rec h l n = elim (truth (unused (between a e) rec)) [
+    holds t ↦
+      t ∙ sym (and-both (unused (between a m) rec) (unused (between m e) rec)
+      (unused-every a m rec λ k g q. unused-each a e rec t n k g (omega arith))
+      (unused-every m e rec λ k g q. unused-each a e rec t n k (omega arith) q))
+  | fails t ↦
+      t ∙ sym (refuted (unused (between a m) rec && unused (between m e) rec) λ u.
+        not-both (unused (between a e) rec)
+        (unused-every a e rec λ k g q. elim (decLt k m) [
+            yes d ↦ unused-each a m rec (and-left (unused (between a m) rec) (unused (between m e) rec) u) (omega arith) k g d
+          | no d ↦ unused-each m e rec (and-right (unused (between a m) rec) (unused (between m e) rec) u) n k (omega arith) q ]) t) ]
+
+pub unused-from : (a : ℕ) (rec : Record) → a ≤ 8 → unused (from a) rec ≡ (unused (between a 8) rec && (unused (between 8 12) rec && unused (between 12 16) rec))
+unused-from a rec h =
+    unused-split a 8 16 rec h (omega arith) (omega arith)
+    ∙ ap (λ t. unused (between a 8) rec && t) (unused-split 8 12 16 rec (omega arith) (omega arith) (omega arith))
+
+-- four bytes are unused where their number is 0
+word-bytes : (rec : Record) (k : ℕ) → wordOf rec k ≡ 0 → (d : ℕ) → d < 4 → byteOf rec (k + d) ≡ 0
+unfolding wordOf
+word-bytes rec k e zero h = rw (add-zero k) (omega arith)
+word-bytes rec k e (suc zero) h = omega arith
+word-bytes rec k e (suc (suc zero)) h = omega arith
+word-bytes rec k e (suc (suc (suc zero))) h = omega arith
+word-bytes rec k e (suc (suc (suc (suc d)))) h = absurd (omega arith)
+
+bytes-word : (rec : Record) (k : ℕ) → byteOf rec k ≡ 0 → byteOf rec (k + 1) ≡ 0 → byteOf rec (k + 2) ≡ 0 → byteOf rec (k + 3) ≡ 0 → wordOf rec k ≡ 0
+unfolding wordOf
+bytes-word rec k b0 b1 b2 b3 = rw (b0, b1, b2, b3)
+
+pub word-unused : (rec : Record) (k : ℕ) → k + 4 ≤ recordBytes → eqb (wordOf rec k) 0 ≡ unused (between k (k + 4)) rec
+word-unused rec k h = elim (truth (eqb (wordOf rec k) 0)) [
+    holds e ↦
+      e ∙ sym (unused-every k (k + 4) rec λ j l m.
+        let z : k + (j - k) ≡ j = omega arith in
+        rw z at (word-bytes rec k (eqb-true (wordOf rec k) 0 e) (j - k) (omega arith)))
+  | fails e ↦
+      e ∙ sym (refuted (unused (between k (k + 4)) rec) λ t.
+        let zero-at : (j : ℕ) → k ≤ j → j < k + 4 → byteOf rec j ≡ 0 = unused-each k (k + 4) rec t h in
+        eqb-false (wordOf rec k) 0 e
+        (bytes-word rec k (zero-at k (omega arith) (omega arith)) (zero-at (k + 1) (omega arith) (omega arith))
+         (zero-at (k + 2) (omega arith) (omega arith)) (zero-at (k + 3) (omega arith) (omega arith)))) ]
 
 -- a number that is none of 1 to 7
 pub no-operation : (x : ℕ)

@@ -16,20 +16,14 @@ cast-if1 c = search needs
 shr-if1 : tie.Need-shr-if1
 shr-if1 c = search needs
 
-mul-is-unused : tie.Need-mul-is-unused
-mul-is-unused c = search needs
+mul-is-word-unused : tie.Need-mul-is-word-unused
+mul-is-word-unused c = search needs
 
-add-is-unused : tie.Need-add-is-unused
-add-is-unused c = search needs
+add-is-word-unused : tie.Need-add-is-word-unused
+add-is-word-unused c = search needs
 
-mul-is-unused-2 : tie.Need-mul-is-unused-2
-mul-is-unused-2 c = search needs
-
-add-is-unused-2 : tie.Need-add-is-unused-2
-add-is-unused-2 c = search needs
-
-is-unused-requires : tie.Need-is-unused-requires
-is-unused-requires c κs = search needs
+is-word-unused-requires : tie.Need-is-word-unused-requires
+is-word-unused-requires c κs = search needs
 
 returns : tie.Need-returns
 returns c =
@@ -41,7 +35,7 @@ returns-2 : tie.Need-returns-2
 returns-2 c =
     let g = c .before .before .before .before .args in
     let h : holds (recordAt (g .session .now) (g .r)) (g .k) ≡ false = ne-eqb _ 1 (rw (c .before .before .byte-at .ensures) at (c .before .if1 .left)) in
-    rw h (c .is-unused .ensures)
+    rw h (c .is-word-unused .ensures)
 
 pub is-field-valid-spec : {M : Type 1} → statement M
 is-field-valid-spec =
@@ -50,10 +44,8 @@ is-field-valid-spec =
     byte-at-requires
     cast-if1
     shr-if1
-    mul-is-unused
-    add-is-unused
-    mul-is-unused-2
-    add-is-unused-2
-    is-unused-requires
+    mul-is-word-unused
+    add-is-word-unused
+    is-word-unused-requires
     returns
     returns-2)

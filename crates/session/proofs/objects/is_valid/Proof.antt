@@ -1,21 +1,17 @@
 -- `session::objects::is_valid` meets its contract. The invariant: the fields passed hold a number, or are NIL with their bytes 0. Assumes nothing.
-use Prim.Native.Nat.{ℕ, _+_, _*_, _≤_, _<_, _-_}
+use Prim.Native.Nat.{ℕ, _≤_, _<_, _-_}
 use mathlib.Core.Path.{_≡_, sym, _∙_}
-use mathlib.Core.Bool.{Bool, true, false, _&&_, _||_}
+use mathlib.Core.Bool.{true, false, _&&_}
 use native.Mathlib.Omega.{arith}
 use borrow.Author.Count.{below-none, below-more}
 use borrow.Author.Needs.{needs}
 use borrow.Author.Tests.{not-true, not-false, lt-ltb, le-ltb}
 use lib.Dec.{ltb}
 use Rattle.lattice.proofs.Laws.Range.{and-both, and-fails-left, and-fails-right, all-every, all-fails}
-use Rattle.session.specs.Record.{Record, recordAt, holds, unused, between, byteOf, levelByte}
-use Rattle.session.specs.Questions.{objectValid}
+use Rattle.session.specs.Record.{Record, recordAt, byteOf, levelByte}
+use Rattle.session.specs.Questions.{fieldValid, objectValid}
 use Rattle.session.proofs.objects.is_valid.Statement.{statement}
 use Rattle.session.proofs.objects.is_valid.Tie as tie
-
--- a field holds a number, or is NIL with its bytes 0
-abbrev fieldValid : Record → ℕ → Bool
-fieldValid rec k = holds rec k || unused (between (4 + 4 * k) (8 + 4 * k)) rec
 
 -- what refuses an object, and what it takes
 module _ (levels : ℕ) (rec : Record) where

@@ -12,23 +12,23 @@ returns : tie.Need-returns
 unfolding operandsValid
 returns c = simp (le-ltb _ _ (c .if1 .taken))
 
-is-unused-requires : tie.Need-is-unused-requires
-is-unused-requires c κs = search needs
+are-unused-requires : tie.Need-are-unused-requires
+are-unused-requires c κs = search needs
 
-is-unused-requires-2 : tie.Need-is-unused-requires-2
-is-unused-requires-2 c κs = search needs
+is-word-unused-requires : tie.Need-is-word-unused-requires
+is-word-unused-requires c κs = search needs
 
 returns-2 : tie.Need-returns-2
 unfolding operandsValid
 returns-2 c =
-    simp (lt-ltb _ _ (c .before .before .before .if1 .left), unused-or (between 5 8) (from 12), sym (c .before .before .is-unused .ensures) ∙ c .before .if2 .taken)
-    (c .is-unused2 .ensures)
+    simp (lt-ltb _ _ (c .before .before .before .if1 .left), unused-or (between 5 8) (from 12), sym (c .before .before .are-unused .ensures) ∙ c .before .if2 .taken)
+    (c .is-word-unused .ensures)
 
 returns-3 : tie.Need-returns-3
 unfolding operandsValid
 returns-3 c =
-    simp (lt-ltb _ _ (c .before .before .if1 .left), unused-or (between 5 8) (from 12), sym (c .before .is-unused .ensures) ∙ c .if2 .left)
+    simp (lt-ltb _ _ (c .before .before .if1 .left), unused-or (between 5 8) (from 12), sym (c .before .are-unused .ensures) ∙ c .if2 .left)
 
 pub are-set-valid-spec : {M : Type 1} → statement M
 are-set-valid-spec =
-    tie.close (tie.spec returns is-unused-requires is-unused-requires-2 returns-2 returns-3)
+    tie.close (tie.spec returns are-unused-requires is-word-unused-requires returns-2 returns-3)
