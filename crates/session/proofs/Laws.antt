@@ -10,3 +10,4 @@ pub mod EmptiedAccepted
 pub mod Scripts
 pub mod Fill
 pub mod Numbering
+pub mod Contents

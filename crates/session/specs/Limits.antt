@@ -33,3 +33,7 @@ registers = 4
 
 abbrev pub fields : ℕ
 fields = 3
+
+-- the methods that a session can have, one for each object and name
+abbrev pub maxMethods : ℕ
+maxMethods = 512

@@ -28,7 +28,7 @@ pub fn kinds_rise(session: &[u8]) -> bool
 }
 
 // How many records have a kind below `kind`, at least `start` of them. They stand first.
-fn count_below(session: &[u8], start: usize, kind: u8) -> usize
+pub fn count_below(session: &[u8], start: usize, kind: u8) -> usize
     requires { ⌜ kindsRise (now session) ≡ true ⌝ }
     requires { ⌜ start ≤ countBelow kindOf kind (recordsOf (now session)) ⌝ }
     ensures { λ x. ⌜ x ≡ countBelow kindOf kind (recordsOf (now (session .entry))) ⌝ }

@@ -1,4 +1,5 @@
 // Sessions: the 16-byte records of document 01, its questions 1 to 8, and what an accepted session says.
+pub mod contents;
 mod kinds;
 mod levels;
 mod objects;
@@ -18,6 +19,13 @@ ghost use Rattle.session.specs.Questions.{kindsRise, question1, question
 pub enum Value {
     Nil,
     Number(u32),
+}
+
+// A message: the object that it is sent to, its name and its parameter.
+pub struct Message {
+    pub object: u8,
+    pub name: u8,
+    pub parameter: Value,
 }
 
 // One step of a script. `a` is a register; `b` is a register, a step number, a field or a message

@@ -56,6 +56,13 @@ module _ {A : Type 0} where
   select-swap p q xs =
       select-select p q xs ∙ ap (λ r. select r xs) (fun-ext (λ x. and-comm (q x) (p x))) ∙ sym (select-select q p xs)
 
+  -- two tests that agree on each element choose the same
+  pub select-same : (p q r : A → Bool) → ((x : A) → r x ≡ true → p x ≡ q x) → (xs : List A) → every r xs ≡ true → select p xs ≡ select q xs
+  unfolding every select
+  select-same p q r f [] e = refl
+  select-same p q r f (x ∷ xs) e =
+      rw (f x (and-left (r x) (every r xs) e), select-same p q r f xs (and-right (r x) (every r xs) e))
+
   -- a test that follows from another, and two tests that both pass
   pub every-then : (p q : A → Bool) → ((x : A) → p x ≡ true → q x ≡ true) → (xs : List A) → every p xs ≡ true → every q xs ≡ true
   unfolding every

@@ -38,7 +38,7 @@ unfolding objectValid
 zero-valid levels rec l z =
     and-both _ _ (and-both _ _ l (rw (z 3 (omega arith))))
     (all-every 3 (fieldValid rec) λ k h.
-      rw (zero-unused (4 + 4 * k) (4 + 4 * k + 4) rec (λ j g. z j (omega arith))) (or-true (Record.holds rec k)))
+    rw (zero-unused (4 + 4 * k) (4 + 4 * k + 4) rec (λ j g. z j (omega arith))) (or-true (Record.holds rec k)))
 
 level-present : (levels : ℕ) (rec : Record) → objectValid levels rec ≡ true → ltb (levelByte rec) levels ≡ true
 unfolding objectValid

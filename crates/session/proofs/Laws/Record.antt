@@ -14,7 +14,8 @@ use lib.Seq.{getD-take, getD-drop}
 use Rattle.lattice.specs.Range.{implies, all}
 use Rattle.lattice.proofs.Laws.Range.{refuted, not-both, and-left, and-right, and-both, and-fails-left, and-fails-right, implies-then, implies-when, implies-left, implies-fails, all-each, all-every, all-fails, all-both}
 use Rattle.session.specs.Limits.{recordBytes}
-use Rattle.session.specs.Record.{Record, recordAt, recordCount, recordsOf, recordsFrom, byteOf, wordOf, unused, between, from, operations, stepOf}
+use Rattle.session.specs.Record.{Record, recordAt, recordCount, recordsOf, recordsFrom, byteOf, wordOf, unused, between, from, operations, stepOf, holds as has, fieldIn, parameterOf}
+use Rattle.session.specs.declared.Value.the-variants.{Nil, Number}
 use Rattle.session.proofs.Laws.Lists.{Truth, holds, fails, truth, length-tab, getD-tab}
 use Rattle.session.specs.declared.Step.{Step}
 use Rattle.session.specs.declared.Step.the-variants.{End, Set, Add, Jump, Read, Write, Send, Quit}
@@ -86,16 +87,18 @@ unused-or p q rec = all-both recordBytes _ _ _ (λ k. or-implies (p k) (q k) (eq
 pub unused-split : (a m e : ℕ) (rec : Record) → a ≤ m → m ≤ e → e ≤ recordBytes
     → unused (between a e) rec ≡ (unused (between a m) rec && unused (between m e) rec)
 unused-split a m e rec h l n = elim (truth (unused (between a e) rec)) [
-    holds t ↦
+  | holds t ↦
       t ∙ sym (and-both (unused (between a m) rec) (unused (between m e) rec)
       (unused-every a m rec λ k g q. unused-each a e rec t n k g (omega arith))
       (unused-every m e rec λ k g q. unused-each a e rec t n k (omega arith) q))
   | fails t ↦
       t ∙ sym (refuted (unused (between a m) rec && unused (between m e) rec) λ u.
-        not-both (unused (between a e) rec)
-        (unused-every a e rec λ k g q. elim (decLt k m) [
-            yes d ↦ unused-each a m rec (and-left (unused (between a m) rec) (unused (between m e) rec) u) (omega arith) k g d
-          | no d ↦ unused-each m e rec (and-right (unused (between a m) rec) (unused (between m e) rec) u) n k (omega arith) q ]) t) ]
+      not-both (unused (between a e) rec)
+      (unused-every a e rec λ k g q. elim (decLt k m) [
+        | yes d ↦ unused-each a m rec (and-left (unused (between a m) rec) (unused (between m e) rec) u) (omega arith) k g d
+        | no d ↦ unused-each m e rec (and-right (unused (between a m) rec) (unused (between m e) rec) u) n k (omega arith) q
+      ]) t)
+]
 
 pub unused-from : (a : ℕ) (rec : Record) → a ≤ 8 → unused (from a) rec ≡ (unused (between a 8) rec && (unused (between 8 12) rec && unused (between 12 16) rec))
 unused-from a rec h =
@@ -117,16 +120,31 @@ bytes-word rec k b0 b1 b2 b3 = rw (b0, b1, b2, b3)
 
 pub word-unused : (rec : Record) (k : ℕ) → k + 4 ≤ recordBytes → eqb (wordOf rec k) 0 ≡ unused (between k (k + 4)) rec
 word-unused rec k h = elim (truth (eqb (wordOf rec k) 0)) [
-    holds e ↦
+  | holds e ↦
       e ∙ sym (unused-every k (k + 4) rec λ j l m.
-        let z : k + (j - k) ≡ j = omega arith in
-        rw z at (word-bytes rec k (eqb-true (wordOf rec k) 0 e) (j - k) (omega arith)))
+      let z : k + (j - k) ≡ j = omega arith in
+      rw z at (word-bytes rec k (eqb-true (wordOf rec k) 0 e) (j - k) (omega arith)))
   | fails e ↦
       e ∙ sym (refuted (unused (between k (k + 4)) rec) λ t.
-        let zero-at : (j : ℕ) → k ≤ j → j < k + 4 → byteOf rec j ≡ 0 = unused-each k (k + 4) rec t h in
-        eqb-false (wordOf rec k) 0 e
-        (bytes-word rec k (zero-at k (omega arith) (omega arith)) (zero-at (k + 1) (omega arith) (omega arith))
-         (zero-at (k + 2) (omega arith) (omega arith)) (zero-at (k + 3) (omega arith) (omega arith)))) ]
+      let zero-at : (j : ℕ) → k ≤ j → j < k + 4 → byteOf rec j ≡ 0 = unused-each k (k + 4) rec t h in
+      eqb-false (wordOf rec k) 0 e
+      (bytes-word rec k (zero-at k (omega arith) (omega arith)) (zero-at (k + 1) (omega arith) (omega arith))
+      (zero-at (k + 2) (omega arith) (omega arith)) (zero-at (k + 3) (omega arith) (omega arith))))
+]
+
+-- the values that are read off a record: a field's and the parameter's
+module _ (rec : Record) where
+  pub field-number : (k w : ℕ) → has rec k ≡ true → w ≡ wordOf rec (4 + 4 * k) → Number w ≡ fieldIn rec k
+  field-number k w h e = rw (h, e)
+
+  pub field-nil : (k : ℕ) → has rec k ≡ false → Nil ≡ fieldIn rec k
+  field-nil k h = rw h
+
+  pub parameter-number : (w : ℕ) → byteOf rec 3 ≡ 1 → w ≡ wordOf rec 4 → Number w ≡ parameterOf rec
+  parameter-number w h e = rw (h, e)
+
+  pub parameter-nil : (byteOf rec 3 ≡ 1 → ⊥) → Nil ≡ parameterOf rec
+  parameter-nil h = rw (ne-eqb (byteOf rec 3) 1 h)
 
 -- a number that is none of 1 to 7
 pub no-operation : (x : ℕ)

@@ -108,6 +108,23 @@ module _ {A : Type 0} (f : A → ℕ) where
     | more l ↦ rw (select-no (λ y. ltb (f y) (suc k)) x xs (le-ltb (f x) (suc k) l), select-no (λ y. ltb (f y) k) x xs (le-ltb (f x) k (omega arith)), select-no (λ y. eqb (f y) k) x xs (ne-eqb (f x) k (omega arith))) (count-more k xs)
   ]
 
+  -- no fewer are below a greater number
+  pub count-mono : (j k : ℕ) → j ≤ k → (xs : List A) → countBelow f j xs ≤ countBelow f k xs
+  count-mono j k h [] = unfold select in omega arith
+  count-mono j k h (x ∷ xs) = elim (decLt (f x) j) [
+    | yes l ↦
+        rw (select-yes (λ y. ltb (f y) j) x xs (lt-ltb (f x) j l), select-yes (λ y. ltb (f y) k) x xs (lt-ltb (f x) k (omega arith)))
+        (omega (arith, count-mono j k h xs))
+    | no g ↦ elim (decLt (f x) k) [
+      | yes l ↦
+          rw (select-no (λ y. ltb (f y) j) x xs (le-ltb (f x) j (omega arith)), select-yes (λ y. ltb (f y) k) x xs (lt-ltb (f x) k l))
+          (omega (arith, count-mono j k h xs))
+      | no m ↦
+          rw (select-no (λ y. ltb (f y) j) x xs (le-ltb (f x) j (omega arith)), select-no (λ y. ltb (f y) k) x xs (le-ltb (f x) k (omega arith)))
+          (count-mono j k h xs)
+    ]
+  ]
+
   -- the elements at k stand right after those below it, in their order
   pub among-at : (d : A) (k b : ℕ) (xs : List A) → risingFrom f b xs ≡ true → (j : ℕ) → j < length (among k xs) → getD (among k xs) j d ≡ getD xs (countBelow f k xs + j) d
   among-at d k b [] e j h = absurd (unfold select in omega arith)

@@ -1,0 +1,40 @@
+-- `session::contents::level_of` meets its contract. Assumes nothing.
+use mathlib.Core.Path.{_≡_, sym, _∙_, ap}
+use Prim.Native.Nat.{_+_}
+use native.Mathlib.Omega.{arith}
+use lib.ListN.{length}
+use Rattle.session.specs.Record.{recordAt, byteOf, levelByte}
+use Rattle.session.specs.Parts.{levelCount}
+use Rattle.session.proofs.Laws.Contents.{counts, masks-length, object-record}
+use borrow.Author.Needs.{needs}
+use Rattle.session.proofs.contents.level_of.Statement.{statement}
+use Rattle.session.proofs.contents.level_of.Tie as tie
+
+add-byte-at : tie.Need-add-byte-at
+add-byte-at c =
+    let s = c .before .before in
+    let t = s .args .session .now in
+    let n : length (s .args .masks .now) ≡ levelCount t = ap length (s .pre .1) ∙ masks-length t (s .pre .0) in
+    omega (arith, counts t (s .pre .0))
+
+byte-at-requires : tie.Need-byte-at-requires
+byte-at-requires c κs =
+    let s = c .before .before in
+    let t = s .args .session .now in
+    let n : length (s .args .masks .now) ≡ levelCount t = ap length (s .pre .1) ∙ masks-length t (s .pre .0) in
+    omega (arith, counts t (s .pre .0))
+
+cast-result : tie.Need-cast-result
+cast-result c = search needs
+
+returns : tie.Need-returns
+returns c =
+    let s = c .before .before .before in
+    let t = s .args .session .now in
+    let n : length (s .args .masks .now) ≡ levelCount t = ap length (s .pre .1) ∙ masks-length t (s .pre .0) in
+    c .byte-at .ensures
+    ∙ ap (λ m. byteOf (recordAt t (m + s .args .object)) 2) n
+    ∙ ap levelByte (sym (object-record t (s .pre .0) (s .args .object) (s .pre .2)))
+
+pub level-of-spec : {M : Type 1} → statement M
+level-of-spec = tie.close (tie.spec add-byte-at byte-at-requires cast-result returns)

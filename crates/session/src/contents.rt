@@ -1,0 +1,121 @@
+// What an accepted session says: its level table, its objects, its methods and its root message.
+//
+// A run makes the level table and the method index once. With them each question below costs a few
+// reads: no record is searched for.
+use crate::Message;
+use crate::Step;
+use crate::Value;
+use crate::Verdict;
+use crate::kinds;
+use crate::levels;
+use crate::record;
+use crate::scripts;
+ghost use mathlib.Core.Path.{_≡_};
+ghost use mathlib.Core.List.{_++_};
+ghost use Prim.Native.Nat.{_+_, _≤_, _<_};
+ghost use lib.ListN.{length, drop};
+ghost use Rattle.session.specs.Limits.{maxLevels, maxMethods, names, fields};
+ghost use Rattle.session.specs.Parts.{levelCount, objectCount, stepCount, masksOf};
+ghost use Rattle.session.specs.Questions.{verdictOf};
+ghost use Rattle.session.specs.Meaning.{levelOf, fieldOf, stepAt, rootOf, methodStart, indexOf};
+
+// Writes the masks of the levels to the front of `masks`, and returns how many levels there are.
+pub fn level_table(session: &[u8], masks: &mut [u16]) -> usize
+    requires { ⌜ (verdictOf (now session) ≡ Verdict.Accepted) × (maxLevels ≤ length (now masks)) ⌝ }
+    ensures { λ r. ⌜ (r ≡ levelCount (now (session .entry))) × (now (masks .exit) ≡ masksOf (now (session .entry)) ++ drop (levelCount (now (session .entry))) (now (masks .entry))) ⌝ }
+{
+    let levels = kinds::count_below(session, 0, 2);
+    levels::fill_masks(session, levels, masks);
+    levels
+}
+
+// The record at which the method of a key starts, or would start. `at` is the last step's record
+// before it, or the first step's, and `end` is the root's.
+fn method_start(session: &[u8], at: usize, end: usize, key: usize) -> usize
+    requires { ⌜ verdictOf (now session) ≡ Verdict.Accepted ⌝ }
+    requires { ⌜ (levelCount (now session) + objectCount (now session) ≤ at) × (at ≤ methodStart (now session) key) ⌝ }
+    requires { ⌜ end ≡ levelCount (now session) + objectCount (now session) + stepCount (now session) ⌝ }
+    ensures { λ r. ⌜ r ≡ methodStart (now (session .entry)) key ⌝ }
+{
+    for r in at..end {
+        if key <= scripts::key_at(session, r) {
+            return r;
+        }
+    }
+    end
+}
+
+// Writes where each method starts to the front of `index`.
+pub fn index_methods(session: &[u8], index: &mut [u16])
+    requires { ⌜ (verdictOf (now session) ≡ Verdict.Accepted) × (maxMethods + 1 ≤ length (now index)) ⌝ }
+    ensures { λ _. ⌜ now (index .exit) ≡ indexOf (now (session .entry)) ++ drop (maxMethods + 1) (now (index .entry)) ⌝ }
+{
+    let layout = kinds::count_kinds(session);
+    let mut at = layout.levels + layout.objects;
+    let end = at + layout.steps;
+    for slot in 0..513 {
+        at = method_start(session, at, end, 256 * (slot / 16) + slot % 16);
+        index[slot] = at as u16;
+    }
+}
+
+// The level of an object.
+pub fn level_of(session: &[u8], masks: &[u16], object: usize) -> usize
+    requires { ⌜ (verdictOf (now session) ≡ Verdict.Accepted) × (now masks ≡ masksOf (now session)) × (object < objectCount (now session)) ⌝ }
+    ensures { λ r. ⌜ r ≡ levelOf (now (session .entry)) object ⌝ }
+{
+    record::byte_at(session, masks.len() + object, 2) as usize
+}
+
+// What field `k` of an object holds at first.
+pub fn field_of(session: &[u8], masks: &[u16], object: usize, k: usize) -> Value
+    requires { ⌜ (verdictOf (now session) ≡ Verdict.Accepted) × (now masks ≡ masksOf (now session)) × (object < objectCount (now session)) × (k < fields) ⌝ }
+    ensures { λ r. ⌜ r ≡ fieldOf (now (session .entry)) object k ⌝ }
+{
+    let r = masks.len() + object;
+    let mask = record::byte_at(session, r, 3);
+    if (mask >> k) % 2 == 1 {
+        Value::Number(record::word_at(session, r, 4 + 4 * k))
+    } else {
+        Value::Nil
+    }
+}
+
+// Step `j` of the method `name` of an object, or the script's end.
+pub fn step_of(session: &[u8], index: &[u16], object: usize, name: usize, j: usize) -> Step
+    requires { ⌜ (verdictOf (now session) ≡ Verdict.Accepted) × (now index ≡ indexOf (now session)) × (object < objectCount (now session)) × (name < names) ⌝ }
+    ensures { λ r. ⌜ r ≡ stepAt (now (session .entry)) object name j ⌝ }
+{
+    let slot = 16 * object + name;
+    let first = index[slot] as usize;
+    let end = index[slot + 1] as usize;
+    if j < end - first {
+        record::step_in(session, first + j)
+    } else {
+        Step::End
+    }
+}
+
+// The root message.
+pub fn root(session: &[u8]) -> Message
+    requires { ⌜ verdictOf (now session) ≡ Verdict.Accepted ⌝ }
+    ensures { λ r. ⌜ r ≡ rootOf (now (session .entry)) ⌝ }
+{
+    let r = session.len() / 16 - 1;
+    let object = record::byte_at(session, r, 1);
+    let name = record::byte_at(session, r, 2);
+    if record::byte_at(session, r, 3) == 1 {
+        let parameter = Value::Number(record::word_at(session, r, 4));
+        Message {
+            object,
+            name,
+            parameter,
+        }
+    } else {
+        Message {
+            object,
+            name,
+            parameter: Value::Nil,
+        }
+    }
+}
