@@ -7,11 +7,11 @@ use mathlib.Core.List.{List, [], _∷_}
 use Rattle.lattice.specs.Range.{all, first}
 use Rattle.lattice.specs.Order.{strictly, incomparable, reflexive, antisymmetric, transitive, isOrder}
 use Rattle.lattice.specs.Join.{isLeast, join, hasJoins}
-use Rattle.lattice.specs.Table.{dominates, namesPresent, isOrdered, joinOf, verdictOf, numberOf}
+use Rattle.lattice.specs.Table.{dominates, namesPresent, isOrdered, joinOf, verdictOf, numberOfVerdict}
 
 -- document 01's number for a table
 abbrev number : List ℕ → ℕ
-number masks = numberOf (verdictOf masks)
+number masks = numberOfVerdict (verdictOf masks)
 
 -- level 3 over 1 and 2, and these over 0
 abbrev diamond : List ℕ

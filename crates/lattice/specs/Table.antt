@@ -14,7 +14,7 @@ use Rattle.lattice.specs.declared.Verdict.the-variants.{Passed, NotOrder
 abbrev pub bit : ℕ → ℕ → Bool
 bit mask k = eqb (mask / 2 ^ k % 2) 1
 
--- "bit k is set when this level dominates level k"
+-- "bit k (worth 2^k) is set when this level dominates level k"
 unfoldable pub dominates : List ℕ → Dominance
 dominates masks i k = bit (getD masks i 0) k
 
@@ -38,8 +38,8 @@ isJoined masks = hasJoins (length masks) (dominates masks)
 unfoldable pub verdictOf : List ℕ → Verdict
 verdictOf masks = cond (isOrdered masks) (cond (isJoined masks) Passed NoJoin) NotOrdered
 
--- document 01's number of a verdict; its place is 0
-abbrev pub numberOf : Verdict → ℕ
-numberOf Passed = 0
-numberOf NotOrdered = 4
-numberOf NoJoin = 5
+-- document 01's number of a verdict. Its place is 0, as for every question put of a whole input
+abbrev pub numberOfVerdict : Verdict → ℕ
+numberOfVerdict Passed = 0
+numberOfVerdict NotOrdered = 4
+numberOfVerdict NoJoin = 5

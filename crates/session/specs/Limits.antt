@@ -1,5 +1,5 @@
 -- The numbers that document 01 fixes. Assumes nothing.
-use Prim.Native.Nat.{ℕ, _+_}
+use Prim.Native.Nat.{ℕ, _+_, _*_}
 
 -- "A record is 16 bytes"
 abbrev pub recordBytes : ℕ
@@ -17,7 +17,7 @@ maxSteps = 256
 
 -- question 1: the levels, objects and steps of question 3, and the root message
 abbrev pub maxRecords : ℕ
-maxRecords = 297
+maxRecords = maxLevels + maxObjects + maxSteps + 1
 
 -- question 7: "at most 16 steps a method"
 abbrev pub maxMethod : ℕ
@@ -36,4 +36,4 @@ fields = 3
 
 -- the methods that a session can have, one for each object and name
 abbrev pub maxMethods : ℕ
-maxMethods = 512
+maxMethods = maxObjects * names

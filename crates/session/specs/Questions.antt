@@ -1,7 +1,7 @@
 -- Questions 1 to 8 of document 01, in its order and words, and the verdict on a list of bytes. Assumes nothing.
 use Prim.Native.Nat.{ℕ, _+_, _*_, _%_, _^_}
 use mathlib.Core.Bool.{Bool, true, false, cond, _&&_, _||_}
-use mathlib.Core.List.{List, [], _∷_, _++_}
+use mathlib.Core.List.{List, [], _∷_}
 use lib.Dec.{eqb, leb, ltb}
 use lib.ListN.{length}
 use Rattle.lattice.specs.Range.{all}
@@ -119,29 +119,24 @@ unfoldable pub firstNo : List Asked → Verdict
 firstNo [] = Accepted
 firstNo (q ∷ qs) = cond (q .says) (firstNo qs) (q .refusal)
 
--- the questions that Check uses, in the order in which they are put: of the records, of the levels, of what the session says
-abbrev pub ofRecords : List ℕ → List Asked
-ofRecords s = record { says = question1 s; refusal = Length } ∷ record { says = question2 s; refusal = Kinds } ∷ []
-
-abbrev pub ofLevels : List ℕ → List Asked
-ofLevels s =
-    record { says = question3 s; refusal = Numbering }
+-- the questions that Check uses, in the order in which they are put
+abbrev pub asked : List ℕ → List Asked
+asked s =
+    record { says = question1 s; refusal = Length }
+    ∷ record { says = question2 s; refusal = Kinds }
+    ∷ record { says = question3 s; refusal = Numbering }
     ∷ record { says = question4 s; refusal = NotOrdered }
     ∷ record { says = question5 s; refusal = NoJoin }
-    ∷ []
-
-abbrev pub ofContents : List ℕ → List Asked
-ofContents s =
-    record { says = question6 s; refusal = Object }
+    ∷ record { says = question6 s; refusal = Object }
     ∷ record { says = question7 s; refusal = Script }
     ∷ record { says = question8 s; refusal = Root }
     ∷ []
 
 -- the verdict on a list of bytes
 unfoldable pub verdictOf : List ℕ → Verdict
-verdictOf s = firstNo (ofRecords s ++ (ofLevels s ++ ofContents s))
+verdictOf s = firstNo (asked s)
 
--- document 01's number of a verdict; its place is 0
+-- document 01's number of a verdict
 abbrev pub numberOfVerdict : Verdict → ℕ
 numberOfVerdict Accepted = 0
 numberOfVerdict Length = 1
@@ -152,3 +147,11 @@ numberOfVerdict NoJoin = 5
 numberOfVerdict Object = 6
 numberOfVerdict Script = 7
 numberOfVerdict Root = 8
+
+-- "An answer of no ends the call with the number shown and a place: .. otherwise 0", "All yes gives number 0, place 0"
+pub record Answer : Type 0 where
+  pub number : ℕ
+  pub place : ℕ
+
+abbrev pub answerOf : Verdict → Answer
+answerOf v = record { number = numberOfVerdict v; place = 0 }

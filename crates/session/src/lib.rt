@@ -9,11 +9,11 @@ mod scripts;
 
 ghost use mathlib.Core.Path.{_≡_};
 ghost use mathlib.Core.Bool.{true};
-ghost use mathlib.Core.List.{_++_};
+ghost use lib.ListN.{drop};
 ghost use Prim.Native.Nat.{_≤_};
 ghost use Rattle.lattice.specs.Table as table;
 ghost use Rattle.session.specs.Parts.{levelCount, Counted, masksOf};
-ghost use Rattle.session.specs.Questions.{kindsRise, question1, question2, ofLevels, ofContents, firstNo, verdictOf};
+ghost use Rattle.session.specs.Questions.{kindsRise, question1, question2, asked, firstNo, verdictOf};
 
 // A field, a register, a parameter or a reply: NIL or a number.
 pub enum Value {
@@ -68,7 +68,7 @@ pub enum Verdict {
 fn check_contents(session: &[u8], levels: usize, objects: usize, steps: usize) -> Verdict
     requires { ⌜ question2 (now session) ≡ true ⌝ }
     requires { ⌜ Counted (now session) levels objects steps ⌝ }
-    ensures { λ x. ⌜ x ≡ firstNo (ofContents (now (session .entry))) ⌝ }
+    ensures { λ x. ⌜ x ≡ firstNo (drop 5 (asked (now (session .entry)))) ⌝ }
 {
     let first = levels + objects;
     let root = first + steps;
@@ -99,7 +99,7 @@ fn check_table(session: &[u8], levels: usize) -> lattice::Verdict
 fn check_levels(session: &[u8], levels: usize, objects: usize, steps: usize) -> Verdict
     requires { ⌜ question2 (now session) ≡ true ⌝ }
     requires { ⌜ Counted (now session) levels objects steps ⌝ }
-    ensures { λ x. ⌜ x ≡ firstNo (ofLevels (now (session .entry)) ++ ofContents (now (session .entry))) ⌝ }
+    ensures { λ x. ⌜ x ≡ firstNo (drop 2 (asked (now (session .entry)))) ⌝ }
 {
     if !levels::are_numbered(session, levels, objects, steps) {
         return Verdict::Numbering;
