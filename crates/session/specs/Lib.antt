@@ -6,3 +6,4 @@ pub mod Parts
 pub mod Questions
 pub mod Meaning
 pub mod Emptied
+pub mod SessionW

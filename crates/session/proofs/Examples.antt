@@ -1,0 +1,95 @@
+-- Sessions computed by the definitions: document 01's session W and M8, W with one fault for each question, W emptied for level 0.
+-- Assumes nothing.
+use Prim.Native.Nat.{ℕ, _+_, _*_}
+use mathlib.Core.Path.{_≡_, refl}
+use mathlib.Core.List.{List, [], _∷_, _++_}
+use lib.ListN.{length, take, set}
+use Rattle.lattice.specs.Range.{all, first}
+use Rattle.lattice.specs.Order.{reflexive, antisymmetric, transitive, isOrder}
+use Rattle.lattice.specs.Join.{isLeast, join, hasJoins}
+use Rattle.lattice.specs.Table.{dominates, namesPresent, isOrdered}
+use Rattle.session.specs.Lists.{every, select, risingFrom, countsFrom, tab, joined}
+use Rattle.session.specs.Record.{recordAt, recordsOf, wordOf, unused, stepOf}
+use Rattle.session.specs.Parts.{ofKind, masksOf, methodRecords}
+use Rattle.session.specs.Questions.{question1, kindsRise, question2, question3, objectValid, question6, operandsValid, stepValid, scriptValid, scriptsValid, rootValid, firstNo, verdictOf, numberOfVerdict}
+use Rattle.session.specs.Meaning.{levelOf, fieldOf, methodOf, rootObject, rootName, rootParameter}
+use Rattle.session.specs.Emptied.{stays, blanked, emptied}
+use Rattle.session.specs.SessionW.{sessionW}
+use Rattle.session.specs.declared.Value.the-variants.{Nil, Number}
+use Rattle.session.specs.declared.Step.the-variants.{Set, Read, Write, Send, Quit}
+
+-- document 01's number for a list of bytes
+abbrev number : List ℕ → ℕ
+number s = numberOfVerdict (verdictOf s)
+
+-- W with byte k of record r changed
+abbrev with : ℕ → ℕ → ℕ → List ℕ
+with r k v = set sessionW (16 * r + k) v
+
+pub record Examples : Type 0 where
+  w : number sessionW ≡ 0
+  w-levels : masksOf sessionW ≡ 0x01 ∷ 0x03 ∷ []
+  w-level : levelOf sessionW 1 ≡ 1
+  w-field : fieldOf sessionW 0 0 ≡ Number 5
+  w-nil : fieldOf sessionW 1 0 ≡ Nil
+  w-method : methodOf sessionW 0 0 ≡ Read 0 0 ∷ Send 0 0 1 ∷ Set 1 9 ∷ Write 1 0 ∷ Quit 1 ∷ []
+  w-no-method : methodOf sessionW 1 1 ≡ []
+  w-root : rootParameter sessionW ≡ Nil
+  m8 : number [] ≡ 1
+  cut-short : number (take 239 sessionW) ≡ 1
+  root-missing : number (take 224 sessionW) ≡ 2
+  unknown-kind : number (with 14 0 5) ≡ 2
+  kinds-fall : number (with 2 0 3) ≡ 2
+  level-misnumbered : number (with 1 1 0) ≡ 3
+  level-padding : number (with 1 15 1) ≡ 3
+  own-bit-missing : number (with 1 2 0x01) ≡ 4
+  no-bound : number (with 1 2 0x02) ≡ 5
+  level-absent : number (with 2 2 2) ≡ 6
+  nil-not-0 : number (with 3 7 1) ≡ 6
+  unknown-operation : number (with 4 3 8) ≡ 7
+  jump-too-far : number (set (with 4 3 3) (16 * 4 + 5) 6) ≡ 7
+  jump-to-the-end : number (set (with 4 3 3) (16 * 4 + 5) 5) ≡ 0
+  number-unused : number (with 8 8 1) ≡ 7
+  names-fall : number (with 4 2 1) ≡ 7
+  root-absent : number (with 14 1 2) ≡ 8
+  nil-parameter-not-0 : number (with 14 4 1) ≡ 8
+  -- emptied for level 0: object 1 has no fields and no script, all else stays
+  emptied-accepted : number (emptied 0 sessionW) ≡ 0
+  emptied-length : length (emptied 0 sessionW) ≡ 16 * 12
+  emptied-method : methodOf (emptied 0 sessionW) 1 0 ≡ []
+  emptied-for-1 : emptied 1 sessionW ≡ sessionW
+
+pub examples : Examples
+unfolding all first reflexive antisymmetric transitive isOrder isLeast join hasJoins dominates namesPresent isOrdered every select risingFrom countsFrom tab joined recordAt recordsOf wordOf unused stepOf ofKind masksOf methodRecords question1 kindsRise question2 question3 objectValid question6 operandsValid stepValid scriptValid scriptsValid rootValid firstNo verdictOf stays blanked emptied sessionW
+examples =
+    record {
+      w = refl;
+      w-levels = refl;
+      w-level = refl;
+      w-field = refl;
+      w-nil = refl;
+      w-method = refl;
+      w-no-method = refl;
+      w-root = refl;
+      m8 = refl;
+      cut-short = refl;
+      root-missing = refl;
+      unknown-kind = refl;
+      kinds-fall = refl;
+      level-misnumbered = refl;
+      level-padding = refl;
+      own-bit-missing = refl;
+      no-bound = refl;
+      level-absent = refl;
+      nil-not-0 = refl;
+      unknown-operation = refl;
+      jump-too-far = refl;
+      jump-to-the-end = refl;
+      number-unused = refl;
+      names-fall = refl;
+      root-absent = refl;
+      nil-parameter-not-0 = refl;
+      emptied-accepted = refl;
+      emptied-length = refl;
+      emptied-method = refl;
+      emptied-for-1 = refl }
