@@ -19,12 +19,9 @@ pub fn kinds_rise(session: &[u8]) -> bool
         if kind < low {
             return false;
         }
-        if 4 < kind {
-            return false;
-        }
         low = kind;
     }
-    true
+    low <= 4
 }
 
 // How many records have a kind below `kind`, at least `start` of them. They stand first.
@@ -33,13 +30,17 @@ pub fn count_below(session: &[u8], start: usize, kind: u8) -> usize
     requires { ⌜ start ≤ countBelow kindOf kind (recordsOf (now session)) ⌝ }
     ensures { λ x. ⌜ x ≡ countBelow kindOf kind (recordsOf (now (session .entry))) ⌝ }
 {
-    let n = session.len() / 16;
-    for r in start..n {
-        if kind <= record::byte_at(session, r, 0) {
-            return r;
+    let mut low = start;
+    let mut high = session.len() / 16;
+    while low < high {
+        let middle = low + (high - low) / 2;
+        if record::byte_at(session, middle, 0) < kind {
+            low = middle + 1;
+        } else {
+            high = middle;
         }
     }
-    n
+    low
 }
 
 // How many levels, objects and steps there are, of a session whose kinds never fall.

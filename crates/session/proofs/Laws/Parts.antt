@@ -3,13 +3,14 @@ use Prim.Native.Nat.{ℕ, suc, _+_, _≤_, _<_, suc-le-suc}
 use mathlib.Core.Path.{_≡_, refl, sym, _∙_, ap}
 use mathlib.Core.Bool.{Bool, true, false, not, _&&_}
 use mathlib.Core.List.{List, [], _∷_}
+use native.Mathlib.Nat.{le-trans}
 use native.Mathlib.Decide.{decLt}
 use native.Mathlib.Omega.{arith}
-use borrow.Author.Tests.{leb-true, le-leb, lt-ltb, le-ltb, eq-eqb, ne-eqb, eqb-true, eqb-false}
+use borrow.Author.Tests.{leb-true, leb-false, le-leb, lt-ltb, le-ltb, eq-eqb, ne-eqb, eqb-true, eqb-false}
 use lib.Dec.{eqb, leb, ltb}
 use lib.ListN.{length, getD}
 use lib.Seq.{ext-getD}
-use Rattle.lattice.proofs.Laws.Range.{and-left, and-right, and-both}
+use Rattle.lattice.proofs.Laws.Range.{and-left, and-right, and-both, refuted}
 use Rattle.session.specs.Lists.{every, select, countBelow, risingFrom, tab}
 use Rattle.session.specs.Record.{Record, recordAt, recordCount, recordsOf, recordsFrom, kindOf}
 use Rattle.session.specs.Parts.{ofKind, levelRecords, objectRecords, stepRecords, rootRecords, levelCount, objectCount, stepCount, layoutOf, Counted, rootRecord}
@@ -17,7 +18,7 @@ use Rattle.session.specs.declared.Layout.{Layout}
 use Rattle.session.specs.Questions.{kindsRise, question2}
 use Rattle.session.proofs.Laws.Record.{records-length, record-is, from-length, from-at}
 use Rattle.session.proofs.Laws.Lists.{Truth, holds, fails, truth, every-each, every-all, select-length, select-all, select-none}
-use Rattle.session.proofs.Laws.Rising.{among, first-below, rest-above, count-more, among-at, rising-next, rising-all}
+use Rattle.session.proofs.Laws.Rising.{among, first-below, rest-above, count-more, among-at, rising-next, rising-all, Climbed, climbed-most}
 
 -- no more records have a kind below m than there are
 pub below-le : (s : List ℕ) (m : ℕ) → countBelow kindOf m (recordsOf s) ≤ recordCount s
@@ -127,6 +128,16 @@ module _ (s : List ℕ) (k : kindsRise s ≡ true) where
 
   pub step-is : (j : ℕ) → j < stepCount s → getD (stepRecords s) j [] ≡ recordAt s (levelCount s + objectCount s + j)
   step-is j h = among-is 3 j h (omega (arith, below-3, below-5)) ∙ ap (recordAt s) (omega (arith, below-3))
+
+-- a walk along kinds that never fall from 1 on: they are 1 to 4 where the last is at most 4
+pub kinds-climbed : (s : List ℕ) (low : ℕ) → Climbed (λ r. kindOf (recordAt s r)) 1 (recordCount s) low → leb low 4 ≡ kindsRise s
+kinds-climbed s low c = elim (truth (leb low 4)) [
+  | holds e ↦ e ∙ sym (kinds-all s (c .least) (λ r h. le-trans (c .top r h) (leb-true low 4 e)) (c .next))
+  | fails e ↦
+      e ∙ sym (refuted (kindsRise s) λ t.
+      let most : low ≤ 4 = climbed-most (λ r. kindOf (recordAt s r)) 1 4 (recordCount s) low c (omega arith) (kind-most s t) in
+      omega (arith, leb-false low 4 e))
+]
 
 -- a shape, in its numbers
 pub counted : (s : List ℕ) (l : Layout) → l ≡ layoutOf s → Counted s (l .levels) (l .objects) (l .steps)

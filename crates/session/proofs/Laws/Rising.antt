@@ -220,6 +220,7 @@ pub record Climbed (f : ℕ → ℕ) (b r low : ℕ) : Type 0 where
   pub seen : (i : ℕ) → suc i ≡ r → low ≡ f i
   pub start : r ≡ 0 → low ≡ b
   pub floor : b ≤ low
+  pub top : (i : ℕ) → i < r → f i ≤ low
 
 module _ (f : ℕ → ℕ) (b : ℕ) where
   pub climbed-none : Climbed f b 0 b
@@ -230,6 +231,7 @@ module _ (f : ℕ → ℕ) (b : ℕ) where
         seen = λ i e. absurd (omega arith);
         start = λ e. refl;
         floor = omega arith;
+        top = λ i h. absurd (omega arith);
       }
 
   pub climbed-more : (r low : ℕ) → Climbed f b r low → low ≤ f r → Climbed f b (r + 1) (f r)
@@ -248,9 +250,19 @@ module _ (f : ℕ → ℕ) (b : ℕ) where
         seen = λ i e. let g : r ≡ i = omega arith in ap f g;
         start = λ e. absurd (omega arith);
         floor = le-trans (c .floor) h;
+        top = λ i l. elim (order i r) [
+          | less g ↦ le-trans (c .top i g) h
+          | same e ↦ le-of-eq (ap f e)
+          | more g ↦ absurd (omega arith)
+        ];
       }
 
   -- a value below the last one seen is a fall, or below b
   pub climbed-fails : (r low : ℕ) → Climbed f b r low → f r < low → b ≤ f r → ((i : ℕ) → suc i ≡ r → f i ≤ f (suc i)) → ⊥
   climbed-fails zero low c h g n = omega (arith, c .start refl)
   climbed-fails (suc r) low c h g n = omega (arith, c .seen r refl, n r refl)
+
+  -- what bounds b and all values bounds the last one seen
+  pub climbed-most : (m r low : ℕ) → Climbed f b r low → b ≤ m → ((i : ℕ) → i < r → f i ≤ m) → low ≤ m
+  climbed-most m zero low c h g = rw (c .start refl) h
+  climbed-most m (suc r) low c h g = rw (c .seen r refl) (g r (omega arith))

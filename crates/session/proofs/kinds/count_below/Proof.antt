@@ -1,7 +1,6 @@
--- `session::kinds::count_below` meets its contract. The invariant: the records passed have kinds below `kind`. Assumes nothing.
-use Prim.Native.Nat.{ℕ, _≤_, _<_, _-_}
+-- `session::kinds::count_below` meets its contract. The invariant: the number of records below `kind` is from `low` to `high`. Assumes nothing.
+use Prim.Native.Nat.{ℕ, _≤_, _<_, _+_, _-_, _/_}
 use mathlib.Core.Path.{_≡_}
-use native.Mathlib.Nat.{le-antisymm}
 use native.Mathlib.Omega.{arith}
 use Rattle.session.specs.Lists.{countBelow}
 use Rattle.session.specs.Record.{recordAt, recordCount, recordsOf, kindOf}
@@ -10,27 +9,28 @@ use Rattle.session.proofs.kinds.count_below.Statement.{statement}
 use Rattle.session.proofs.kinds.count_below.Tie as tie
 
 abbrev Inv-loop : tie.InvT-loop
-Inv-loop session start kind n r₀ r = r ≤ countBelow kindOf kind (recordsOf session)
+Inv-loop session start kind low₀ high₀ low high =
+    let count = countBelow kindOf kind (recordsOf session) in (low ≤ count) × (count ≤ high) × (high ≤ recordCount session)
 
 abbrev μ-loop : tie.MeasureT-loop
-μ-loop session start kind n r₀ r = recordCount session - r
+μ-loop session start kind low₀ high₀ low high = high - low
 
 loop-holds : tie.Need-loop-holds Inv-loop μ-loop
-loop-holds c = c .before .pre .1
+loop-holds c =
+    let s = c .before in
+    (s .pre .1, below-le (s .args .session .now) (s .args .kind), omega arith)
+
+sub-middle : tie.Need-sub-middle Inv-loop μ-loop
+sub-middle c = omega arith
+
+add-middle : tie.Need-add-middle Inv-loop μ-loop
+add-middle c = omega arith
 
 byte-at-requires : tie.Need-byte-at-requires Inv-loop μ-loop
 byte-at-requires c κs = omega arith
 
-returns : tie.Need-returns Inv-loop μ-loop
-returns c =
-    let s = c .before .before .before .before .before in
-    let r = c .before .before .before .loop .r in
-    let high : s .args .kind ≤ kindOf (recordAt (s .args .session .now) r) = rw (c .before .byte-at .ensures) at (c .if1 .taken) in
-    let most = kind-above (s .args .session .now) (s .pre .0) (s .args .kind) r (c .before .before .loop-test .taken) high in
-    le-antisymm (c .before .before .before .loop .inv) most
-
-add-r : tie.Need-add-r Inv-loop μ-loop
-add-r c = omega arith
+add-low : tie.Need-add-low Inv-loop μ-loop
+add-low c = omega arith
 
 loop-less : tie.Need-loop-less Inv-loop μ-loop
 loop-less c = omega arith
@@ -38,14 +38,26 @@ loop-less c = omega arith
 loop-again : tie.Need-loop-again Inv-loop μ-loop
 loop-again c =
     let s = c .before .before .before .before .before in
-    let r = c .before .before .before .loop .r in
-    let low : kindOf (recordAt (s .args .session .now) r) < s .args .kind = rw (c .before .byte-at .ensures) at (c .if1 .left) in
-    omega (arith, kind-below (s .args .session .now) (s .pre .0) (s .args .kind) r (c .before .before .loop-test .taken) low)
+    let at = c .before .before .before .loop in
+    let middle = at .low + (at .high - at .low) / 2 in
+    let less : kindOf (recordAt (s .args .session .now) middle) < s .args .kind = rw (c .before .byte-at .ensures) at (c .if1 .taken) in
+    let more = kind-below (s .args .session .now) (s .pre .0) (s .args .kind) middle (omega arith) less in
+    (omega arith, at .inv .1, at .inv .2)
 
-returns-2 : tie.Need-returns-2 Inv-loop μ-loop
-returns-2 c =
-    let s = c .before .before .before in
-    omega (arith, below-le (s .args .session .now) (s .args .kind))
+loop-less-2 : tie.Need-loop-less-2 Inv-loop μ-loop
+loop-less-2 c = omega arith
+
+loop-again-2 : tie.Need-loop-again-2 Inv-loop μ-loop
+loop-again-2 c =
+    let s = c .before .before .before .before .before in
+    let at = c .before .before .before .loop in
+    let middle = at .low + (at .high - at .low) / 2 in
+    let above : s .args .kind ≤ kindOf (recordAt (s .args .session .now) middle) = rw (c .before .byte-at .ensures) at (c .if1 .left) in
+    let most = kind-above (s .args .session .now) (s .pre .0) (s .args .kind) middle (omega arith) above in
+    (at .inv .0, most, omega arith)
+
+returns : tie.Need-returns Inv-loop μ-loop
+returns c = omega arith
 
 pub count-below-spec : {M : Type 1} → statement M
 count-below-spec =
@@ -54,9 +66,12 @@ count-below-spec =
     Inv-loop
     μ-loop
     loop-holds
+    sub-middle
+    add-middle
     byte-at-requires
-    returns
-    add-r
+    add-low
     loop-less
     loop-again
-    returns-2)
+    loop-less-2
+    loop-again-2
+    returns)
