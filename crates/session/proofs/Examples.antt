@@ -92,4 +92,5 @@ examples =
       emptied-accepted = refl;
       emptied-length = refl;
       emptied-method = refl;
-      emptied-for-1 = refl }
+      emptied-for-1 = refl;
+    }

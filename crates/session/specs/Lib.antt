@@ -6,4 +6,5 @@ pub mod Parts
 pub mod Questions
 pub mod Meaning
 pub mod Emptied
+pub mod Reading
 pub mod SessionW

@@ -2,8 +2,7 @@
 use Prim.Native.Nat.{ℕ, zero, suc}
 use mathlib.Core.Bool.{Bool, true, false, cond, _&&_}
 use mathlib.Core.List.{List, [], _∷_, _++_}
-use lib.Dec.{leb, ltb, eqb}
-use lib.ListN.{length}
+use lib.Dec.{leb, eqb}
 
 -- each element passes
 unfoldable pub every : {A : Type 0} → (A → Bool) → List A → Bool
@@ -14,10 +13,6 @@ every p (x ∷ xs) = p x && every p xs
 unfoldable pub select : {A : Type 0} → (A → Bool) → List A → List A
 select p [] = []
 select p (x ∷ xs) = cond (p x) (x ∷ select p xs) (select p xs)
-
--- how many elements are below k by f
-abbrev pub countBelow : {A : Type 0} → (A → ℕ) → ℕ → List A → ℕ
-countBelow f k xs = length (select (λ x. ltb (f x) k) xs)
 
 -- f never falls from one element to the next, and is at least b at the first
 unfoldable pub risingFrom : {A : Type 0} → (A → ℕ) → ℕ → List A → Bool

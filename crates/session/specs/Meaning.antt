@@ -1,11 +1,9 @@
 -- What an accepted session says. Assumes nothing.
-use Prim.Native.Nat.{ℕ, _+_, _/_, _%_}
+use Prim.Native.Nat.{ℕ}
 use mathlib.Core.List.{List, [], map}
 use lib.ListN.{getD}
-use Rattle.session.specs.Limits.{names, maxMethods}
-use Rattle.session.specs.Lists.{countBelow, tab}
 use Rattle.session.specs.Record.{levelByte, fieldIn, numberOf, nameOf, stepOf, parameterOf}
-use Rattle.session.specs.Parts.{objectRecords, stepRecords, levelCount, objectCount, key, keyOf, methodRecords, rootRecord}
+use Rattle.session.specs.Parts.{objectRecords, key, methodRecords, rootRecord}
 use Rattle.session.specs.declared.Message.{Message}
 use Rattle.session.specs.declared.Value.{Value}
 use Rattle.session.specs.declared.Step.{Step}
@@ -39,11 +37,3 @@ rootParameter s = parameterOf (rootRecord s)
 
 abbrev pub rootOf : List ℕ → Message
 rootOf s = record { object = rootObject s; name = rootName s; parameter = rootParameter s }
-
--- the record at which the steps of a method start: those of the methods before it stand before them
-unfoldable pub methodStart : List ℕ → ℕ → ℕ
-methodStart s k = levelCount s + objectCount s + countBelow keyOf k (stepRecords s)
-
--- where each method starts, by object and then name, and behind them where the last one ends
-unfoldable pub indexOf : List ℕ → List ℕ
-indexOf s = tab (maxMethods + 1) (λ i. methodStart s (key (i / names) (i % names)))

@@ -1,14 +1,10 @@
 -- The parts of a session: its records of each kind, the level table, the steps of a method. Assumes nothing.
-use Prim.Native.Nat.{ℕ, suc, _+_, _-_, _*_, _^_}
-use mathlib.Core.Path.{_≡_}
-use mathlib.Core.Bool.{not}
+use Prim.Native.Nat.{ℕ, _+_, _*_, _^_}
 use mathlib.Core.List.{List, [], map}
 use lib.Dec.{eqb}
 use lib.ListN.{length, getD}
-use Rattle.lattice.specs.Range.{first}
 use Rattle.session.specs.Lists.{select}
-use Rattle.session.specs.declared.Layout.{Layout}
-use Rattle.session.specs.Record.{Record, recordAt, recordsOf, kindOf, numberOf, maskOf, nameOf}
+use Rattle.session.specs.Record.{Record, recordsOf, kindOf, numberOf, maskOf, nameOf}
 
 unfoldable pub ofKind : ℕ → List ℕ → List Record
 ofKind k s = select (λ rec. eqb (kindOf rec) k) (recordsOf s)
@@ -35,16 +31,6 @@ objectCount s = length (objectRecords s)
 abbrev pub stepCount : List ℕ → ℕ
 stepCount s = length (stepRecords s)
 
--- a session's shape
-abbrev pub layoutOf : List ℕ → Layout
-layoutOf s = record { levels = levelCount s; objects = objectCount s; steps = stepCount s }
-
--- these numbers are a session's shape
-pub record Counted (s : List ℕ) (levels objects steps : ℕ) : Type 0 where
-  pub levels-are : levels ≡ levelCount s
-  pub objects-are : objects ≡ objectCount s
-  pub steps-are : steps ≡ stepCount s
-
 -- the level table
 unfoldable pub masksOf : List ℕ → List ℕ
 masksOf s = map maskOf (levelRecords s)
@@ -63,11 +49,6 @@ ofMethod k steps = select (λ rec. eqb (keyOf rec) k) steps
 -- the steps of the method (object, name)
 unfoldable pub methodRecords : List ℕ → ℕ → List Record
 methodRecords s k = ofMethod k (stepRecords s)
-
--- the first record after r and before e that is of another method than record r, or e
-unfoldable pub methodEnd : List ℕ → ℕ → ℕ → ℕ
-methodEnd s r e =
-    suc r + first (e - suc r) (λ i. not (eqb (keyOf (recordAt s (suc r + i))) (keyOf (recordAt s r))))
 
 abbrev pub rootRecord : List ℕ → Record
 rootRecord s = getD (rootRecords s) 0 []

@@ -17,7 +17,8 @@ ghost use lib.ListN.{length, drop};
 ghost use Rattle.session.specs.Limits.{maxLevels, maxMethods, names, fields};
 ghost use Rattle.session.specs.Parts.{levelCount, objectCount, stepCount, masksOf};
 ghost use Rattle.session.specs.Questions.{verdictOf};
-ghost use Rattle.session.specs.Meaning.{levelOf, fieldOf, stepAt, rootOf, methodStart, indexOf};
+ghost use Rattle.session.specs.Meaning.{levelOf, fieldOf, stepAt, rootOf};
+ghost use Rattle.session.specs.Reading.{methodStart, indexOf};
 
 // Writes the masks of the levels to the front of `masks`, and returns how many levels there are.
 pub fn level_table(session: &[u8], masks: &mut [u16]) -> usize

@@ -4,10 +4,10 @@ use crate::record;
 ghost use mathlib.Core.Path.{_≡_};
 ghost use mathlib.Core.Bool.{true};
 ghost use Prim.Native.Nat.{_≤_};
-ghost use Rattle.session.specs.Lists.{countBelow};
 ghost use Rattle.session.specs.Record.{recordsOf, kindOf};
-ghost use Rattle.session.specs.Parts.{layoutOf, Counted};
+ghost use Rattle.session.specs.Reading.{Counted};
 ghost use Rattle.session.specs.Questions.{kindsRise, question2};
+ghost use Rattle.session.specs.Reading.{countBelow};
 
 // Whether kinds are 1 to 4 and never falling.
 pub fn kinds_rise(session: &[u8]) -> bool
@@ -46,7 +46,7 @@ pub fn count_below(session: &[u8], start: usize, kind: u8) -> usize
 // How many levels, objects and steps there are, of a session whose kinds never fall.
 pub fn count_kinds(session: &[u8]) -> Layout
     requires { ⌜ kindsRise (now session) ≡ true ⌝ }
-    ensures { λ x. ⌜ x ≡ layoutOf (now (session .entry)) ⌝ }
+    ensures { λ x. ⌜ Counted (now (session .entry)) (x .levels) (x .objects) (x .steps) ⌝ }
 {
     let objects = count_below(session, 0, 2);
     let steps = count_below(session, objects, 3);

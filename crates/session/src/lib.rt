@@ -12,8 +12,9 @@ ghost use mathlib.Core.Bool.{true};
 ghost use lib.ListN.{drop};
 ghost use Prim.Native.Nat.{_≤_};
 ghost use Rattle.lattice.specs.Table as table;
-ghost use Rattle.session.specs.Parts.{levelCount, Counted, masksOf};
+ghost use Rattle.session.specs.Parts.{levelCount, masksOf};
 ghost use Rattle.session.specs.Questions.{kindsRise, question1, question2, asked, firstNo, verdictOf};
+ghost use Rattle.session.specs.Reading.{Counted};
 
 // A field, a register, a parameter or a reply: NIL or a number.
 pub enum Value {

@@ -7,9 +7,10 @@ ghost use Prim.Native.Nat.{_+_, _-_, _≤_, _<_};
 ghost use lib.Dec.{ltb};
 ghost use Rattle.session.specs.Limits.{registers};
 ghost use Rattle.session.specs.Lists.{every, risingFrom};
-ghost use Rattle.session.specs.Record.{recordAt, recordCount, recordsFrom, unused, from};
-ghost use Rattle.session.specs.Parts.{keyOf, methodEnd};
+ghost use Rattle.session.specs.Record.{recordAt, recordCount, unused, from};
+ghost use Rattle.session.specs.Parts.{keyOf};
 ghost use Rattle.session.specs.Questions.{operandsValid, stepValid, methodsValid, scriptsValid};
+ghost use Rattle.session.specs.Reading.{methodEnd, recordsFrom};
 
 // The pair (object, name) of the step in record `r`, as one number.
 pub fn key_at(session: &[u8], r: usize) -> usize

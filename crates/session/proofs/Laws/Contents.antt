@@ -10,11 +10,12 @@ use lib.Dec.{ltb}
 use lib.ListN.{length, getD, length-map, List·getD-map, List·getD-eq-default}
 use Rattle.lattice.proofs.Laws.Range.{and-left, and-right}
 use Rattle.session.specs.Limits.{names, maxMethods, maxObjects}
-use Rattle.session.specs.Lists.{every, select, countBelow, risingFrom, tab}
+use Rattle.session.specs.Lists.{every, select, risingFrom, tab}
 use Rattle.session.specs.Record.{Record, recordAt, recordCount, numberOf, nameOf, maskOf, stepOf}
 use Rattle.session.specs.Parts.{levelRecords, objectRecords, stepRecords, levelCount, objectCount, stepCount, masksOf, key, keyOf, methodRecords, rootRecord}
 use Rattle.session.specs.Questions.{stepValid, scriptValid, methodsValid, scriptsValid, kindsRise, verdictOf}
-use Rattle.session.specs.Meaning.{stepAt, methodStart, indexOf}
+use Rattle.session.specs.Meaning.{stepAt}
+use Rattle.session.specs.Reading.{methodStart, indexOf, countBelow}
 use Rattle.session.specs.declared.Verdict.the-variants.{Accepted}
 use Rattle.session.specs.declared.Step.the-variants.{End}
 use Rattle.session.proofs.Laws.Lists.{length-tab, getD-tab, select-length}

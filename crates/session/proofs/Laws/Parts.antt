@@ -11,11 +11,11 @@ use lib.Dec.{eqb, leb, ltb}
 use lib.ListN.{length, getD}
 use lib.Seq.{ext-getD}
 use Rattle.lattice.proofs.Laws.Range.{and-left, and-right, and-both, refuted}
-use Rattle.session.specs.Lists.{every, select, countBelow, risingFrom, tab}
-use Rattle.session.specs.Record.{Record, recordAt, recordCount, recordsOf, recordsFrom, kindOf}
-use Rattle.session.specs.Parts.{ofKind, levelRecords, objectRecords, stepRecords, rootRecords, levelCount, objectCount, stepCount, layoutOf, Counted, rootRecord}
-use Rattle.session.specs.declared.Layout.{Layout}
+use Rattle.session.specs.Lists.{every, select, risingFrom, tab}
+use Rattle.session.specs.Record.{Record, recordAt, recordCount, recordsOf, kindOf}
+use Rattle.session.specs.Parts.{ofKind, levelRecords, objectRecords, stepRecords, rootRecords, levelCount, objectCount, stepCount, rootRecord}
 use Rattle.session.specs.Questions.{kindsRise, question2}
+use Rattle.session.specs.Reading.{Counted, countBelow, recordsFrom}
 use Rattle.session.proofs.Laws.Record.{records-length, record-is, from-length, from-at}
 use Rattle.session.proofs.Laws.Lists.{Truth, holds, fails, truth, every-each, every-all, select-length, select-all, select-none}
 use Rattle.session.proofs.Laws.Rising.{among, first-below, rest-above, count-more, among-at, rising-next, rising-all, Climbed, climbed-most}
@@ -138,11 +138,6 @@ kinds-climbed s low c = elim (truth (leb low 4)) [
       let most : low ≤ 4 = climbed-most (λ r. kindOf (recordAt s r)) 1 4 (recordCount s) low c (omega arith) (kind-most s t) in
       omega (arith, leb-false low 4 e))
 ]
-
--- a shape, in its numbers
-pub counted : (s : List ℕ) (l : Layout) → l ≡ layoutOf s → Counted s (l .levels) (l .objects) (l .steps)
-counted s l e =
-    record { levels-are = ap (λ x. x .levels) e; objects-are = ap (λ x. x .objects) e; steps-are = ap (λ x. x .steps) e }
 
 -- question 2 says no where the kinds fall
 pub question2-falls : (s : List ℕ) → kindsRise s ≡ false → question2 s ≡ false

@@ -14,7 +14,8 @@ use lib.Seq.{getD-take, getD-drop}
 use Rattle.lattice.specs.Range.{implies, all}
 use Rattle.lattice.proofs.Laws.Range.{refuted, not-both, and-left, and-right, and-both, and-fails-left, and-fails-right, implies-then, implies-when, implies-left, implies-fails, all-each, all-every, all-fails, all-both}
 use Rattle.session.specs.Limits.{recordBytes}
-use Rattle.session.specs.Record.{Record, recordAt, recordCount, recordsOf, recordsFrom, byteOf, wordOf, unused, between, from, operations, stepOf, holds as has, fieldIn, parameterOf}
+use Rattle.session.specs.Record.{Record, recordAt, recordCount, recordsOf, byteOf, wordOf, unused, between, from, operations, stepOf, holds as has, fieldIn, parameterOf}
+use Rattle.session.specs.Reading.{recordsFrom}
 use Rattle.session.specs.declared.Value.the-variants.{Nil, Number}
 use Rattle.session.proofs.Laws.Lists.{Truth, holds, fails, truth, length-tab, getD-tab}
 use Rattle.session.specs.declared.Step.{Step}

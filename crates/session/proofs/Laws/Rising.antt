@@ -10,7 +10,8 @@ use borrow.Author.Tests.{leb-true, le-leb, lt-leb, lt-ltb, le-ltb, eq-eqb, ne-eq
 use lib.Dec.{eqb, leb, ltb}
 use lib.ListN.{length, getD}
 use Rattle.lattice.proofs.Laws.Range.{and-left, and-right, and-both, and-fails-left, and-fails-right}
-use Rattle.session.specs.Lists.{select, countBelow, risingFrom}
+use Rattle.session.specs.Lists.{select, risingFrom}
+use Rattle.session.specs.Reading.{countBelow}
 use Rattle.session.proofs.Laws.Lists.{Truth, holds, fails, truth, select-yes, select-no, select-length}
 
 -- two numbers, compared

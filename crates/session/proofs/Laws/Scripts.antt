@@ -14,9 +14,10 @@ use Rattle.lattice.specs.Range.{first}
 use Rattle.lattice.proofs.Laws.Range.{and-left, and-right, and-both, refuted, not-both, first-le, first-passes, first-before, first-at, first-none}
 use Rattle.session.specs.Limits.{maxMethod}
 use Rattle.session.specs.Lists.{every, risingFrom}
-use Rattle.session.specs.Record.{Record, recordAt, recordsFrom}
-use Rattle.session.specs.Parts.{keyOf, ofMethod, methodEnd}
+use Rattle.session.specs.Record.{Record, recordAt}
+use Rattle.session.specs.Parts.{keyOf, ofMethod}
 use Rattle.session.specs.Questions.{stepValid, scriptValid, methodsValid}
+use Rattle.session.specs.Reading.{methodEnd, recordsFrom}
 use Rattle.session.proofs.Laws.Record.{from-length, from-at, from-is}
 use Rattle.session.proofs.Laws.Lists.{every-each, every-all}
 use Rattle.session.proofs.Laws.Rising.{rising-le, rising-next, rising-all, run-length}

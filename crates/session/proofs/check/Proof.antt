@@ -2,7 +2,7 @@
 use mathlib.Core.Path.{sym, _∙_}
 use borrow.Author.Tests.{not-true, not-false}
 use Rattle.session.specs.Questions.{firstNo, verdictOf}
-use Rattle.session.proofs.Laws.Parts.{counted, question2-falls}
+use Rattle.session.proofs.Laws.Parts.{question2-falls}
 use borrow.Author.Needs.{needs}
 use Rattle.session.proofs.check.Statement.{statement}
 use Rattle.session.proofs.check.Tie as tie
@@ -28,11 +28,11 @@ count-kinds-requires c κs = sym (c .before .kinds-rise .ensures) ∙ not-false 
 
 are-present-requires : tie.Need-are-present-requires
 are-present-requires c κs =
-    (sym (c .before .before .kinds-rise .ensures) ∙ not-false _ (c .before .if2 .left), counted _ _ (c .count-kinds .ensures))
+    (sym (c .before .before .kinds-rise .ensures) ∙ not-false _ (c .before .if2 .left), c .count-kinds .ensures)
 
 check-levels-requires : tie.Need-check-levels-requires
 check-levels-requires c κs =
-    (sym (c .before .are-present .ensures) ∙ c .if3 .taken, counted _ _ (c .before .before .count-kinds .ensures))
+    (sym (c .before .are-present .ensures) ∙ c .if3 .taken, c .before .before .count-kinds .ensures)
 
 returns-3 : tie.Need-returns-3
 unfolding verdictOf firstNo

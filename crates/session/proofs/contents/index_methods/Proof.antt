@@ -8,9 +8,8 @@ use lib.ListN.{length, drop, length-set}
 use Rattle.session.specs.Limits.{names}
 use Rattle.session.specs.Lists.{tab}
 use Rattle.session.specs.Parts.{levelCount, objectCount, stepCount, key}
-use Rattle.session.specs.Meaning.{methodStart, indexOf}
+use Rattle.session.specs.Reading.{methodStart, indexOf}
 use Rattle.session.proofs.Laws.Fill.{tab-fill-none, tab-fill-more, tab-fill-length}
-use Rattle.session.proofs.Laws.Parts.{counted}
 use Rattle.session.proofs.Laws.Contents.{rises, counts, step-limit, object-limit, level-limit, start-first, start-last, start-mono}
 use Rattle.session.proofs.contents.index_methods.Statement.{statement}
 use Rattle.session.proofs.contents.index_methods.Tie as tie
@@ -37,20 +36,20 @@ count-kinds-requires c κs = let s = c .before .before in rises (s .args .sessio
 add-at : tie.Need-add-at Inv-loop μ-loop
 add-at c =
     let s = c .before .before .before .before in
-    let n = counted (s .args .session .now) (c .before .count-kinds .result) (c .before .count-kinds .ensures) in
+    let n = c .before .count-kinds .ensures in
     omega (arith, n .levels-are, n .objects-are, counts (s .args .session .now) (s .pre .0))
 
 add-end : tie.Need-add-end Inv-loop μ-loop
 add-end c =
     let s = c .before .before .before .before .before in
-    let n = counted (s .args .session .now) (c .before .before .count-kinds .result) (c .before .before .count-kinds .ensures) in
+    let n = c .before .before .count-kinds .ensures in
     omega (arith, n .levels-are, n .objects-are, n .steps-are, counts (s .args .session .now) (s .pre .0))
 
 loop-holds : tie.Need-loop-holds Inv-loop μ-loop
 loop-holds c =
     let s = c .before .before .before .before .before in
     let t = s .args .session .now in
-    let n = counted t (c .before .before .count-kinds .result) (c .before .before .count-kinds .ensures) in (
+    let n = c .before .before .count-kinds .ensures in (
       omega arith,
       tab-fill-none (λ i. methodStart t (slotKey i)) (s .args .index .now),
       refl,

@@ -4,7 +4,7 @@ use mathlib.Core.Path.{_≡_}
 use native.Mathlib.Nat.{le-antisymm}
 use native.Mathlib.Omega.{arith}
 use Rattle.session.specs.Parts.{levelCount, objectCount, stepCount}
-use Rattle.session.specs.Meaning.{methodStart}
+use Rattle.session.specs.Reading.{methodStart}
 use Rattle.session.proofs.Laws.Scripts.{keyAt}
 use Rattle.session.proofs.Laws.Contents.{counts, start-last, before-start, from-start}
 use Rattle.session.proofs.contents.method_start.Statement.{statement}

@@ -5,7 +5,7 @@ use native.Mathlib.Omega.{arith}
 use lib.ListN.{length, getD}
 use Rattle.session.specs.Record.{recordAt, stepOf}
 use Rattle.session.specs.Parts.{key, methodRecords}
-use Rattle.session.specs.Meaning.{methodStart}
+use Rattle.session.specs.Reading.{methodStart}
 use Rattle.session.proofs.Laws.Contents.{object-limit, index-length, slot-first, slot-end, method-within, method-step, method-over}
 use Rattle.session.proofs.contents.step_of.Statement.{statement}
 use Rattle.session.proofs.contents.step_of.Tie as tie

@@ -45,7 +45,7 @@ returns c =
     let levels : a ≡ levelCount t = c .before .before .count-below .ensures ∙ below-2 t (s .pre) in
     let objects : b - a ≡ objectCount t = omega (arith, below-2 t (s .pre), below-3 t (s .pre)) in
     let steps : d - b ≡ stepCount t = omega (arith, below-3 t (s .pre), below-4 t (s .pre)) in
-    λ i. record { levels = levels i; objects = objects i; steps = steps i }
+    record { levels-are = levels; objects-are = objects; steps-are = steps }
 
 pub count-kinds-spec : {M : Type 1} → statement M
 count-kinds-spec =

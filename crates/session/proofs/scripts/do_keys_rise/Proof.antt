@@ -6,8 +6,9 @@ use lib.ListN.{length, getD}
 use mathlib.Core.List.{[]}
 use Rattle.lattice.proofs.Laws.Range.{refuted}
 use Rattle.session.specs.Lists.{risingFrom}
-use Rattle.session.specs.Record.{recordAt, recordsFrom}
+use Rattle.session.specs.Record.{recordAt}
 use Rattle.session.specs.Parts.{keyOf}
+use Rattle.session.specs.Reading.{recordsFrom}
 use Rattle.session.proofs.Laws.Record.{from-length, from-at}
 use Rattle.session.proofs.Laws.Rising.{Climbed, climbed-none, climbed-more, climbed-fails, rising-next, rising-all}
 use Rattle.session.proofs.Laws.Scripts.{keyAt}

@@ -7,8 +7,9 @@ use native.Mathlib.Omega.{arith}
 use borrow.Author.Count.{below-none, below-more}
 use borrow.Author.Tests.{not-true, not-false}
 use lib.ListN.{length, getD}
-use Rattle.session.specs.Record.{recordAt, recordsFrom}
+use Rattle.session.specs.Record.{recordAt}
 use Rattle.session.specs.Questions.{stepValid}
+use Rattle.session.specs.Reading.{recordsFrom}
 use Rattle.session.proofs.Laws.Lists.{every-all, every-fails}
 use Rattle.session.proofs.Laws.Record.{from-length, from-at, from-is}
 use Rattle.session.proofs.scripts.is_method_valid.Statement.{statement}

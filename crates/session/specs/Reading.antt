@@ -1,0 +1,39 @@
+-- How the code finds its way through a session: what its own contracts cite. No question and no meaning rests on these. Assumes nothing.
+use Prim.Native.Nat.{ℕ, suc, _+_, _-_, _/_, _%_}
+use mathlib.Core.Path.{_≡_}
+use mathlib.Core.Bool.{not}
+use mathlib.Core.List.{List}
+use lib.Dec.{eqb, ltb}
+use lib.ListN.{length}
+use Rattle.lattice.specs.Range.{first}
+use Rattle.session.specs.Limits.{names, maxMethods}
+use Rattle.session.specs.Lists.{select, tab}
+use Rattle.session.specs.Record.{Record, recordAt}
+use Rattle.session.specs.Parts.{stepRecords, levelCount, objectCount, stepCount, key, keyOf}
+
+-- these numbers are a session's
+pub record Counted (s : List ℕ) (levels objects steps : ℕ) : Type 0 where
+  pub levels-are : levels ≡ levelCount s
+  pub objects-are : objects ≡ objectCount s
+  pub steps-are : steps ≡ stepCount s
+
+-- how many elements are below k by f
+abbrev pub countBelow : {A : Type 0} → (A → ℕ) → ℕ → List A → ℕ
+countBelow f k xs = length (select (λ x. ltb (f x) k) xs)
+
+-- so many records from record `start` on
+unfoldable pub recordsFrom : List ℕ → ℕ → ℕ → List Record
+recordsFrom s start count = tab count (λ i. recordAt s (start + i))
+
+-- the first record after r and before e that is of another method than record r, or e
+unfoldable pub methodEnd : List ℕ → ℕ → ℕ → ℕ
+methodEnd s r e =
+    suc r + first (e - suc r) (λ i. not (eqb (keyOf (recordAt s (suc r + i))) (keyOf (recordAt s r))))
+
+-- the record at which the steps of a method start: those of the methods before it stand before them
+unfoldable pub methodStart : List ℕ → ℕ → ℕ
+methodStart s k = levelCount s + objectCount s + countBelow keyOf k (stepRecords s)
+
+-- where each method starts, by object and then name, and behind them where the last one ends
+unfoldable pub indexOf : List ℕ → List ℕ
+indexOf s = tab (maxMethods + 1) (λ i. methodStart s (key (i / names) (i % names)))
