@@ -1,4 +1,4 @@
--- A session emptied for a level. Assumes nothing.
+-- An accepted session emptied for a level. (Of other bytes this says nothing that is used.) Assumes nothing.
 use Prim.Native.Nat.{ℕ, _-_}
 use mathlib.Core.Bool.{Bool, not, cond, _&&_}
 use mathlib.Core.List.{List, _++_, map}

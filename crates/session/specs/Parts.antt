@@ -6,6 +6,7 @@ use lib.ListN.{length, getD}
 use Rattle.session.specs.Lists.{select}
 use Rattle.session.specs.Record.{Record, recordsOf, kindOf, numberOf, maskOf, nameOf}
 
+-- the records of one kind, in their order
 unfoldable pub ofKind : ℕ → List ℕ → List Record
 ofKind k s = select (λ rec. eqb (kindOf rec) k) (recordsOf s)
 
@@ -22,6 +23,7 @@ stepRecords = ofKind 3
 abbrev pub rootRecords : List ℕ → List Record
 rootRecords = ofKind 4
 
+-- how many levels, objects and steps there are
 abbrev pub levelCount : List ℕ → ℕ
 levelCount s = length (levelRecords s)
 
@@ -39,6 +41,7 @@ masksOf s = map maskOf (levelRecords s)
 abbrev pub key : ℕ → ℕ → ℕ
 key object name = 2 ^ 8 * object + name
 
+-- the pair of a step
 abbrev pub keyOf : Record → ℕ
 keyOf rec = key (numberOf rec) (nameOf rec)
 
@@ -50,5 +53,6 @@ ofMethod k steps = select (λ rec. eqb (keyOf rec) k) steps
 unfoldable pub methodRecords : List ℕ → ℕ → List Record
 methodRecords s k = ofMethod k (stepRecords s)
 
+-- the root message's record
 abbrev pub rootRecord : List ℕ → Record
 rootRecord s = getD (rootRecords s) 0 []

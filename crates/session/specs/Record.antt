@@ -13,6 +13,7 @@ use Rattle.session.specs.declared.Value.the-variants.{Nil, Number}
 use Rattle.session.specs.declared.Step.{Step}
 use Rattle.session.specs.declared.Step.the-variants.{End, Set, Add, Jump, Read, Write, Send, Quit}
 
+-- a record: its 16 bytes
 abbrev pub Record : Type 0
 Record = List ℕ
 
@@ -24,6 +25,7 @@ recordAt s r = take recordBytes (drop (recordBytes * r) s)
 abbrev pub recordCount : List ℕ → ℕ
 recordCount s = length s / recordBytes
 
+-- the records of a session, in their order. Bytes that are left over belong to none
 unfoldable pub recordsOf : List ℕ → List Record
 recordsOf s = tab (recordCount s) (recordAt s)
 

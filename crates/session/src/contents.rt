@@ -1,6 +1,6 @@
 // What an accepted session says: its level table, its objects, its methods and its root message.
 //
-// A run makes the level table and the method index once. With them each question below costs a few
+// A run makes the level table and the method index once. With them each function below costs a few
 // reads: no record is searched for.
 use crate::Message;
 use crate::Step;
@@ -30,8 +30,8 @@ pub fn level_table(session: &[u8], masks: &mut [u16]) -> usize
     levels
 }
 
-// The record at which the method of a key starts, or would start. `at` is the last step's record
-// before it, or the first step's, and `end` is the root's.
+// The record at which the method of a key starts, or would start. `at` is no step's record after it,
+// and `end` is the root's record.
 fn method_start(session: &[u8], at: usize, end: usize, key: usize) -> usize
     requires { ⌜ verdictOf (now session) ≡ Verdict.Accepted ⌝ }
     requires { ⌜ (levelCount (now session) + objectCount (now session) ≤ at) × (at ≤ methodStart (now session) key) ⌝ }
@@ -46,7 +46,7 @@ fn method_start(session: &[u8], at: usize, end: usize, key: usize) -> usize
     end
 }
 
-// Writes where each method starts to the front of `index`.
+// Writes where each method starts to the front of `index`, and behind them where the last one ends.
 pub fn index_methods(session: &[u8], index: &mut [u16])
     requires { ⌜ (verdictOf (now session) ≡ Verdict.Accepted) × (maxMethods + 1 ≤ length (now index)) ⌝ }
     ensures { λ _. ⌜ now (index .exit) ≡ indexOf (now (session .entry)) ++ drop (maxMethods + 1) (now (index .entry)) ⌝ }

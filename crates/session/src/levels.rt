@@ -1,4 +1,5 @@
-// Questions 3 to 5: how many records there are of each kind, their numbers, and the level table.
+// Question 3: how many records there are of each kind, and their numbers. And the level table, of
+// which questions 4 and 5 are put.
 use crate::record;
 ghost use mathlib.Core.Path.{_≡_};
 ghost use mathlib.Core.Bool.{true};

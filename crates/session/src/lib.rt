@@ -55,13 +55,21 @@ pub struct Layout {
 // lowest that says no.
 pub enum Verdict {
     Accepted,
+    // Question 1: not 1 to 297 whole records.
     Length,
+    // Question 2: the kinds of the records.
     Kinds,
+    // Question 3: too many records of a kind, or one misnumbered.
     Numbering,
+    // Question 4: the levels are not ordered.
     NotOrdered,
+    // Question 5: two levels have no least upper bound.
     NoJoin,
+    // Question 6: an object.
     Object,
+    // Question 7: a script step.
     Script,
+    // Question 8: the root message.
     Root,
 }
 
