@@ -2,14 +2,14 @@
 use crate::Step;
 use crate::record;
 ghost use mathlib.Core.Path.{_≡_};
-ghost use mathlib.Core.Bool.{true, _&&_};
+ghost use mathlib.Core.Bool.{_&&_};
 ghost use Prim.Native.Nat.{_+_, _-_, _≤_, _<_};
 ghost use lib.Dec.{ltb};
 ghost use Rattle.session.specs.Limits.{registers};
-ghost use Rattle.session.specs.Lists.{every, risingFrom};
+ghost use Rattle.session.specs.Lists.{every};
 ghost use Rattle.session.specs.Record.{recordAt, recordCount, unused, from};
 ghost use Rattle.session.specs.Parts.{keyOf};
-ghost use Rattle.session.specs.Questions.{operandsValid, stepValid, methodsValid, scriptsValid};
+ghost use Rattle.session.specs.Questions.{operandsValid, stepValid, scriptsValid};
 ghost use Rattle.session.specs.Reading.{methodEnd, recordsFrom};
 
 // The pair (object, name) of the step in record `r`, as one number.
@@ -110,22 +110,6 @@ fn is_valid(session: &[u8], r: usize, objects: usize, count: usize) -> bool
     are_operands_valid(session, r, objects, count, record::step_in(session, r))
 }
 
-// Whether (object, name) never falls over the steps from record `first` up to `end`.
-fn do_keys_rise(session: &[u8], first: usize, end: usize) -> bool
-    requires { ⌜ (first ≤ end) × (end ≤ recordCount (now session)) ⌝ }
-    ensures { λ x. ⌜ x ≡ risingFrom keyOf 0 (recordsFrom (now (session .entry)) first (end - first)) ⌝ }
-{
-    let mut low = 0;
-    for r in first..end {
-        let key = key_at(session, r);
-        if key < low {
-            return false;
-        }
-        low = key;
-    }
-    true
-}
-
 // The first record after `r` and before `end` that is of another method than `r`, or `end`.
 fn method_end(session: &[u8], r: usize, end: usize) -> usize
     requires { ⌜ (r < end) × (end ≤ recordCount (now session)) ⌝ }
@@ -153,12 +137,22 @@ fn is_method_valid(session: &[u8], first: usize, end: usize, objects: usize) -> 
     true
 }
 
-// Whether the steps from record `first` up to `end`, whose (object, name) never falls, are valid in
-// their methods.
-fn are_methods_valid(session: &[u8], first: usize, end: usize, objects: usize) -> bool
+// Whether record `next` is before `end` and its (object, name) below that of record `at`.
+fn falls(session: &[u8], at: usize, next: usize, end: usize) -> bool
+    requires { ⌜ (at < end) × (end ≤ recordCount (now session)) ⌝ }
+    ensures { λ x. ⌜ x ≡ (ltb next end && ltb (keyOf (recordAt (now (session .entry)) next)) (keyOf (recordAt (now (session .entry)) at))) ⌝ }
+{
+    if next < end {
+        key_at(session, next) < key_at(session, at)
+    } else {
+        false
+    }
+}
+
+// Question 7, of the steps from record `first` up to `end`: method by method.
+pub fn are_valid(session: &[u8], first: usize, end: usize, objects: usize) -> bool
     requires { ⌜ (first ≤ end) × (end ≤ recordCount (now session)) ⌝ }
-    requires { ⌜ risingFrom keyOf 0 (recordsFrom (now session) first (end - first)) ≡ true ⌝ }
-    ensures { λ x. ⌜ x ≡ methodsValid objects (recordsFrom (now (session .entry)) first (end - first)) ⌝ }
+    ensures { λ x. ⌜ x ≡ scriptsValid objects (recordsFrom (now (session .entry)) first (end - first)) ⌝ }
 {
     let mut at = first;
     while at < end {
@@ -169,19 +163,10 @@ fn are_methods_valid(session: &[u8], first: usize, end: usize, objects: usize) -
         if !is_method_valid(session, at, next, objects) {
             return false;
         }
+        if falls(session, at, next, end) {
+            return false;
+        }
         at = next;
     }
     true
-}
-
-// Question 7, of the steps from record `first` up to `end`.
-pub fn are_valid(session: &[u8], first: usize, end: usize, objects: usize) -> bool
-    requires { ⌜ (first ≤ end) × (end ≤ recordCount (now session)) ⌝ }
-    ensures { λ x. ⌜ x ≡ scriptsValid objects (recordsFrom (now (session .entry)) first (end - first)) ⌝ }
-{
-    if do_keys_rise(session, first, end) {
-        are_methods_valid(session, first, end, objects)
-    } else {
-        false
-    }
 }

@@ -3,12 +3,12 @@ use Prim.Native.Nat.{ℕ, zero, suc, _+_, _-_, _≤_, _<_}
 use mathlib.Core.Path.{_≡_, refl, sym, _∙_, ap}
 use mathlib.Core.Bool.{Bool, true, false, not, _&&_}
 use mathlib.Core.List.{List, []}
-use native.Mathlib.Nat.{le-trans, le-of-lt}
+use native.Mathlib.Nat.{le-trans, le-of-lt, le-of-eq}
 use native.Mathlib.Decide.{decLt}
 use native.Mathlib.Omega.{arith}
-use borrow.Author.Tests.{leb-true, le-leb, eqb-true, eqb-false, eq-eqb, ne-eqb, not-true, not-false}
+use borrow.Author.Tests.{leb-true, le-leb, ltb-true, lt-ltb, eqb-true, eqb-false, eq-eqb, ne-eqb, not-true, not-false}
 use lib.Arith.{lt-of-le-ne}
-use lib.Dec.{eqb, leb}
+use lib.Dec.{eqb, leb, ltb}
 use lib.ListN.{length, getD}
 use Rattle.lattice.specs.Range.{first}
 use Rattle.lattice.proofs.Laws.Range.{and-left, and-right, and-both, refuted, not-both, first-le, first-passes, first-before, first-at, first-none}
@@ -16,11 +16,11 @@ use Rattle.session.specs.Limits.{maxMethod}
 use Rattle.session.specs.Lists.{every, risingFrom}
 use Rattle.session.specs.Record.{Record, recordAt}
 use Rattle.session.specs.Parts.{keyOf, ofMethod}
-use Rattle.session.specs.Questions.{stepValid, scriptValid, methodsValid}
+use Rattle.session.specs.Questions.{stepValid, scriptValid, methodsValid, scriptsValid}
 use Rattle.session.specs.Reading.{methodEnd, recordsFrom}
 use Rattle.session.proofs.Laws.Record.{from-length, from-at, from-is}
 use Rattle.session.proofs.Laws.Lists.{every-each, every-all}
-use Rattle.session.proofs.Laws.Rising.{rising-le, rising-next, rising-all, run-length}
+use Rattle.session.proofs.Laws.Rising.{Order, less, same, more, order, rising-le, rising-all, run-length}
 
 -- the key of a record of a session
 abbrev pub keyAt : List ℕ → ℕ → ℕ
@@ -127,86 +127,142 @@ method-run s a e at h l rising lo =
           lt-of-le-ne le (λ q. end-other s at e l in-range (ap keyOf (sym there) ∙ sym q ∙ ap keyOf here));
     }
 
--- a walk from record a to e, method by method: the steps before `at` are whole methods, and valid
+-- a walk from record a to e, method by method: keys never fall up to `at`, and where they never fall at all the steps before `at`
+-- are whole methods, and valid
 pub record Methods (s : List ℕ) (objects a e at : ℕ) : Type 0 where
   pub low : a ≤ at
   pub high : at ≤ e
-  pub valid : (i : ℕ) → i < at - a → scriptValid objects (recordsFrom s a (e - a)) (getD (recordsFrom s a (e - a)) i []) ≡ true
-  pub start : at < e → (i : ℕ) → i < at - a → keyOf (getD (recordsFrom s a (e - a)) i []) < keyOf (getD (recordsFrom s a (e - a)) (at - a) [])
+  pub next : (r : ℕ) → a ≤ r → r < at → suc r < e → keyAt s r ≤ keyAt s (suc r)
+  pub valid : risingFrom keyOf 0 (recordsFrom s a (e - a)) ≡ true
+      → (i : ℕ) → i < at - a → scriptValid objects (recordsFrom s a (e - a)) (getD (recordsFrom s a (e - a)) i []) ≡ true
+  pub start : risingFrom keyOf 0 (recordsFrom s a (e - a)) ≡ true
+      → at < e → (i : ℕ) → i < at - a → keyOf (getD (recordsFrom s a (e - a)) i []) < keyOf (getD (recordsFrom s a (e - a)) (at - a) [])
+
+-- the halves of the test
+module _ (objects : ℕ) (steps : List Record) (t : scriptsValid objects steps ≡ true) where
+  scripts-rise : risingFrom keyOf 0 steps ≡ true
+  unfolding scriptsValid
+  scripts-rise = and-left (risingFrom keyOf 0 steps) (methodsValid objects steps) t
+
+  scripts-pass : methodsValid objects steps ≡ true
+  unfolding scriptsValid
+  scripts-pass = and-right (risingFrom keyOf 0 steps) (methodsValid objects steps) t
 
 module _ (s : List ℕ) (objects a e : ℕ) where
   pub methods-none : a ≤ e → Methods s objects a e a
   methods-none h =
-      record { low = omega arith; high = h; valid = λ i g. absurd (omega arith); start = λ l i g. absurd (omega arith) }
+      record {
+        low = omega arith;
+        high = h;
+        next = λ r g l. absurd (omega arith);
+        valid = λ t i g. absurd (omega arith);
+        start = λ t l i g. absurd (omega arith);
+      }
 
-  pub methods-all : (at : ℕ) → Methods s objects a e at → e ≤ at → methodsValid objects (recordsFrom s a (e - a)) ≡ true
+  pub methods-all : (at : ℕ) → Methods s objects a e at → e ≤ at → scriptsValid objects (recordsFrom s a (e - a)) ≡ true
+  unfolding scriptsValid
   methods-all at m h =
-      every-all (scriptValid objects (recordsFrom s a (e - a))) [] (recordsFrom s a (e - a))
-      (λ i g. m .valid i (omega (arith, m .high, from-length s a (e - a))))
+      let n = e - a in
+      let rising : risingFrom keyOf 0 (recordsFrom s a n) ≡ true =
+      rising-all keyOf [] 0 (recordsFrom s a n) (λ g. omega arith) λ i g.
+      let l : suc i < n = rw (from-length s a n) at g in
+      let z : a + suc i ≡ suc (a + i) = omega arith in
+      rw (from-at s a n i (omega arith), from-at s a n (suc i) l, z) (m .next (a + i) (omega arith) (omega arith) (omega arith)) in
+      and-both (risingFrom keyOf 0 (recordsFrom s a n)) _ rising
+      (every-all (scriptValid objects (recordsFrom s a n)) [] (recordsFrom s a n)
+      (λ i g. m .valid rising i (omega (arith, m .high, from-length s a n))))
 
-  module _ (at : ℕ) (rising : risingFrom keyOf 0 (recordsFrom s a (e - a)) ≡ true) (m : Methods s objects a e at) (h : at < e) where
-    run : Run (recordsFrom s a (e - a)) (at - a) (methodEnd s at e - a)
-    run = method-run s a e at (m .low) h rising (m .start h)
-
+  module _ (at : ℕ) (m : Methods s objects a e at) (h : at < e) where
     after : at < methodEnd s at e
     after = end-after s at e h
 
     within : methodEnd s at e ≤ e
     within = end-within s at e h
 
+    run : risingFrom keyOf 0 (recordsFrom s a (e - a)) ≡ true → Run (recordsFrom s a (e - a)) (at - a) (methodEnd s at e - a)
+    run rising = method-run s a e at (m .low) h rising (m .start rising h)
+
     -- what the test of a step of this method comes to
-    test : (j : ℕ) → j < methodEnd s at e - at →
+    test : risingFrom keyOf 0 (recordsFrom s a (e - a)) ≡ true → (j : ℕ) → j < methodEnd s at e - at →
         scriptValid objects (recordsFrom s a (e - a)) (recordAt s (at + j))
         ≡ (leb (methodEnd s at e - at) maxMethod && stepValid objects (methodEnd s at e - at) (recordAt s (at + j)))
-    test j g =
+    test rising j g =
         let z : (methodEnd s at e - a) - (at - a) ≡ methodEnd s at e - at = omega (arith, m .low, after) in
         let there : getD (recordsFrom s a (e - a)) (at + j - a) [] ≡ recordAt s (at + j) = from-is s a e (at + j) (omega (arith, m .low)) (omega (arith, within)) in
-        rw (there, z) at (run-valid (recordsFrom s a (e - a)) rising (at - a) (methodEnd s at e - a) run objects (at + j - a) (omega (arith, m .low)) (omega (arith, m .low, after)))
+        rw (there, z) at (run-valid (recordsFrom s a (e - a)) rising (at - a) (methodEnd s at e - a) (run rising) objects (at + j - a) (omega (arith, m .low)) (omega (arith, m .low, after)))
 
-    passes : methodsValid objects (recordsFrom s a (e - a)) ≡ true → (j : ℕ) → j < methodEnd s at e - at
+    passes : scriptsValid objects (recordsFrom s a (e - a)) ≡ true → (j : ℕ) → j < methodEnd s at e - at
         → (leb (methodEnd s at e - at) maxMethod && stepValid objects (methodEnd s at e - at) (recordAt s (at + j))) ≡ true
     passes t j g =
         let there : getD (recordsFrom s a (e - a)) (at + j - a) [] ≡ recordAt s (at + j) = from-is s a e (at + j) (omega (arith, m .low)) (omega (arith, within)) in
         let in-range : at + j - a < length (recordsFrom s a (e - a)) = omega (arith, from-length s a (e - a), m .low, within) in
-        rw (there, test j g) at (every-each (scriptValid objects (recordsFrom s a (e - a))) [] (recordsFrom s a (e - a)) t (at + j - a) in-range)
+        rw (there, test (scripts-rise objects _ t) j g) at (every-each (scriptValid objects (recordsFrom s a (e - a))) [] (recordsFrom s a (e - a)) (scripts-pass objects _ t) (at + j - a) in-range)
 
-    -- a method of more than 16 steps, and one with a step that is not valid, fail the test
-    pub methods-long : maxMethod < methodEnd s at e - at → methodsValid objects (recordsFrom s a (e - a)) ≡ false
+    -- a method of more than 16 steps, one with a step that is not valid, and one before a fall fail the test
+    pub methods-long : maxMethod < methodEnd s at e - at → scriptsValid objects (recordsFrom s a (e - a)) ≡ false
     methods-long g =
-        refuted (methodsValid objects (recordsFrom s a (e - a))) λ t.
+        refuted (scriptsValid objects (recordsFrom s a (e - a))) λ t.
         let few : methodEnd s at e - at ≤ maxMethod =
         leb-true (methodEnd s at e - at) maxMethod (and-left _ _ (passes t 0 (omega (arith, after)))) in
         omega arith
 
     pub methods-wrong : every (stepValid objects (methodEnd s at e - at)) (recordsFrom s at (methodEnd s at e - at)) ≡ false
-        → methodsValid objects (recordsFrom s a (e - a)) ≡ false
+        → scriptsValid objects (recordsFrom s a (e - a)) ≡ false
     methods-wrong g =
         let n = methodEnd s at e - at in
-        refuted (methodsValid objects (recordsFrom s a (e - a))) λ t.
+        refuted (scriptsValid objects (recordsFrom s a (e - a))) λ t.
         not-both (every (stepValid objects n) (recordsFrom s at n))
         (every-all (stepValid objects n) [] (recordsFrom s at n) λ j l.
         let k : j < n = rw (from-length s at n) at l in
         rw (from-at s at n j k) (and-right (leb n maxMethod) (stepValid objects n (recordAt s (at + j))) (passes t j k)))
         g
 
+    pub methods-falls : (ltb (methodEnd s at e) e && ltb (keyAt s (methodEnd s at e)) (keyAt s at)) ≡ true
+        → scriptsValid objects (recordsFrom s a (e - a)) ≡ false
+    methods-falls g =
+        let next = methodEnd s at e in
+        let in-range : next < e = ltb-true next e (and-left (ltb next e) _ g) in
+        let here : getD (recordsFrom s a (e - a)) (at - a) [] ≡ recordAt s at = from-is s a e at (m .low) h in
+        let there : getD (recordsFrom s a (e - a)) (next - a) [] ≡ recordAt s next = from-is s a e next (omega (arith, m .low, after)) in-range in
+        refuted (scriptsValid objects (recordsFrom s a (e - a))) λ t.
+        let above : keyAt s at < keyAt s next =
+        rw (here, there) at (run (scripts-rise objects _ t) .above (omega (arith, from-length s a (e - a), m .low, after))) in
+        omega (arith, ltb-true (keyAt s next) (keyAt s at) (and-right (ltb next e) _ g))
+
     -- otherwise the walk goes on behind the method
+    rises : (ltb (methodEnd s at e) e && ltb (keyAt s (methodEnd s at e)) (keyAt s at)) ≡ false
+        → (r : ℕ) → at ≤ r → r < methodEnd s at e → suc r < e → keyAt s r ≤ keyAt s (suc r)
+    rises f r l g k = elim (order (suc r) (methodEnd s at e)) [
+      | less d ↦ le-of-eq (end-same s at e h r l g ∙ sym (end-same s at e h (suc r) (omega arith) d))
+      | same d ↦ rw (end-same s at e h r l g, d) (elim (decLt (keyAt s (methodEnd s at e)) (keyAt s at)) [
+        | yes b ↦ absurd (not-both (ltb (methodEnd s at e) e && ltb (keyAt s (methodEnd s at e)) (keyAt s at)) (and-both _ _ (lt-ltb _ _ (rw d at k)) (lt-ltb _ _ b)) f)
+        | no b ↦ omega arith
+      ])
+      | more d ↦ absurd (omega arith)
+    ]
+
     pub methods-more : methodEnd s at e - at ≤ maxMethod → every (stepValid objects (methodEnd s at e - at)) (recordsFrom s at (methodEnd s at e - at)) ≡ true
+        → (ltb (methodEnd s at e) e && ltb (keyAt s (methodEnd s at e)) (keyAt s at)) ≡ false
         → Methods s objects a e (methodEnd s at e)
-    methods-more g t =
+    methods-more g t f =
         let n = methodEnd s at e - at in
         record {
           low = omega (arith, m .low, after);
           high = within;
-          valid = λ i l. elim (decLt i (at - a)) [
-            | yes k ↦ m .valid i k
+          next = λ r l k d. elim (decLt r at) [
+            | yes b ↦ m .next r l b d
+            | no b ↦ rises f r (omega arith) k d
+          ];
+          valid = λ rising i l. elim (decLt i (at - a)) [
+            | yes k ↦ m .valid rising i k
             | no k ↦
                 let j : a + i ≡ at + (a + i - at) = omega (arith, m .low) in
                 let lt : a + i - at < n = omega (arith, m .low) in
                 let there : getD (recordsFrom s a (e - a)) i [] ≡ recordAt s (at + (a + i - at)) =
                 from-at s a (e - a) i (omega (arith, within, m .low)) ∙ ap (recordAt s) j in
-                rw there (test (a + i - at) lt
+                rw there (test rising (a + i - at) lt
                 ∙ and-both (leb n maxMethod) _ (le-leb n maxMethod g)
                 (rw (from-at s at n (a + i - at) lt) at (every-each (stepValid objects n) [] (recordsFrom s at n) t (a + i - at) (rw (from-length s at n) lt))))
           ];
-          start = λ l i k. run-next (recordsFrom s a (e - a)) rising (at - a) (methodEnd s at e - a) run (omega (arith, from-length s a (e - a), m .low, after)) i k;
+          start = λ rising l i k. run-next (recordsFrom s a (e - a)) rising (at - a) (methodEnd s at e - a) (run rising) (omega (arith, from-length s a (e - a), m .low, after)) i k;
         }

@@ -1,25 +1,105 @@
--- `session::scripts::are_valid` meets its contract: the methods are tested where (object, name) never falls. Assumes nothing.
+-- `session::scripts::are_valid` meets its contract. The invariant: (object, name) has not fallen, and the steps passed are whole methods, and valid if it never falls. Assumes nothing.
+use Prim.Native.Nat.{_-_}
 use mathlib.Core.Path.{sym, _∙_}
-use borrow.Author.Needs.{needs}
-use Rattle.lattice.proofs.Laws.Range.{and-taken, and-fails-left}
-use Rattle.session.specs.Questions.{scriptsValid}
+use native.Mathlib.Omega.{arith}
+use borrow.Author.Tests.{not-true, not-false}
+use Rattle.session.proofs.Laws.Scripts.{Methods, methods-none, methods-all, methods-long, methods-wrong, methods-falls, methods-more, end-after, end-within}
 use Rattle.session.proofs.scripts.are_valid.Statement.{statement}
 use Rattle.session.proofs.scripts.are_valid.Tie as tie
 
-do-keys-rise-requires : tie.Need-do-keys-rise-requires
-do-keys-rise-requires c κs = search needs
+abbrev Inv-loop : tie.InvT-loop
+Inv-loop session first end objects at₀ at = Methods session objects first end at
 
-are-methods-valid-requires : tie.Need-are-methods-valid-requires
-are-methods-valid-requires c κs = (c .before .before .before .pre, sym (c .before .do-keys-rise .ensures) ∙ c .if1 .taken)
+abbrev μ-loop : tie.MeasureT-loop
+μ-loop session first end objects at₀ at = end - at
 
-returns : tie.Need-returns
-unfolding scriptsValid
-returns c = and-taken _ _ _ (sym (c .before .before .do-keys-rise .ensures) ∙ c .before .if1 .taken) (c .are-methods-valid .ensures)
+loop-holds : tie.Need-loop-holds Inv-loop μ-loop
+loop-holds c =
+    let s = c .before in
+    methods-none (s .args .session .now) (s .args .objects) (s .args .first) (s .args .end) (s .pre .0)
 
-returns-2 : tie.Need-returns-2
-unfolding scriptsValid
-returns-2 c = sym (and-fails-left _ _ (sym (c .before .do-keys-rise .ensures) ∙ c .if1 .left))
+method-end-requires : tie.Need-method-end-requires Inv-loop μ-loop
+method-end-requires c κs = (c .loop-test .taken, c .before .before .before .pre .1)
+
+sub-if1 : tie.Need-sub-if1 Inv-loop μ-loop
+sub-if1 c =
+    let s = c .before .before .before .before in
+    omega (arith, c .method-end .ensures, end-after (s .args .session .now) (c .before .before .loop .at) (s .args .end) (c .before .loop-test .taken))
+
+returns : tie.Need-returns Inv-loop μ-loop
+returns c =
+    let s = c .before .before .before .before .before in
+    let at = c .before .before .before .loop in
+    sym (methods-long (s .args .session .now) (s .args .objects) (s .args .first) (s .args .end) (at .at) (at .inv)
+    (c .before .before .loop-test .taken)
+    (rw (c .before .method-end .ensures) at (c .if1 .taken)))
+
+is-method-valid-requires : tie.Need-is-method-valid-requires Inv-loop μ-loop
+is-method-valid-requires c κs =
+    let s = c .before .before .before .before .before in
+    let at = c .before .before .before .loop in
+    let after = end-after (s .args .session .now) (at .at) (s .args .end) (c .before .before .loop-test .taken) in
+    let within = end-within (s .args .session .now) (at .at) (s .args .end) (c .before .before .loop-test .taken) in
+    omega (arith, c .before .method-end .ensures)
+
+returns-2 : tie.Need-returns-2 Inv-loop μ-loop
+returns-2 c =
+    let s = c .before .before .before .before .before .before .before in
+    let at = c .before .before .before .before .before .loop in
+    let e = c .before .before .before .method-end .ensures in
+    sym (methods-wrong (s .args .session .now) (s .args .objects) (s .args .first) (s .args .end) (at .at) (at .inv)
+    (c .before .before .before .before .loop-test .taken)
+    (rw e at (sym (c .before .is-method-valid .ensures) ∙ not-true _ (c .if2 .taken))))
+
+falls-requires : tie.Need-falls-requires Inv-loop μ-loop
+falls-requires c κs = (c .before .before .before .before .loop-test .taken, c .before .before .before .before .before .before .before .pre .1)
+
+returns-3 : tie.Need-returns-3 Inv-loop μ-loop
+returns-3 c =
+    let m = c .before .before .before .before .before in
+    let s = m .before .before .before .before in
+    let at = m .before .before .loop in
+    sym (methods-falls (s .args .session .now) (s .args .objects) (s .args .first) (s .args .end) (at .at) (at .inv)
+    (m .before .loop-test .taken)
+    (rw (m .method-end .ensures) at (sym (c .before .falls .ensures) ∙ c .if3 .taken)))
+
+loop-less : tie.Need-loop-less Inv-loop μ-loop
+loop-less c =
+    let m = c .before .before .before .before .before in
+    let s = m .before .before .before .before in
+    omega (arith, m .method-end .ensures, end-after (s .args .session .now) (m .before .before .loop .at) (s .args .end) (m .before .loop-test .taken))
+
+loop-again : tie.Need-loop-again Inv-loop μ-loop
+loop-again c =
+    let m = c .before .before .before .before .before in
+    let s = m .before .before .before .before in
+    let at = m .before .before .loop in
+    let e = m .method-end .ensures in
+    rw e (methods-more (s .args .session .now) (s .args .objects) (s .args .first) (s .args .end) (at .at) (at .inv)
+    (m .before .loop-test .taken)
+    (rw e at (c .before .before .before .before .if1 .left))
+    (rw e at (sym (c .before .before .before .is-method-valid .ensures) ∙ not-false _ (c .before .before .if2 .left)))
+    (rw e at (sym (c .before .falls .ensures) ∙ c .if3 .left)))
+
+returns-4 : tie.Need-returns-4 Inv-loop μ-loop
+returns-4 c =
+    let s = c .before .before .before in
+    sym (methods-all (s .args .session .now) (s .args .objects) (s .args .first) (s .args .end) (c .before .loop .at) (c .before .loop .inv) (c .loop-test .left))
 
 pub are-valid-spec : {M : Type 1} → statement M
 are-valid-spec =
-    tie.close (tie.spec do-keys-rise-requires are-methods-valid-requires returns returns-2)
+    tie.close
+    (tie.spec
+    Inv-loop
+    μ-loop
+    loop-holds
+    method-end-requires
+    sub-if1
+    returns
+    is-method-valid-requires
+    returns-2
+    falls-requires
+    returns-3
+    loop-less
+    loop-again
+    returns-4)
