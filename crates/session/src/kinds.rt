@@ -9,7 +9,7 @@ ghost use Rattle.session.specs.Reading.{Counted};
 ghost use Rattle.session.specs.Questions.{kindsRise, question2};
 ghost use Rattle.session.specs.Reading.{countBelow};
 
-// Whether kinds are 1 to 4 and never falling.
+// Whether kinds are 1 to 4 and never falling. Where they never fall the last bounds all.
 pub fn kinds_rise(session: &[u8]) -> bool
     ensures { λ x. ⌜ x ≡ kindsRise (now (session .entry)) ⌝ }
 {

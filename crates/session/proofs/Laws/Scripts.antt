@@ -1,6 +1,6 @@
 -- Laws of scripts: the steps of a method stand together, and how many they are. Assumes nothing.
-use Prim.Native.Nat.{ℕ, zero, suc, _+_, _-_, _≤_, _<_}
-use mathlib.Core.Path.{_≡_, refl, sym, _∙_, ap}
+use Prim.Native.Nat.{ℕ, suc, _+_, _-_, _≤_, _<_}
+use mathlib.Core.Path.{_≡_, sym, _∙_, ap}
 use mathlib.Core.Bool.{Bool, true, false, not, _&&_}
 use mathlib.Core.List.{List, []}
 use native.Mathlib.Nat.{le-trans, le-of-lt, le-of-eq}
@@ -20,7 +20,7 @@ use Rattle.session.specs.Questions.{stepValid, scriptValid, methodsValid
 use Rattle.session.specs.Reading.{methodEnd, recordsFrom}
 use Rattle.session.proofs.Laws.Record.{from-length, from-at, from-is}
 use Rattle.session.proofs.Laws.Lists.{every-each, every-all}
-use Rattle.session.proofs.Laws.Rising.{Order, less, same, more, order, rising-le, rising-all, run-length}
+use Rattle.session.proofs.Laws.Rising.{less, same, more, order, rising-le, rising-all, run-length}
 
 -- the key of a record of a session
 abbrev pub keyAt : List ℕ → ℕ → ℕ
@@ -229,7 +229,7 @@ module _ (s : List ℕ) (objects a e : ℕ) where
         rw (here, there) at (run (scripts-rise objects _ t) .above (omega (arith, from-length s a (e - a), m .low, after))) in
         omega (arith, ltb-true (keyAt s next) (keyAt s at) (and-right (ltb next e) _ g))
 
-    -- otherwise the walk goes on behind the method
+    -- where the next method is no fall there is none in this one
     rises : (ltb (methodEnd s at e) e && ltb (keyAt s (methodEnd s at e)) (keyAt s at)) ≡ false
         → (r : ℕ) → at ≤ r → r < methodEnd s at e → suc r < e → keyAt s r ≤ keyAt s (suc r)
     rises f r l g k = elim (order (suc r) (methodEnd s at e)) [
@@ -241,6 +241,7 @@ module _ (s : List ℕ) (objects a e : ℕ) where
       | more d ↦ absurd (omega arith)
     ]
 
+    -- otherwise the walk goes on behind the method
     pub methods-more : methodEnd s at e - at ≤ maxMethod → every (stepValid objects (methodEnd s at e - at)) (recordsFrom s at (methodEnd s at e - at)) ≡ true
         → (ltb (methodEnd s at e) e && ltb (keyAt s (methodEnd s at e)) (keyAt s at)) ≡ false
         → Methods s objects a e (methodEnd s at e)

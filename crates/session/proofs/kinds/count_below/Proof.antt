@@ -1,6 +1,5 @@
 -- `session::kinds::count_below` meets its contract. The invariant: the number of records below `kind` is from `low` to `high`. Assumes nothing.
-use Prim.Native.Nat.{ℕ, _≤_, _<_, _+_, _-_, _/_}
-use mathlib.Core.Path.{_≡_}
+use Prim.Native.Nat.{_≤_, _<_, _+_, _-_, _/_}
 use native.Mathlib.Omega.{arith}
 use Rattle.session.specs.Record.{recordAt, recordCount, recordsOf, kindOf}
 use Rattle.session.specs.Reading.{countBelow}
