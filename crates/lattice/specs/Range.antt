@@ -1,6 +1,6 @@
 -- Tests over the numbers below n: what "each", "no two" and "every pair" of document 01 compute to. Assumes nothing.
 use Prim.Native.Nat.{ℕ, zero, suc}
-use mathlib.Core.Bool.{Bool, true, false, not, cond, _&&_, _||_}
+use mathlib.Core.Bool.{Bool, true, not, cond, _&&_, _||_}
 
 -- b passes wherever a does
 abbrev pub implies : Bool → Bool → Bool

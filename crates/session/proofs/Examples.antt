@@ -2,7 +2,7 @@
 -- Assumes nothing.
 use Prim.Native.Nat.{ℕ, _+_, _*_}
 use mathlib.Core.Path.{_≡_, refl}
-use mathlib.Core.List.{List, [], _∷_, _++_}
+use mathlib.Core.List.{List, [], _∷_}
 use lib.ListN.{length, take, set}
 use Rattle.lattice.specs.Range.{all, first}
 use Rattle.lattice.specs.Order.{reflexive, antisymmetric, transitive, isOrder}
@@ -12,7 +12,7 @@ use Rattle.session.specs.Lists.{every, select, risingFrom, countsFrom, t
 use Rattle.session.specs.Record.{recordAt, recordsOf, wordOf, unused, stepOf}
 use Rattle.session.specs.Parts.{ofKind, masksOf, methodRecords}
 use Rattle.session.specs.Questions.{question1, kindsRise, question2, question3, objectValid, question6, operandsValid, stepValid, scriptValid, scriptsValid, rootValid, firstNo, verdictOf, numberOfVerdict}
-use Rattle.session.specs.Meaning.{levelOf, fieldOf, methodOf, rootObject, rootName, rootParameter}
+use Rattle.session.specs.Meaning.{levelOf, fieldOf, methodOf, rootParameter}
 use Rattle.session.specs.Emptied.{stays, blanked, emptied}
 use Rattle.session.specs.SessionW.{sessionW}
 use Rattle.session.specs.declared.Value.the-variants.{Nil, Number}

@@ -1,7 +1,7 @@
 -- Laws of the join, for any number of levels and any dominance test. Assumes nothing.
 use Prim.Native.Nat.{ℕ, _≤_, _<_}
-use mathlib.Core.Path.{_≡_, refl, sym, _∙_, ap, ap₂, fun-ext}
-use mathlib.Core.Bool.{Bool, true, false, not, _&&_, and-comm}
+use mathlib.Core.Path.{_≡_, _∙_, ap, ap₂, fun-ext}
+use mathlib.Core.Bool.{true, false, not, _&&_, and-comm}
 use mathlib.Core.Logic.{_↔_}
 use native.Mathlib.Decide.{decLt}
 use native.Mathlib.Omega.{arith}

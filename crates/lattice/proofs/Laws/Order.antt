@@ -1,7 +1,7 @@
 -- A dominance test passes question 4 exactly where it is a partial order, for any number of levels. Assumes nothing.
 use Prim.Native.Nat.{ℕ, _<_}
 use mathlib.Core.Path.{_≡_, _∙_}
-use mathlib.Core.Bool.{Bool, true, false, _&&_, and-comm}
+use mathlib.Core.Bool.{true, false, _&&_, and-comm}
 use native.Mathlib.Decide.{decLt}
 use native.Mathlib.Omega.{arith}
 use borrow.Author.Tests.{eqb-true, eq-eqb, ne-eqb}

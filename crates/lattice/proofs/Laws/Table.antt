@@ -1,7 +1,7 @@
 -- Laws of level tables: what the verdict says of the masks and of dominance. Assumes nothing.
-use Prim.Native.Nat.{ℕ, zero, _≤_, _<_, _/_, _%_, _^_}
-use mathlib.Core.Path.{_≡_, refl, sym, _∙_, ap}
-use mathlib.Core.Bool.{Bool, true, false, cond, _&&_, true≢false, false≢true}
+use Prim.Native.Nat.{ℕ, _≤_, _<_, _/_, _^_}
+use mathlib.Core.Path.{_≡_, refl, sym, _∙_}
+use mathlib.Core.Bool.{Bool, true, false, cond, _&&_}
 use mathlib.Core.List.{List}
 use native.Mathlib.Nat.{div-eq-of-lt, div-lt-iff-lt-mul, one-mul, le-trans}
 use native.Mathlib.Decide.{decLt}
@@ -10,11 +10,9 @@ use borrow.Author.Tests.{ltb-true, lt-ltb, le-ltb, ne-eqb}
 use lib.Dec.{eqb, ltb}
 use lib.Pow.{pow-pos, pow-mono}
 use lib.ListN.{length, getD, List·getD-eq-default}
-use Rattle.lattice.specs.Range.{all}
 use Rattle.lattice.specs.Order.{reflexive, antisymmetric, transitive, isOrder, PartialOrder}
-use Rattle.lattice.specs.Join.{hasJoins, JoinSemilattice}
+use Rattle.lattice.specs.Join.{JoinSemilattice}
 use Rattle.lattice.specs.Table.{bit, dominates, namesPresent, isOrdered, isJoined, verdictOf}
-use Rattle.lattice.specs.declared.Verdict.{Verdict}
 use Rattle.lattice.specs.declared.Verdict.the-variants.{Passed, NotOrdered, NoJoin}
 use Rattle.lattice.proofs.Laws.Range.{and-left, and-right, not-both, all-each}
 use Rattle.lattice.proofs.Laws.Order.{order}

@@ -1,19 +1,19 @@
 -- What acceptance gives the functions that read a session: where each object, each method and the root message stand. Assumes nothing.
-use Prim.Native.Nat.{ℕ, suc, _+_, _-_, _*_, _/_, _%_, _^_, _≤_, _<_}
-use mathlib.Core.Path.{_≡_, refl, sym, _∙_, ap}
-use mathlib.Core.Bool.{Bool, true, false, _&&_}
+use Prim.Native.Nat.{ℕ, suc, _+_, _-_, _*_, _/_, _%_, _≤_, _<_}
+use mathlib.Core.Path.{_≡_, sym, _∙_, ap}
+use mathlib.Core.Bool.{true}
 use mathlib.Core.List.{List, [], map}
 use native.Mathlib.Decide.{decLt}
 use native.Mathlib.Omega.{arith}
 use borrow.Author.Tests.{ltb-true, lt-ltb, le-ltb}
 use lib.Dec.{ltb}
 use lib.ListN.{length, getD, length-map, List·getD-map, List·getD-eq-default}
-use Rattle.lattice.proofs.Laws.Range.{and-left, and-right}
+use Rattle.lattice.proofs.Laws.Range.{and-left}
 use Rattle.session.specs.Limits.{names, maxMethods, maxObjects}
-use Rattle.session.specs.Lists.{every, select, risingFrom, tab}
-use Rattle.session.specs.Record.{Record, recordAt, recordCount, numberOf, nameOf, maskOf, stepOf}
+use Rattle.session.specs.Lists.{risingFrom}
+use Rattle.session.specs.Record.{recordAt, recordCount, numberOf, nameOf, maskOf, stepOf}
 use Rattle.session.specs.Parts.{levelRecords, objectRecords, stepRecords, levelCount, objectCount, stepCount, masksOf, key, keyOf, methodRecords, rootRecord}
-use Rattle.session.specs.Questions.{stepValid, scriptValid, methodsValid, scriptsValid, kindsRise, verdictOf}
+use Rattle.session.specs.Questions.{scriptValid, methodsValid, scriptsValid, kindsRise, verdictOf}
 use Rattle.session.specs.Meaning.{stepAt}
 use Rattle.session.specs.Reading.{methodStart, indexOf, countBelow}
 use Rattle.session.specs.declared.Verdict.the-variants.{Accepted}

@@ -1,14 +1,13 @@
 -- The emptied session of an accepted session is accepted: each of the eight questions says yes. Assumes nothing.
 use Prim.Native.Nat.{ℕ, _+_, _*_, _/_, _%_, _≤_, _<_}
 use mathlib.Core.Path.{_≡_, _∙_, ap, fun-ext}
-use mathlib.Core.Bool.{true, _&&_, _||_, or-true}
+use mathlib.Core.Bool.{true, _&&_, or-true}
 use mathlib.Core.List.{List}
 use native.Mathlib.Omega.{arith}
 use borrow.Author.Tests.{eqb-true, eq-eqb, leb-true, le-leb, ltb-true}
 use lib.Dec.{eqb, leb, ltb}
 use lib.ListN.{length, length-map}
 use Rattle.lattice.specs.Range.{implies}
-use Rattle.lattice.specs.Table.{bit}
 use Rattle.lattice.proofs.Laws.Range.{and-left, and-right, and-both, implies-when, all-every}
 use Rattle.session.specs.Lists.{every, select, risingFrom, countsFrom}
 use Rattle.session.specs.Record.{Record, recordsOf, byteOf, unused, between, kindOf, numberOf, levelByte, nameOf}

@@ -1,8 +1,8 @@
 -- Where the records of each kind stand, in a session whose kinds never fall. Assumes nothing.
 use Prim.Native.Nat.{ℕ, suc, _+_, _≤_, _<_, suc-le-suc}
-use mathlib.Core.Path.{_≡_, refl, sym, _∙_, ap}
-use mathlib.Core.Bool.{Bool, true, false, not, _&&_}
-use mathlib.Core.List.{List, [], _∷_}
+use mathlib.Core.Path.{_≡_, sym, _∙_, ap}
+use mathlib.Core.Bool.{true, false, not, _&&_}
+use mathlib.Core.List.{List, []}
 use native.Mathlib.Nat.{le-trans}
 use native.Mathlib.Decide.{decLt}
 use native.Mathlib.Omega.{arith}
@@ -11,14 +11,14 @@ use lib.Dec.{eqb, leb, ltb}
 use lib.ListN.{length, getD}
 use lib.Seq.{ext-getD}
 use Rattle.lattice.proofs.Laws.Range.{and-left, and-right, and-both, refuted}
-use Rattle.session.specs.Lists.{every, select, risingFrom, tab}
-use Rattle.session.specs.Record.{Record, recordAt, recordCount, recordsOf, kindOf}
+use Rattle.session.specs.Lists.{every, risingFrom}
+use Rattle.session.specs.Record.{recordAt, recordCount, recordsOf, kindOf}
 use Rattle.session.specs.Parts.{ofKind, levelRecords, objectRecords, stepRecords, rootRecords, levelCount, objectCount, stepCount, rootRecord}
 use Rattle.session.specs.Questions.{kindsRise, question2}
-use Rattle.session.specs.Reading.{Counted, countBelow, recordsFrom}
+use Rattle.session.specs.Reading.{countBelow, recordsFrom}
 use Rattle.session.proofs.Laws.Record.{records-length, record-is, from-length, from-at}
-use Rattle.session.proofs.Laws.Lists.{Truth, holds, fails, truth, every-each, every-all, select-length, select-all, select-none}
-use Rattle.session.proofs.Laws.Rising.{among, first-below, rest-above, count-more, among-at, rising-next, rising-all, Climbed, climbed-most}
+use Rattle.session.proofs.Laws.Lists.{holds, fails, truth, every-each, every-all, select-length, select-all, select-none}
+use Rattle.session.proofs.Laws.Rising.{first-below, rest-above, count-more, among-at, rising-next, rising-all, Climbed, climbed-most}
 
 -- no more records have a kind below m than there are
 pub below-le : (s : List ℕ) (m : ℕ) → countBelow kindOf m (recordsOf s) ≤ recordCount s

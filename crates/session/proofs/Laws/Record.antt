@@ -2,7 +2,7 @@
 use Prim.Native.Nat.{ℕ, zero, suc, _+_, _-_, _*_, _≤_, _<_}
 use mathlib.Core.Path.{_≡_, refl, sym, _∙_, ap}
 use mathlib.Core.Bool.{Bool, true, false, _&&_, _||_}
-use mathlib.Core.List.{List, [], _∷_}
+use mathlib.Core.List.{List, []}
 use mathlib.Core.Logic.{_⊎_, inl, inr}
 use native.Mathlib.Nat.{add-zero}
 use native.Mathlib.Decide.{decLt}
@@ -11,14 +11,13 @@ use borrow.Author.Tests.{leb-true, ltb-true, eqb-true, eqb-false, le-leb, lt-ltb
 use lib.Dec.{eqb, leb, ltb}
 use lib.ListN.{length, getD, List·getD-eq-default}
 use lib.Seq.{getD-take, getD-drop}
-use Rattle.lattice.specs.Range.{implies, all}
-use Rattle.lattice.proofs.Laws.Range.{refuted, not-both, and-left, and-right, and-both, and-fails-left, and-fails-right, implies-then, implies-when, implies-left, implies-fails, all-each, all-every, all-fails, all-both}
+use Rattle.lattice.specs.Range.{implies}
+use Rattle.lattice.proofs.Laws.Range.{refuted, not-both, and-left, and-right, and-both, implies-then, implies-when, implies-fails, all-each, all-every, all-fails, all-both}
 use Rattle.session.specs.Limits.{recordBytes}
 use Rattle.session.specs.Record.{Record, recordAt, recordCount, recordsOf, byteOf, wordOf, unused, between, from, operations, stepOf, holds as has, fieldIn, parameterOf}
 use Rattle.session.specs.Reading.{recordsFrom}
 use Rattle.session.specs.declared.Value.the-variants.{Nil, Number}
-use Rattle.session.proofs.Laws.Lists.{Truth, holds, fails, truth, length-tab, getD-tab}
-use Rattle.session.specs.declared.Step.{Step}
+use Rattle.session.proofs.Laws.Lists.{holds, fails, truth, length-tab, getD-tab}
 use Rattle.session.specs.declared.Step.the-variants.{End, Set, Add, Jump, Read, Write, Send, Quit}
 
 -- byte k of record r stands at 16 r + k

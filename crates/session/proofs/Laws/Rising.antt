@@ -1,18 +1,18 @@
 -- Positions in a list along which a number never falls: the elements countBelow f k stand first, then those at k. Assumes nothing.
 use Prim.Native.Nat.{ℕ, zero, suc, _+_, _-_, _≤_, _<_, suc-le-suc}
 use mathlib.Core.Path.{_≡_, refl, sym, _∙_, ap}
-use mathlib.Core.Bool.{Bool, true, false, _&&_}
+use mathlib.Core.Bool.{Bool, true}
 use mathlib.Core.List.{List, [], _∷_}
 use native.Mathlib.Nat.{zero-add, suc-add, le-trans, le-antisymm, le-of-eq}
 use native.Mathlib.Decide.{decLt}
 use native.Mathlib.Omega.{arith}
-use borrow.Author.Tests.{leb-true, le-leb, lt-leb, lt-ltb, le-ltb, eq-eqb, ne-eqb}
+use borrow.Author.Tests.{leb-true, le-leb, lt-ltb, le-ltb, eq-eqb, ne-eqb}
 use lib.Dec.{eqb, leb, ltb}
 use lib.ListN.{length, getD}
-use Rattle.lattice.proofs.Laws.Range.{and-left, and-right, and-both, and-fails-left, and-fails-right}
+use Rattle.lattice.proofs.Laws.Range.{and-left, and-right, and-both}
 use Rattle.session.specs.Lists.{select, risingFrom}
 use Rattle.session.specs.Reading.{countBelow}
-use Rattle.session.proofs.Laws.Lists.{Truth, holds, fails, truth, select-yes, select-no, select-length}
+use Rattle.session.proofs.Laws.Lists.{holds, fails, truth, select-yes, select-no, select-length}
 
 -- two numbers, compared
 pub data Order (a b : ℕ) : Type 0 where

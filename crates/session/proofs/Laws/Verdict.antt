@@ -1,10 +1,10 @@
 -- The verdict is that of the first question that says no; a session is accepted exactly where all eight say yes. Assumes nothing.
 use mathlib.Core.Path.{_≡_, refl, sym, _∙_}
 use mathlib.Core.Bool.{Bool, true, false, cond}
-use mathlib.Core.List.{List, [], _∷_}
+use mathlib.Core.List.{List}
 use Prim.Native.Nat.{ℕ, _<_}
 use native.Mathlib.Omega.{arith}
-use Rattle.session.specs.Questions.{question1, question2, question3, question4, question5, question6, question7, question8, Asked, firstNo, verdictOf, numberOfVerdict}
+use Rattle.session.specs.Questions.{question1, question2, question3, question4, question5, question6, question7, question8, firstNo, verdictOf, numberOfVerdict}
 use Rattle.session.specs.declared.Verdict.{Verdict}
 use Rattle.session.specs.declared.Verdict.the-variants.{Accepted, Length, Kinds, Numbering, NotOrdered, NoJoin, Object, Script, Root}
 

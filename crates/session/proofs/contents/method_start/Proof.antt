@@ -1,6 +1,5 @@
 -- `session::contents::method_start` meets its contract. The invariant: the steps passed have smaller keys. Assumes nothing.
 use Prim.Native.Nat.{_+_, _-_, _≤_, _<_}
-use mathlib.Core.Path.{_≡_}
 use native.Mathlib.Nat.{le-antisymm}
 use native.Mathlib.Omega.{arith}
 use Rattle.session.specs.Parts.{levelCount, objectCount, stepCount}

@@ -1,9 +1,8 @@
 -- `session::scripts::method_end` meets its contract. The invariant: the records passed are of the method of `r`. Assumes nothing.
-use Prim.Native.Nat.{ℕ, suc, _+_, _-_, _≤_, _<_}
+use Prim.Native.Nat.{ℕ, suc, _-_, _≤_, _<_}
 use mathlib.Core.Path.{_≡_, sym, _∙_}
 use native.Mathlib.Omega.{arith}
 use borrow.Author.Count.{below-more}
-use borrow.Author.Needs.{needs}
 use Rattle.session.proofs.Laws.Scripts.{keyAt, end-at, end-none}
 use Rattle.session.proofs.scripts.method_end.Statement.{statement}
 use Rattle.session.proofs.scripts.method_end.Tie as tie
