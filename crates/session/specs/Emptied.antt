@@ -7,7 +7,7 @@ use lib.ListN.{take, replicate}
 use Rattle.lattice.specs.Table.{dominates}
 use Rattle.session.specs.Limits.{recordBytes}
 use Rattle.session.specs.Lists.{select, joined}
-use Rattle.session.specs.Record.{Record, recordsOf, kindOf, numberOf, levelByte}
+use Rattle.session.specs.Record.{Record, recordsOf, kindOf, objectOf, levelByte}
 use Rattle.session.specs.Parts.{masksOf}
 use Rattle.session.specs.Meaning.{levelOf}
 
@@ -17,7 +17,7 @@ hides s c l = not (dominates (masksOf s) c l)
 
 -- "its kind 3 records are left out": the records that stay
 unfoldable pub stays : List ℕ → ℕ → Record → Bool
-stays s c rec = not (eqb (kindOf rec) 3 && hides s c (levelOf s (numberOf rec)))
+stays s c rec = not (eqb (kindOf rec) 3 && hides s c (levelOf s (objectOf rec)))
 
 -- "its kind 2 record has mask and fields 0": bytes 3 to 15
 unfoldable pub blanked : List ℕ → ℕ → Record → Record

@@ -2,7 +2,7 @@
 use Prim.Native.Nat.{ℕ}
 use mathlib.Core.List.{List, [], map}
 use lib.ListN.{getD}
-use Rattle.session.specs.Record.{levelByte, fieldIn, numberOf, nameOf, stepOf, parameterOf}
+use Rattle.session.specs.Record.{levelByte, fieldIn, objectOf, nameOf, stepOf, parameterOf}
 use Rattle.session.specs.Parts.{objectRecords, key, methodRecords, rootRecord}
 use Rattle.session.specs.declared.Message.{Message}
 use Rattle.session.specs.declared.Value.{Value}
@@ -27,7 +27,7 @@ stepAt s object name j = getD (methodOf s object name) j End
 
 -- the root message
 abbrev pub rootObject : List ℕ → ℕ
-rootObject s = numberOf (rootRecord s)
+rootObject s = objectOf (rootRecord s)
 
 abbrev pub rootName : List ℕ → ℕ
 rootName s = nameOf (rootRecord s)

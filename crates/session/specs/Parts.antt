@@ -4,7 +4,7 @@ use mathlib.Core.List.{List, [], map}
 use lib.Dec.{eqb}
 use lib.ListN.{length, getD}
 use Rattle.session.specs.Lists.{select}
-use Rattle.session.specs.Record.{Record, recordsOf, kindOf, numberOf, maskOf, nameOf}
+use Rattle.session.specs.Record.{Record, recordsOf, kindOf, objectOf, maskOf, nameOf}
 
 -- the records of one kind, in their order
 unfoldable pub ofKind : ℕ → List ℕ → List Record
@@ -43,7 +43,7 @@ key object name = 2 ^ 8 * object + name
 
 -- the pair of a step
 abbrev pub keyOf : Record → ℕ
-keyOf rec = key (numberOf rec) (nameOf rec)
+keyOf rec = key (objectOf rec) (nameOf rec)
 
 -- those of some steps that are of one method, in their order
 abbrev pub ofMethod : ℕ → List Record → List Record

@@ -8,7 +8,7 @@ use Rattle.lattice.specs.Range.{all}
 use Rattle.lattice.specs.Table.{isOrdered, isJoined}
 use Rattle.session.specs.Limits.{recordBytes, maxRecords, maxLevels, maxObjects, maxSteps, maxMethod, names, registers, fields}
 use Rattle.session.specs.Lists.{every, risingFrom, countsFrom}
-use Rattle.session.specs.Record.{Record, recordCount, recordsOf, byteOf, unused, from, between, kindOf, numberOf, levelByte, holds, nameOf, stepOf}
+use Rattle.session.specs.Record.{Record, recordCount, recordsOf, zeroAt, from, between, kindOf, numberOf, objectOf, levelByte, fieldMask, holds, nameOf, stepOf, tagOf}
 use Rattle.session.specs.Parts.{levelRecords, objectRecords, stepRecords, rootRecords, levelCount, objectCount, stepCount, masksOf, keyOf, ofMethod, rootRecord}
 use Rattle.session.specs.declared.Step.{Step}
 use Rattle.session.specs.declared.Step.the-variants.{End, Set, Add, Jump, Read, Write, Send, Quit}
@@ -37,7 +37,7 @@ question3 s =
     && leb (stepCount s) maxSteps
     && countsFrom numberOf 0 (levelRecords s)
     && countsFrom numberOf 0 (objectRecords s)
-    && every (unused (from 3)) (levelRecords s)
+    && every (zeroAt (from 3)) (levelRecords s)
 
 -- 4. Does each mask name only present levels and its own, do no two levels dominate each other, and does dominance carry through?
 abbrev pub question4 : List ℕ → Bool
@@ -49,35 +49,36 @@ question5 s = isJoined (masksOf s)
 
 -- field k holds a number, or is NIL and 0
 abbrev pub fieldValid : Record → ℕ → Bool
-fieldValid rec k = holds rec k || unused (between (4 + 4 * k) (4 + 4 * k + 4)) rec
+fieldValid rec k = holds rec k || zeroAt (between (4 + 4 * k) (4 + 4 * k + 4)) rec
 
 -- an object's level present, its mask below 8, each NIL field 0
 unfoldable pub objectValid : ℕ → Record → Bool
 objectValid levels rec =
     ltb (levelByte rec) levels
-    && ltb (byteOf rec 3) (2 ^ fields)
+    && ltb (fieldMask rec) (2 ^ fields)
     && all fields (fieldValid rec)
 
 -- 6. Is each object's level present, its mask below 8, each NIL field 0?
 unfoldable pub question6 : List ℕ → Bool
 question6 s = every (objectValid (levelCount s)) (objectRecords s)
 
--- the operands of a step in a method of so many steps, and "Operands not named here are 0". No operation but 1 to 7 is valid
+-- the operands of a step among so many objects and in a method of so many steps; "Operands not named here are 0", and so are byte 7,
+-- bytes 12 to 15, and n in all but SET. No operation but 1 to 7 is valid
 unfoldable pub operandsValid : ℕ → ℕ → Record → Step → Bool
 operandsValid objects count rec End = false
-operandsValid objects count rec (Set a n) = ltb a registers && unused (λ k. between 5 8 k || from 12 k) rec
-operandsValid objects count rec (Add a b) = ltb a registers && ltb b registers && unused (from 6) rec
-operandsValid objects count rec (Jump a b) = ltb a registers && leb b count && unused (from 6) rec
-operandsValid objects count rec (Read a b) = ltb a registers && ltb b fields && unused (from 6) rec
-operandsValid objects count rec (Write a b) = ltb a registers && ltb b fields && unused (from 6) rec
-operandsValid objects count rec (Send a b c) = ltb a registers && ltb b names && ltb c objects && unused (from 7) rec
-operandsValid objects count rec (Quit a) = ltb a registers && unused (from 5) rec
+operandsValid objects count rec (Set a n) = ltb a registers && zeroAt (λ k. between 5 8 k || from 12 k) rec
+operandsValid objects count rec (Add a b) = ltb a registers && ltb b registers && zeroAt (from 6) rec
+operandsValid objects count rec (Jump a b) = ltb a registers && leb b count && zeroAt (from 6) rec
+operandsValid objects count rec (Read a b) = ltb a registers && ltb b fields && zeroAt (from 6) rec
+operandsValid objects count rec (Write a b) = ltb a registers && ltb b fields && zeroAt (from 6) rec
+operandsValid objects count rec (Send a b c) = ltb a registers && ltb b names && ltb c objects && zeroAt (from 7) rec
+operandsValid objects count rec (Quit a) = ltb a registers && zeroAt (from 5) rec
 
 -- a step, among so many objects and in a method of so many steps: object present, name at most 15, operation 1 to 7, registers
 -- 0 to 3, fields 0 to 2, jump target at most the method's step count, SEND's name and object valid, unused bytes 0
 unfoldable pub stepValid : ℕ → ℕ → Record → Bool
 stepValid objects count rec =
-    ltb (numberOf rec) objects && ltb (nameOf rec) names && operandsValid objects count rec (stepOf rec)
+    ltb (objectOf rec) objects && ltb (nameOf rec) names && operandsValid objects count rec (stepOf rec)
 
 -- a step among some steps, of which those of its method are at most 16
 unfoldable pub scriptValid : ℕ → List Record → Record → Bool
@@ -99,11 +100,11 @@ question7 s = scriptsValid (objectCount s) (stepRecords s)
 -- the root's object present, name at most 15, tag 0 or 1, a NIL parameter 0, unused bytes 0
 unfoldable pub rootValid : ℕ → Record → Bool
 rootValid objects rec =
-    ltb (numberOf rec) objects
+    ltb (objectOf rec) objects
     && ltb (nameOf rec) names
-    && leb (byteOf rec 3) 1
-    && (eqb (byteOf rec 3) 1 || unused (between 4 8) rec)
-    && unused (from 8) rec
+    && leb (tagOf rec) 1
+    && (eqb (tagOf rec) 1 || zeroAt (between 4 8) rec)
+    && zeroAt (from 8) rec
 
 -- 8. Is the root's object present, name at most 15, tag 0 or 1, a NIL parameter 0, unused bytes 0?
 abbrev pub question8 : List ℕ → Bool

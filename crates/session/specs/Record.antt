@@ -39,8 +39,8 @@ wordOf rec k =
     byteOf rec k + 2 ^ 8 * byteOf rec (k + 1) + 2 ^ 16 * byteOf rec (k + 2) + 2 ^ 24 * byteOf rec (k + 3)
 
 -- "unnamed bytes are 0": each chosen byte of the record is 0
-unfoldable pub unused : (ℕ → Bool) → Record → Bool
-unused chosen rec = all recordBytes (λ k. implies (chosen k) (eqb (byteOf rec k) 0))
+unfoldable pub zeroAt : (ℕ → Bool) → Record → Bool
+zeroAt chosen rec = all recordBytes (λ k. implies (chosen k) (eqb (byteOf rec k) 0))
 
 -- the bytes from place a up to e, and those from a on
 abbrev pub between : ℕ → ℕ → ℕ → Bool
@@ -53,9 +53,13 @@ from a = between a recordBytes
 abbrev pub kindOf : Record → ℕ
 kindOf rec = byteOf rec 0
 
--- kinds 1 and 2: "byte 1 number"; kinds 3 and 4: "byte 1 object"
+-- kinds 1 and 2: "byte 1 number"
 abbrev pub numberOf : Record → ℕ
 numberOf rec = byteOf rec 1
+
+-- kinds 3 and 4: "byte 1 object"
+abbrev pub objectOf : Record → ℕ
+objectOf rec = byteOf rec 1
 
 -- kind 1: "byte 2 mask"
 abbrev pub maskOf : Record → ℕ
@@ -66,8 +70,11 @@ abbrev pub levelByte : Record → ℕ
 levelByte rec = byteOf rec 2
 
 -- kind 2: "byte 3 mask of fields holding a number (bit k for field k)"
+abbrev pub fieldMask : Record → ℕ
+fieldMask rec = byteOf rec 3
+
 abbrev pub holds : Record → ℕ → Bool
-holds rec k = bit (byteOf rec 3) k
+holds rec k = bit (fieldMask rec) k
 
 -- kind 2: "bytes 4 to 15 three 32-bit fields"; "A field without its bit is NIL"
 abbrev pub fieldIn : Record → ℕ → Value
@@ -77,17 +84,20 @@ fieldIn rec k = cond (holds rec k) (Number (wordOf rec (4 + 4 * k))) Nil
 abbrev pub nameOf : Record → ℕ
 nameOf rec = byteOf rec 2
 
--- kind 3: "bytes 4, 5, 6 operands a, b, c, bytes 8 to 11 a number n": the step by each operation, from 0 on
+-- kind 3: "bytes 4, 5, 6 operands a, b, c, bytes 8 to 11 a number n": the step by each operation of "1 SET .. 7 QUIT"
 abbrev pub operations : Record → List Step
 operations rec =
     let a = byteOf rec 4 in
     let b = byteOf rec 5 in
     End ∷ Set a (wordOf rec 8) ∷ Add a b ∷ Jump a b ∷ Read a b ∷ Write a b ∷ Send a b (byteOf rec 6) ∷ Quit a ∷ []
 
--- kind 3: "byte 3 operation"
+-- kind 3: "byte 3 operation". No operation but 1 to 7 makes a step
 unfoldable pub stepOf : Record → Step
 stepOf rec = getD (operations rec) (byteOf rec 3) End
 
 -- kind 4: "byte 3 tag (1 number, 0 NIL), bytes 4 to 7 parameter"
+abbrev pub tagOf : Record → ℕ
+tagOf rec = byteOf rec 3
+
 abbrev pub parameterOf : Record → Value
-parameterOf rec = cond (eqb (byteOf rec 3) 1) (Number (wordOf rec 4)) Nil
+parameterOf rec = cond (eqb (tagOf rec) 1) (Number (wordOf rec 4)) Nil

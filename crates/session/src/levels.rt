@@ -9,7 +9,7 @@ ghost use lib.Dec.{eqb};
 ghost use lib.ListN.{length, drop};
 ghost use Rattle.lattice.specs.Range.{all};
 ghost use Rattle.session.specs.Lists.{tab};
-ghost use Rattle.session.specs.Record.{recordAt, recordCount, numberOf, maskOf, unused, from};
+ghost use Rattle.session.specs.Record.{recordAt, recordCount, numberOf, maskOf, zeroAt, from};
 ghost use Rattle.session.specs.Questions.{kindsRise, question3};
 ghost use Rattle.session.specs.Reading.{Counted};
 
@@ -29,7 +29,7 @@ fn is_numbered(session: &[u8], first: usize, count: usize) -> bool
 // Whether the unnamed bytes of the first `count` records, which are levels, are 0.
 fn is_padded(session: &[u8], count: usize) -> bool
     requires { ⌜ count ≤ recordCount (now session) ⌝ }
-    ensures { λ x. ⌜ x ≡ all count (λ i. unused (from 3) (recordAt (now (session .entry)) i)) ⌝ }
+    ensures { λ x. ⌜ x ≡ all count (λ i. zeroAt (from 3) (recordAt (now (session .entry)) i)) ⌝ }
 {
     for i in 0..count {
         if !record::is_unused(session, i, 3) {

@@ -3,7 +3,7 @@ use crate::Step;
 ghost use mathlib.Core.Path.{_≡_};
 ghost use Prim.Native.Nat.{_+_, _≤_, _<_};
 ghost use Rattle.session.specs.Limits.{recordBytes};
-ghost use Rattle.session.specs.Record.{recordAt, recordCount, byteOf, wordOf, unused, between, from, stepOf};
+ghost use Rattle.session.specs.Record.{recordAt, recordCount, byteOf, wordOf, zeroAt, between, from, stepOf};
 
 // A byte as a 32-bit number.
 fn wide(b: u8) -> u32
@@ -35,7 +35,7 @@ pub fn word_at(session: &[u8], r: usize, k: usize) -> u32
 // Whether the bytes from `a` up to `e` of record `r` are 0.
 pub fn are_unused(session: &[u8], r: usize, a: usize, e: usize) -> bool
     requires { ⌜ (r < recordCount (now session)) × (e ≤ recordBytes) ⌝ }
-    ensures { λ x. ⌜ x ≡ unused (between a e) (recordAt (now (session .entry)) r) ⌝ }
+    ensures { λ x. ⌜ x ≡ zeroAt (between a e) (recordAt (now (session .entry)) r) ⌝ }
 {
     for k in a..e {
         if byte_at(session, r, k) != 0 {
@@ -48,7 +48,7 @@ pub fn are_unused(session: &[u8], r: usize, a: usize, e: usize) -> bool
 // Whether the four bytes from `k` on of record `r` are 0.
 pub fn is_word_unused(session: &[u8], r: usize, k: usize) -> bool
     requires { ⌜ (r < recordCount (now session)) × (k + 4 ≤ recordBytes) ⌝ }
-    ensures { λ x. ⌜ x ≡ unused (between k (k + 4)) (recordAt (now (session .entry)) r) ⌝ }
+    ensures { λ x. ⌜ x ≡ zeroAt (between k (k + 4)) (recordAt (now (session .entry)) r) ⌝ }
 {
     word_at(session, r, k) == 0
 }
@@ -56,7 +56,7 @@ pub fn is_word_unused(session: &[u8], r: usize, k: usize) -> bool
 // Whether the bytes from `a` on of record `r` are 0, where `a` is at most 8.
 pub fn is_unused(session: &[u8], r: usize, a: usize) -> bool
     requires { ⌜ (r < recordCount (now session)) × (a ≤ 8) ⌝ }
-    ensures { λ x. ⌜ x ≡ unused (from a) (recordAt (now (session .entry)) r) ⌝ }
+    ensures { λ x. ⌜ x ≡ zeroAt (from a) (recordAt (now (session .entry)) r) ⌝ }
 {
     if !are_unused(session, r, a, 8) {
         return false;

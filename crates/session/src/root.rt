@@ -4,13 +4,13 @@ ghost use mathlib.Core.Path.{_≡_};
 ghost use mathlib.Core.Bool.{_||_};
 ghost use Prim.Native.Nat.{_<_};
 ghost use lib.Dec.{eqb};
-ghost use Rattle.session.specs.Record.{recordAt, recordCount, byteOf, unused, between};
+ghost use Rattle.session.specs.Record.{recordAt, recordCount, byteOf, zeroAt, between};
 ghost use Rattle.session.specs.Questions.{rootValid};
 
 // Whether the parameter of the root message in record `r` is a number, or NIL with its bytes 0.
 fn is_parameter_valid(session: &[u8], r: usize) -> bool
     requires { ⌜ r < recordCount (now session) ⌝ }
-    ensures { λ x. ⌜ x ≡ (eqb (byteOf (recordAt (now (session .entry)) r) 3) 1 || unused (between 4 8) (recordAt (now (session .entry)) r)) ⌝ }
+    ensures { λ x. ⌜ x ≡ (eqb (byteOf (recordAt (now (session .entry)) r) 3) 1 || zeroAt (between 4 8) (recordAt (now (session .entry)) r)) ⌝ }
 {
     if record::byte_at(session, r, 3) == 1 {
         true

@@ -2,12 +2,12 @@
 use crate::Step;
 use crate::record;
 ghost use mathlib.Core.Path.{_≡_};
-ghost use mathlib.Core.Bool.{_&&_};
+ghost use mathlib.Core.Bool.{_&&_, _||_};
 ghost use Prim.Native.Nat.{_+_, _-_, _≤_, _<_};
 ghost use lib.Dec.{ltb};
-ghost use Rattle.session.specs.Limits.{registers};
+ghost use Rattle.session.specs.Limits.{registers, names, maxSteps};
 ghost use Rattle.session.specs.Lists.{every};
-ghost use Rattle.session.specs.Record.{recordAt, recordCount, unused, from};
+ghost use Rattle.session.specs.Record.{recordAt, recordCount, zeroAt, between, from};
 ghost use Rattle.session.specs.Parts.{keyOf};
 ghost use Rattle.session.specs.Questions.{operandsValid, stepValid, scriptsValid};
 ghost use Rattle.session.specs.Reading.{methodEnd, recordsFrom};
@@ -25,7 +25,7 @@ pub fn key_at(session: &[u8], r: usize) -> usize
 // Whether `a` is a register, `b` is below `limit`, and the bytes of record `r` from 6 on are 0.
 fn are_two_valid(session: &[u8], r: usize, a: u8, b: u8, limit: usize) -> bool
     requires { ⌜ r < recordCount (now session) ⌝ }
-    ensures { λ x. ⌜ x ≡ (ltb a registers && ltb b limit && unused (from 6) (recordAt (now (session .entry)) r)) ⌝ }
+    ensures { λ x. ⌜ x ≡ (ltb a registers && ltb b limit && zeroAt (from 6) (recordAt (now (session .entry)) r)) ⌝ }
 {
     if 4 <= a {
         return false;
@@ -37,9 +37,9 @@ fn are_two_valid(session: &[u8], r: usize, a: u8, b: u8, limit: usize) -> bool
 }
 
 // The operands of SET.
-fn are_set_valid(session: &[u8], r: usize, a: u8, n: u32) -> bool
+fn are_set_valid(session: &[u8], r: usize, a: u8) -> bool
     requires { ⌜ r < recordCount (now session) ⌝ }
-    ensures { λ x. ⌜ x ≡ operandsValid 0 0 (recordAt (now (session .entry)) r) (Step.Set a n) ⌝ }
+    ensures { λ x. ⌜ x ≡ (ltb a registers && zeroAt (λ k. between 5 8 k || from 12 k) (recordAt (now (session .entry)) r)) ⌝ }
 {
     if 4 <= a {
         return false;
@@ -54,7 +54,7 @@ fn are_set_valid(session: &[u8], r: usize, a: u8, n: u32) -> bool
 // The operands of SEND, among so many objects.
 fn are_send_valid(session: &[u8], r: usize, objects: usize, a: u8, b: u8, c: u8) -> bool
     requires { ⌜ r < recordCount (now session) ⌝ }
-    ensures { λ x. ⌜ x ≡ operandsValid objects 0 (recordAt (now (session .entry)) r) (Step.Send a b c) ⌝ }
+    ensures { λ x. ⌜ x ≡ (ltb a registers && ltb b names && ltb c objects && zeroAt (from 7) (recordAt (now (session .entry)) r)) ⌝ }
 {
     if 4 <= a {
         return false;
@@ -71,7 +71,7 @@ fn are_send_valid(session: &[u8], r: usize, objects: usize, a: u8, b: u8, c: u8)
 // The operands of QUIT.
 fn are_quit_valid(session: &[u8], r: usize, a: u8) -> bool
     requires { ⌜ r < recordCount (now session) ⌝ }
-    ensures { λ x. ⌜ x ≡ operandsValid 0 0 (recordAt (now (session .entry)) r) (Step.Quit a) ⌝ }
+    ensures { λ x. ⌜ x ≡ (ltb a registers && zeroAt (from 5) (recordAt (now (session .entry)) r)) ⌝ }
 {
     if 4 <= a {
         return false;
@@ -81,12 +81,12 @@ fn are_quit_valid(session: &[u8], r: usize, a: u8) -> bool
 
 // The operands of a step in record `r`, among so many objects and in a method of `count` steps.
 fn are_operands_valid(session: &[u8], r: usize, objects: usize, count: usize, step: Step) -> bool
-    requires { ⌜ (r < recordCount (now session)) × (count ≤ 256) ⌝ }
+    requires { ⌜ (r < recordCount (now session)) × (count ≤ maxSteps) ⌝ }
     ensures { λ x. ⌜ x ≡ operandsValid objects count (recordAt (now (session .entry)) r) step ⌝ }
 {
     match step {
         Step::End => false,
-        Step::Set { a, n } => are_set_valid(session, r, a, n),
+        Step::Set { a, n: _ } => are_set_valid(session, r, a),
         Step::Add { a, b } => are_two_valid(session, r, a, b, 4),
         Step::Jump { a, b } => are_two_valid(session, r, a, b, count + 1),
         Step::Read { a, b } => are_two_valid(session, r, a, b, 3),
@@ -98,7 +98,7 @@ fn are_operands_valid(session: &[u8], r: usize, objects: usize, count: usize, st
 
 // Whether the step in record `r` is valid among so many objects and in a method of `count` steps.
 fn is_valid(session: &[u8], r: usize, objects: usize, count: usize) -> bool
-    requires { ⌜ (r < recordCount (now session)) × (count ≤ 256) ⌝ }
+    requires { ⌜ (r < recordCount (now session)) × (count ≤ maxSteps) ⌝ }
     ensures { λ x. ⌜ x ≡ stepValid objects count (recordAt (now (session .entry)) r) ⌝ }
 {
     if objects <= record::byte_at(session, r, 1) as usize {

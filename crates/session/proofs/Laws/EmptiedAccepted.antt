@@ -10,7 +10,7 @@ use lib.ListN.{length, length-map}
 use Rattle.lattice.specs.Range.{implies}
 use Rattle.lattice.proofs.Laws.Range.{and-left, and-right, and-both, implies-when, all-every}
 use Rattle.session.specs.Lists.{every, select, risingFrom, countsFrom}
-use Rattle.session.specs.Record.{Record, recordsOf, byteOf, unused, between, kindOf, numberOf, levelByte, nameOf}
+use Rattle.session.specs.Record.{Record, recordsOf, byteOf, zeroAt, between, kindOf, numberOf, levelByte, nameOf}
 use Rattle.session.specs.Record
 use Rattle.session.specs.Parts.{ofKind, objectRecords, stepRecords, rootRecords, levelCount, objectCount, stepCount, keyOf, methodRecords}
 use Rattle.session.specs.Questions.{fieldValid, question1, kindsRise, question2, question3, question4, question5, question6, question7, question8, objectValid, scriptValid, scriptsValid, verdictOf}
@@ -25,8 +25,8 @@ use Rattle.session.proofs.Laws.Parts.{kinds-rise, kinds-within, kinds-r
 use Rattle.session.proofs.Laws.Verdict.{AllYes, accepted, all-yes}
 
 -- bytes that are 0 are unused, and an object's record whose bytes from 3 on are 0 is valid where its level is present
-zero-unused : (a e : ℕ) (rec : Record) → ((k : ℕ) → a ≤ k → byteOf rec k ≡ 0) → unused (between a e) rec ≡ true
-unfolding unused
+zero-unused : (a e : ℕ) (rec : Record) → ((k : ℕ) → a ≤ k → byteOf rec k ≡ 0) → zeroAt (between a e) rec ≡ true
+unfolding zeroAt
 zero-unused a e rec z =
     all-every 16 (λ k. implies (between a e k) (eqb (byteOf rec k) 0))
     (λ k h. implies-when (between a e k) (eqb (byteOf rec k) 0)

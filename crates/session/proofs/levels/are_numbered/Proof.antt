@@ -10,7 +10,7 @@ use lib.Dec.{eqb, leb}
 use Rattle.lattice.specs.Range.{all}
 use Rattle.lattice.proofs.Laws.Range.{and-left, and-right, refuted, not-both}
 use Rattle.session.specs.Lists.{every, countsFrom}
-use Rattle.session.specs.Record.{recordAt, numberOf, unused, from}
+use Rattle.session.specs.Record.{recordAt, numberOf, zeroAt, from}
 use Rattle.session.specs.Parts.{levelRecords, objectRecords, levelCount, objectCount, stepCount}
 use Rattle.session.specs.Questions.{kindsRise, question3}
 use Rattle.session.proofs.Laws.Parts.{below-5}
@@ -26,8 +26,8 @@ module _ (s : List ℕ) (k : kindsRise s ≡ true) (levels : ℕ) (e : levels �
   objects-numbered : (objects : ℕ) → objects ≡ objectCount s → all objects (λ i. eqb (numberOf (recordAt s (levels + i))) i) ≡ countsFrom numberOf 0 (objectRecords s)
   objects-numbered objects f = rw (e, f) (sym (counts-objects s k))
 
-  levels-padded : all levels (λ i. unused (from 3) (recordAt s i)) ≡ every (unused (from 3)) (levelRecords s)
-  levels-padded = rw e (sym (every-levels s k (unused (from 3))))
+  levels-padded : all levels (λ i. zeroAt (from 3) (recordAt s i)) ≡ every (zeroAt (from 3)) (levelRecords s)
+  levels-padded = rw e (sym (every-levels s k (zeroAt (from 3))))
 
 returns : tie.Need-returns
 unfolding question3

@@ -6,12 +6,12 @@ use native.Mathlib.Omega.{arith}
 use borrow.Author.Count.{below-none, below-more}
 use borrow.Author.Tests.{not-true, not-false}
 use Rattle.lattice.proofs.Laws.Range.{all-every, all-fails}
-use Rattle.session.specs.Record.{recordAt, unused, from}
+use Rattle.session.specs.Record.{recordAt, zeroAt, from}
 use Rattle.session.proofs.levels.is_padded.Statement.{statement}
 use Rattle.session.proofs.levels.is_padded.Tie as tie
 
 abbrev Inv-loop : tie.InvT-loop
-Inv-loop session count i₀ i = (i ≤ count) × ((k : ℕ) → k < i → unused (from 3) (recordAt session k) ≡ true)
+Inv-loop session count i₀ i = (i ≤ count) × ((k : ℕ) → k < i → zeroAt (from 3) (recordAt session k) ≡ true)
 
 abbrev μ-loop : tie.MeasureT-loop
 μ-loop session count i₀ i = count - i

@@ -1,27 +1,22 @@
 -- `session::scripts::are_send_valid` meets its contract. Assumes nothing.
 use borrow.Author.Tests.{lt-ltb, le-ltb}
-use Rattle.session.specs.Questions.{operandsValid}
 use borrow.Author.Needs.{needs}
 use Rattle.session.proofs.scripts.are_send_valid.Statement.{statement}
 use Rattle.session.proofs.scripts.are_send_valid.Tie as tie
 
 returns : tie.Need-returns
-unfolding operandsValid
 returns c = simp (le-ltb _ _ (c .if1 .taken))
 
 returns-2 : tie.Need-returns-2
-unfolding operandsValid
 returns-2 c = simp (lt-ltb _ _ (c .before .if1 .left), le-ltb _ _ (c .if2 .taken))
 
 returns-3 : tie.Need-returns-3
-unfolding operandsValid
 returns-3 c = simp (lt-ltb _ _ (c .before .before .if1 .left), lt-ltb _ _ (c .before .if2 .left), le-ltb _ _ (c .if3 .taken))
 
 is-unused-requires : tie.Need-is-unused-requires
 is-unused-requires c κs = search needs
 
 returns-4 : tie.Need-returns-4
-unfolding operandsValid
 returns-4 c =
     simp (lt-ltb _ _ (c .before .before .before .if1 .left), lt-ltb _ _ (c .before .before .if2 .left), lt-ltb _ _ (c .before .if3 .left)) (c .is-unused .ensures)
 

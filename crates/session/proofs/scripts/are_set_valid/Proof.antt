@@ -2,14 +2,12 @@
 use borrow.Author.Tests.{lt-ltb, le-ltb}
 use mathlib.Core.Path.{sym, _∙_}
 use Rattle.session.specs.Record.{between, from}
-use Rattle.session.specs.Questions.{operandsValid}
 use Rattle.session.proofs.Laws.Record.{unused-or}
 use borrow.Author.Needs.{needs}
 use Rattle.session.proofs.scripts.are_set_valid.Statement.{statement}
 use Rattle.session.proofs.scripts.are_set_valid.Tie as tie
 
 returns : tie.Need-returns
-unfolding operandsValid
 returns c = simp (le-ltb _ _ (c .if1 .taken))
 
 are-unused-requires : tie.Need-are-unused-requires
@@ -19,13 +17,11 @@ is-word-unused-requires : tie.Need-is-word-unused-requires
 is-word-unused-requires c κs = search needs
 
 returns-2 : tie.Need-returns-2
-unfolding operandsValid
 returns-2 c =
     simp (lt-ltb _ _ (c .before .before .before .if1 .left), unused-or (between 5 8) (from 12), sym (c .before .before .are-unused .ensures) ∙ c .before .if2 .taken)
     (c .is-word-unused .ensures)
 
 returns-3 : tie.Need-returns-3
-unfolding operandsValid
 returns-3 c =
     simp (lt-ltb _ _ (c .before .before .if1 .left), unused-or (between 5 8) (from 12), sym (c .before .are-unused .ensures) ∙ c .if2 .left)
 
