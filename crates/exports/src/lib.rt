@@ -1,7 +1,7 @@
 // The entries as functions for programs in other languages: numbers, and slices as a pointer and a length.
 use session::Verdict;
 ghost use mathlib.Core.Path.{_≡_};
-ghost use Rattle.session.specs.Questions.{verdictOf, numberOfVerdict};
+ghost use Rattle.session.specs.Questions.{verdictOf, numberOfVerdict, answerOf};
 
 // Document 01's number of a verdict.
 fn number_of(verdict: Verdict) -> u32
@@ -23,7 +23,7 @@ fn number_of(verdict: Verdict) -> u32
 // Check: the number of document 01's answer; its place is 0.
 #[no_mangle]
 pub extern "C" fn lupinpause_check(session: &[u8]) -> u32
-    ensures { λ r. ⌜ r ≡ numberOfVerdict (verdictOf (now (session .entry))) ⌝ }
+    ensures { λ r. ⌜ r ≡ answerOf (verdictOf (now (session .entry))) .number ⌝ }
 {
     number_of(session::check(session))
 }

@@ -11,7 +11,7 @@ use Rattle.lattice.specs.Table.{dominates, namesPresent, isOrdered}
 use Rattle.session.specs.Lists.{every, select, risingFrom, countsFrom, tab, joined}
 use Rattle.session.specs.Record.{recordAt, recordsOf, wordOf, zeroAt, stepOf}
 use Rattle.session.specs.Parts.{ofKind, masksOf, methodRecords}
-use Rattle.session.specs.Questions.{question1, kindsRise, question2, question3, objectValid, question6, operandsValid, stepValid, scriptValid, scriptsValid, rootValid, firstNo, verdictOf, numberOfVerdict}
+use Rattle.session.specs.Questions.{question1, kindsRise, question2, question3, objectValid, question6, operandsFit, unusedBytes, stepValid, scriptValid, scriptsValid, rootValid, firstNo, verdictOf, numberOfVerdict}
 use Rattle.session.specs.Meaning.{levelOf, fieldOf, methodOf, rootParameter}
 use Rattle.session.specs.Emptied.{stays, blanked, emptied}
 use Rattle.session.specs.SessionW.{sessionW}
@@ -60,7 +60,7 @@ pub record Examples : Type 0 where
   emptied-for-1 : emptied 1 sessionW ≡ sessionW
 
 pub examples : Examples
-unfolding all first reflexive antisymmetric transitive isOrder isLeast join hasJoins dominates namesPresent isOrdered every select risingFrom countsFrom tab joined recordAt recordsOf wordOf zeroAt stepOf ofKind masksOf methodRecords question1 kindsRise question2 question3 objectValid question6 operandsValid stepValid scriptValid scriptsValid rootValid firstNo verdictOf stays blanked emptied sessionW
+unfolding all first reflexive antisymmetric transitive isOrder isLeast join hasJoins dominates namesPresent isOrdered every select risingFrom countsFrom tab joined recordAt recordsOf wordOf zeroAt stepOf ofKind masksOf methodRecords question1 kindsRise question2 question3 objectValid question6 operandsFit unusedBytes stepValid scriptValid scriptsValid rootValid firstNo verdictOf stays blanked emptied sessionW
 examples =
     record {
       w = refl;

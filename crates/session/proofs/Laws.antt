@@ -11,3 +11,4 @@ pub mod Scripts
 pub mod Fill
 pub mod Numbering
 pub mod Contents
+pub mod Accepted

@@ -62,23 +62,35 @@ objectValid levels rec =
 unfoldable pub question6 : List ℕ → Bool
 question6 s = every (objectValid (levelCount s)) (objectRecords s)
 
--- the operands of a step among so many objects and in a method of so many steps; "Operands not named here are 0", and so are byte 7,
--- bytes 12 to 15, and n in all but SET. No operation but 1 to 7 is valid
-unfoldable pub operandsValid : ℕ → ℕ → Record → Step → Bool
-operandsValid objects count rec End = false
-operandsValid objects count rec (Set a n) = ltb a registers && zeroAt (λ k. between 5 8 k || from 12 k) rec
-operandsValid objects count rec (Add a b) = ltb a registers && ltb b registers && zeroAt (from 6) rec
-operandsValid objects count rec (Jump a b) = ltb a registers && leb b count && zeroAt (from 6) rec
-operandsValid objects count rec (Read a b) = ltb a registers && ltb b fields && zeroAt (from 6) rec
-operandsValid objects count rec (Write a b) = ltb a registers && ltb b fields && zeroAt (from 6) rec
-operandsValid objects count rec (Send a b c) = ltb a registers && ltb b names && ltb c objects && zeroAt (from 7) rec
-operandsValid objects count rec (Quit a) = ltb a registers && zeroAt (from 5) rec
+-- among so many objects and in a method of so many steps: registers 0 to 3, fields 0 to 2, jump target at most the method's step
+-- count, SEND's name and object valid. No operation but 1 to 7 makes a step
+unfoldable pub operandsFit : ℕ → ℕ → Step → Bool
+operandsFit objects count End = false
+operandsFit objects count (Set a n) = ltb a registers
+operandsFit objects count (Add a b) = ltb a registers && ltb b registers
+operandsFit objects count (Jump a b) = ltb a registers && leb b count
+operandsFit objects count (Read a b) = ltb a registers && ltb b fields
+operandsFit objects count (Write a b) = ltb a registers && ltb b fields
+operandsFit objects count (Send a b c) = ltb a registers && ltb b names && ltb c objects
+operandsFit objects count (Quit a) = ltb a registers
 
--- a step, among so many objects and in a method of so many steps: object present, name at most 15, operation 1 to 7, registers
--- 0 to 3, fields 0 to 2, jump target at most the method's step count, SEND's name and object valid, unused bytes 0
+-- "Operands not named here are 0", and so are byte 7, bytes 12 to 15, and n in all but SET
+unfoldable pub unusedBytes : Step → ℕ → Bool
+unusedBytes End = from 4
+unusedBytes (Set a n) = λ k. between 5 8 k || from 12 k
+unusedBytes (Add a b) = from 6
+unusedBytes (Jump a b) = from 6
+unusedBytes (Read a b) = from 6
+unusedBytes (Write a b) = from 6
+unusedBytes (Send a b c) = from 7
+unusedBytes (Quit a) = from 5
+
+-- a step among so many objects and in a method of so many steps: object present, name at most 15, operation 1 to 7 with operands that
+-- fit, unused bytes 0
 unfoldable pub stepValid : ℕ → ℕ → Record → Bool
 stepValid objects count rec =
-    ltb (objectOf rec) objects && ltb (nameOf rec) names && operandsValid objects count rec (stepOf rec)
+    let step = stepOf rec in
+    ltb (objectOf rec) objects && ltb (nameOf rec) names && (operandsFit objects count step && zeroAt (unusedBytes step) rec)
 
 -- a step among some steps, of which those of its method are at most 16
 unfoldable pub scriptValid : ℕ → List Record → Record → Bool

@@ -9,7 +9,7 @@ ghost use Rattle.session.specs.Limits.{registers, names, maxSteps};
 ghost use Rattle.session.specs.Lists.{every};
 ghost use Rattle.session.specs.Record.{recordAt, recordCount, zeroAt, between, from};
 ghost use Rattle.session.specs.Parts.{keyOf};
-ghost use Rattle.session.specs.Questions.{operandsValid, stepValid, scriptsValid};
+ghost use Rattle.session.specs.Questions.{operandsFit, unusedBytes, stepValid, scriptsValid};
 ghost use Rattle.session.specs.Reading.{methodEnd, recordsFrom};
 
 // The pair (object, name) of the step in record `r`, as one number.
@@ -82,7 +82,7 @@ fn are_quit_valid(session: &[u8], r: usize, a: u8) -> bool
 // The operands of a step in record `r`, among so many objects and in a method of `count` steps.
 fn are_operands_valid(session: &[u8], r: usize, objects: usize, count: usize, step: Step) -> bool
     requires { ⌜ (r < recordCount (now session)) × (count ≤ maxSteps) ⌝ }
-    ensures { λ x. ⌜ x ≡ operandsValid objects count (recordAt (now (session .entry)) r) step ⌝ }
+    ensures { λ x. ⌜ x ≡ (operandsFit objects count step && zeroAt (unusedBytes step) (recordAt (now (session .entry)) r)) ⌝ }
 {
     match step {
         Step::End => false,

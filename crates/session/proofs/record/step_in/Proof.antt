@@ -1,10 +1,9 @@
+-- `session::record::step_in` meets its contract: the operation byte says which step it is. Assumes nothing.
 use mathlib.Core.Path.{sym, _∙_}
 use borrow.Author.Needs.{needs}
 use Rattle.session.proofs.Laws.Record.{step-set, step-add, step-jump, step-read, step-write, step-send, step-quit, step-end, no-operation}
 use Rattle.session.proofs.record.step_in.Statement.{statement}
 use Rattle.session.proofs.record.step_in.Tie as tie
-use Rattle.session.proofs.record.byte_at.Reads as byte-at-reads
-use Rattle.session.proofs.record.word_at.Reads as word-at-reads
 
 byte-at-requires : tie.Need-byte-at-requires
 byte-at-requires c κs = search needs

@@ -1,82 +1,61 @@
+-- `session::record::word_at` meets its contract: four bytes, the lowest first. Assumes nothing.
 use native.Mathlib.Omega.{arith}
 use borrow.Author.Needs.{needs}
 use Rattle.session.specs.Record.{wordOf}
 use Rattle.session.proofs.record.word_at.Statement.{statement}
 use Rattle.session.proofs.record.word_at.Tie as tie
-use Rattle.session.proofs.record.word_at.Reads as reads
-use Rattle.session.proofs.record.word_at.Lts as lts
-use Rattle.session.proofs.record.byte_at.Reads as byte-at-reads
-use Rattle.session.proofs.record.wide.Reads as wide-reads
 
--- src/record.rt:28:19
 byte-at-requires : tie.Need-byte-at-requires
 byte-at-requires c κs = search needs
 
--- src/record.rt:28:9
 wide-requires : tie.Need-wide-requires
 wide-requires c κs = search needs
 
--- src/record.rt:29:39
 add-byte-at : tie.Need-add-byte-at
 add-byte-at c = search needs
 
--- src/record.rt:29:19
 byte-at-requires-2 : tie.Need-byte-at-requires-2
 byte-at-requires-2 c κs = search needs
 
--- src/record.rt:29:9
 wide-requires-2 : tie.Need-wide-requires-2
 wide-requires-2 c κs = search needs
 
--- src/record.rt:30:39
 add-byte-at-2 : tie.Need-add-byte-at-2
 add-byte-at-2 c = search needs
 
--- src/record.rt:30:19
 byte-at-requires-3 : tie.Need-byte-at-requires-3
 byte-at-requires-3 c κs = search needs
 
--- src/record.rt:30:9
 wide-requires-3 : tie.Need-wide-requires-3
 wide-requires-3 c κs = search needs
 
--- src/record.rt:31:39
 add-byte-at-3 : tie.Need-add-byte-at-3
 add-byte-at-3 c = search needs
 
--- src/record.rt:31:19
 byte-at-requires-4 : tie.Need-byte-at-requires-4
 byte-at-requires-4 c κs = search needs
 
--- src/record.rt:31:9
 wide-requires-4 : tie.Need-wide-requires-4
 wide-requires-4 c κs = search needs
 
--- src/record.rt:32:10
 mul-result : tie.Need-mul-result
 mul-result c = search needs
 
--- src/record.rt:32:5
 add-result : tie.Need-add-result
 add-result c = search needs
 
--- src/record.rt:32:21
 mul-result-2 : tie.Need-mul-result-2
 mul-result-2 c = search needs
 
--- src/record.rt:32:5
 add-result-2 : tie.Need-add-result-2
 add-result-2 c = search needs
 
--- src/record.rt:32:34
 mul-result-3 : tie.Need-mul-result-3
 mul-result-3 c = search needs
 
--- src/record.rt:32:5
 add-result-3 : tie.Need-add-result-3
 add-result-3 c = search needs
 
--- src/record.rt:24:1
 returns : tie.Need-returns
 unfolding wordOf
 returns c = omega arith

@@ -1,7 +1,7 @@
 -- `session::scripts::are_operands_valid` meets its contract: each operation's own test. Assumes nothing.
 use native.Mathlib.Numerals.{add-one}
 use lib.Dec.{leb·suc-suc}
-use Rattle.session.specs.Questions.{operandsValid}
+use Rattle.session.specs.Questions.{operandsFit, unusedBytes}
 use borrow.Author.Needs.{needs}
 use Rattle.session.proofs.scripts.are_operands_valid.Statement.{statement}
 use Rattle.session.proofs.scripts.are_operands_valid.Tie as tie
@@ -55,35 +55,35 @@ are-quit-valid-requires : tie.Need-are-quit-valid-requires
 are-quit-valid-requires c κs = search needs
 
 returns : tie.Need-returns
-unfolding operandsValid
+unfolding operandsFit unusedBytes
 returns c = rw (c .enum-told .given .1)
 
 returns-2 : tie.Need-returns-2
-unfolding operandsValid
+unfolding operandsFit unusedBytes
 returns-2 c = rw (c .before .before .step .given .1) (c .are-set-valid .ensures)
 
 returns-3 : tie.Need-returns-3
-unfolding operandsValid
+unfolding operandsFit unusedBytes
 returns-3 c = rw (c .before .before .step2 .given .1) (c .are-two-valid .ensures)
 
 returns-4 : tie.Need-returns-4
-unfolding operandsValid
+unfolding operandsFit unusedBytes
 returns-4 c = rw (c .before .before .step3 .given .1) (simp (add-one, leb·suc-suc) at (c .are-two-valid2 .ensures))
 
 returns-5 : tie.Need-returns-5
-unfolding operandsValid
+unfolding operandsFit unusedBytes
 returns-5 c = rw (c .before .before .step4 .given .1) (c .are-two-valid3 .ensures)
 
 returns-6 : tie.Need-returns-6
-unfolding operandsValid
+unfolding operandsFit unusedBytes
 returns-6 c = rw (c .before .before .step5 .given .1) (c .are-two-valid4 .ensures)
 
 returns-7 : tie.Need-returns-7
-unfolding operandsValid
+unfolding operandsFit unusedBytes
 returns-7 c = rw (c .before .before .step6 .given .1) (c .are-send-valid .ensures)
 
 returns-8 : tie.Need-returns-8
-unfolding operandsValid
+unfolding operandsFit unusedBytes
 returns-8 c = rw (c .before .before .step7 .given .1) (c .are-quit-valid .ensures)
 
 pub are-operands-valid-spec : {M : Type 1} → statement M

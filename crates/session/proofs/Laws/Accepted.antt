@@ -1,0 +1,99 @@
+-- What acceptance says of what a session says: every number read is within its bounds. Assumes nothing.
+use Prim.Native.Nat.{ℕ, zero, suc, _≤_, _<_}
+use mathlib.Core.Path.{_≡_, refl, sym, _∙_, ap}
+use mathlib.Core.Bool.{true, _&&_}
+use mathlib.Core.List.{List, []}
+use native.Mathlib.Omega.{arith}
+use borrow.Author.Tests.{leb-true, ltb-true, eqb-true}
+use lib.Dec.{eqb, leb}
+use lib.ListN.{length, getD, length-map, List·getD-map}
+use Rattle.lattice.specs.Join.{JoinSemilattice}
+use Rattle.lattice.specs.Table.{dominates}
+use Rattle.lattice.proofs.Laws.Range.{and-left, and-right}
+use Rattle.lattice.proofs.Laws.Join.{semilattice}
+use Rattle.lattice.proofs.Laws.Table.{is-order}
+use Rattle.session.specs.Limits.{maxMethod, names}
+use Rattle.session.specs.Record.{objectOf, nameOf, levelByte, stepOf, zeroAt}
+use Rattle.session.specs.Parts.{objectRecords, stepRecords, levelCount, objectCount, masksOf, key, keyOf, ofMethod, methodRecords}
+use Rattle.session.specs.Questions.{objectValid, question6, operandsFit, unusedBytes, stepValid, scriptValid, rootValid, verdictOf}
+use Rattle.session.specs.Meaning.{levelOf, methodOf, stepAt, rootObject, rootName}
+use Rattle.session.specs.declared.Verdict.the-variants.{Accepted}
+use Rattle.session.proofs.Laws.Lists.{every-each, every-select, select-passes}
+use Rattle.session.proofs.Laws.Verdict.{accepted}
+use Rattle.session.proofs.Laws.Contents.{masks-length}
+use Rattle.session.proofs.Laws.Emptied.{steps-valid}
+
+module _ (s : List ℕ) (a : verdictOf s ≡ Accepted) where
+  -- the levels are a join semilattice
+  pub levels-join : JoinSemilattice (levelCount s) (dominates (masksOf s))
+  levels-join =
+      rw (masks-length s a) at
+      (semilattice (length (masksOf s)) (dominates (masksOf s)) (is-order (masksOf s) (accepted s a .four)) (accepted s a .five))
+
+  -- each object's level is present
+  pub level-present : (o : ℕ) → o < objectCount s → levelOf s o < levelCount s
+  unfolding question6 objectValid
+  level-present o h =
+      let rec = getD (objectRecords s) o [] in
+      let v : objectValid (levelCount s) rec ≡ true = every-each (objectValid (levelCount s)) [] (objectRecords s) (accepted s a .six) o h in
+      ltb-true (levelByte rec) (levelCount s) (search (and-left, and-right, v))
+
+  -- the root's object is present, and its name at most 15
+  pub root-present : rootObject s < objectCount s
+  unfolding rootValid
+  root-present = ltb-true (rootObject s) (objectCount s) (search (and-left, and-right, accepted s a .eight))
+
+  pub root-named : rootName s < names
+  unfolding rootValid
+  root-named = ltb-true (rootName s) names (search (and-left, and-right, accepted s a .eight))
+
+  -- each step of a method is valid as one of the method's steps
+  step-of-method : (k j : ℕ) → j < length (methodRecords s k) →
+      (scriptValid (objectCount s) (stepRecords s) (getD (methodRecords s k) j []) ≡ true) × (keyOf (getD (methodRecords s k) j []) ≡ k)
+  unfolding methodRecords
+  step-of-method k j h = (
+    every-each (scriptValid (objectCount s) (stepRecords s)) [] (methodRecords s k)
+        (every-select (λ rec. eqb (keyOf rec) k) (scriptValid (objectCount s) (stepRecords s)) (stepRecords s) (steps-valid s (accepted s a))) j h,
+    eqb-true (keyOf (getD (methodRecords s k) j [])) k
+        (every-each (λ rec. eqb (keyOf rec) k) [] (methodRecords s k) (select-passes (λ rec. eqb (keyOf rec) k) (stepRecords s)) j h),
+  )
+
+  script-of-method : (k j : ℕ) → j < length (methodRecords s k) →
+      (leb (length (methodRecords s k)) maxMethod && stepValid (objectCount s) (length (methodRecords s k)) (getD (methodRecords s k) j [])) ≡ true
+  unfolding scriptValid methodRecords
+  script-of-method k j h =
+      let (v, e) = step-of-method k j h in
+      ap (λ n. leb (length (ofMethod n (stepRecords s))) maxMethod && stepValid (objectCount s) (length (ofMethod n (stepRecords s))) (getD (methodRecords s k) j [])) (sym e) ∙ v
+
+  -- a method has at most 16 steps
+  pub method-short : (o m : ℕ) → length (methodOf s o m) ≤ maxMethod
+  method-short o m = rw (length-map (methodRecords s (key o m)) stepOf) (go (length (methodRecords s (key o m))) refl)
+    where
+      go : (n : ℕ) → length (methodRecords s (key o m)) ≡ n → length (methodRecords s (key o m)) ≤ maxMethod
+      go zero e = omega arith
+      go (suc n) e = leb-true _ maxMethod (and-left _ _ (script-of-method (key o m) 0 (omega arith)))
+
+  -- the operands of each step fit its method and the objects
+  pub step-fits : (o m j : ℕ) → j < length (methodOf s o m) → operandsFit (objectCount s) (length (methodOf s o m)) (stepAt s o m j) ≡ true
+  unfolding stepValid stepOf
+  step-fits o m j h =
+      let k = key o m in
+      let n = length-map (methodRecords s k) stepOf in
+      let rec = getD (methodRecords s k) j [] in
+      let v = script-of-method k j (rw n at h) in
+      rw (List·getD-map stepOf (methodRecords s k) j [], n)
+      (and-left (operandsFit (objectCount s) (length (methodRecords s k)) (stepOf rec)) (zeroAt (unusedBytes (stepOf rec)) rec)
+      (search (and-left, and-right, v)))
+
+  -- and only present objects have steps, under names at most 15
+  pub method-owned : (o m : ℕ) → m < 256 → 0 < length (methodOf s o m) → (o < objectCount s) × (m < names)
+  unfolding stepValid
+  method-owned o m hm h =
+      let k = key o m in
+      let n = length-map (methodRecords s k) stepOf in
+      let rec = getD (methodRecords s k) 0 [] in
+      let v = script-of-method k 0 (rw n at h) in
+      let object : objectOf rec < objectCount s = ltb-true (objectOf rec) (objectCount s) (search (and-left, and-right, v)) in
+      let name : nameOf rec < names = ltb-true (nameOf rec) names (search (and-left, and-right, v)) in
+      let e : keyOf rec ≡ k = step-of-method k 0 (rw n at h) .1 in
+      (omega arith, omega arith)
