@@ -1,9 +1,12 @@
 -- What an accepted session says. Assumes nothing.
 use Prim.Native.Nat.{ℕ}
 use mathlib.Core.List.{List, [], map}
+use mathlib.Core.Bool.{_&&_}
+use lib.Dec.{eqb}
 use lib.ListN.{getD}
+use Rattle.session.specs.Lists.{select}
 use Rattle.session.specs.Record.{levelByte, fieldIn, objectOf, nameOf, stepOf, parameterOf}
-use Rattle.session.specs.Parts.{objectRecords, key, methodRecords, rootRecord}
+use Rattle.session.specs.Parts.{objectRecords, stepRecords, rootRecord}
 use Rattle.session.specs.declared.Message.{Message}
 use Rattle.session.specs.declared.Value.{Value}
 use Rattle.session.specs.declared.Step.{Step}
@@ -18,8 +21,9 @@ abbrev pub fieldOf : List ℕ → ℕ → ℕ → Value
 fieldOf s object k = fieldIn (getD (objectRecords s) object []) k
 
 -- the steps of the method (object, name). "A name without steps is an empty method"
-abbrev pub methodOf : List ℕ → ℕ → ℕ → List Step
-methodOf s object name = map stepOf (methodRecords s (key object name))
+unfoldable pub methodOf : List ℕ → ℕ → ℕ → List Step
+methodOf s object name =
+    map stepOf (select (λ rec. eqb (objectOf rec) object && eqb (nameOf rec) name) (stepRecords s))
 
 -- a method's step, counted from 0, or the script's end
 abbrev pub stepAt : List ℕ → ℕ → ℕ → ℕ → Step

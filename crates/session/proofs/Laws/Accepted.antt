@@ -1,8 +1,9 @@
 -- What acceptance says of what a session says: every number read is within its bounds. Assumes nothing.
-use Prim.Native.Nat.{ℕ, zero, suc, _≤_, _<_}
-use mathlib.Core.Path.{_≡_, refl, sym, _∙_, ap}
+use Prim.Native.Nat.{ℕ, _≤_, _<_}
+use mathlib.Core.Path.{_≡_, sym, _∙_, ap}
 use mathlib.Core.Bool.{true, _&&_}
 use mathlib.Core.List.{List, []}
+use native.Mathlib.Decide.{decLt}
 use native.Mathlib.Omega.{arith}
 use borrow.Author.Tests.{leb-true, ltb-true, eqb-true}
 use lib.Dec.{eqb, leb}
@@ -17,11 +18,12 @@ use Rattle.session.specs.Record.{objectOf, nameOf, levelByte, stepOf, ze
 use Rattle.session.specs.Parts.{objectRecords, stepRecords, levelCount, objectCount, masksOf, key, keyOf, ofMethod, methodRecords}
 use Rattle.session.specs.Questions.{objectValid, question6, operandsFit, unusedBytes, stepValid, scriptValid, rootValid, verdictOf}
 use Rattle.session.specs.Meaning.{levelOf, methodOf, stepAt, rootObject, rootName}
+use Rattle.session.specs.declared.Step.the-variants.{End}
 use Rattle.session.specs.declared.Verdict.the-variants.{Accepted}
 use Rattle.session.proofs.Laws.Lists.{every-each, every-select, select-passes}
 use Rattle.session.proofs.Laws.Verdict.{accepted}
 use Rattle.session.proofs.Laws.Contents.{masks-length}
-use Rattle.session.proofs.Laws.Emptied.{steps-valid}
+use Rattle.session.proofs.Laws.Emptied.{steps-valid, method-is, method-none}
 
 module _ (s : List ℕ) (a : verdictOf s ≡ Accepted) where
   -- the levels are a join semilattice
@@ -65,32 +67,47 @@ module _ (s : List ℕ) (a : verdictOf s ≡ Accepted) where
       let (v, e) = step-of-method k j h in
       ap (λ n. leb (length (ofMethod n (stepRecords s))) maxMethod && stepValid (objectCount s) (length (ofMethod n (stepRecords s))) (getD (methodRecords s k) j [])) (sym e) ∙ v
 
+  -- how many steps a method has, by its key
+  method-length : (o m : ℕ) → m < 256 → length (methodOf s o m) ≡ length (methodRecords s (key o m))
+  method-length o m h = ap length (method-is s (accepted s a) o m h) ∙ length-map (methodRecords s (key o m)) stepOf
+
+  method-named : (o m : ℕ) → 0 < length (methodOf s o m) → m < 256
+  method-named o m h = elim (decLt m 256) [
+    | yes l ↦ l
+    | no g ↦ let z : length (methodOf s o m) ≡ 0 = ap length (method-none s (accepted s a) o m (omega arith)) in absurd (omega arith)
+  ]
+
   -- a method has at most 16 steps
   pub method-short : (o m : ℕ) → length (methodOf s o m) ≤ maxMethod
-  method-short o m = rw (length-map (methodRecords s (key o m)) stepOf) (go (length (methodRecords s (key o m))) refl)
-    where
-      go : (n : ℕ) → length (methodRecords s (key o m)) ≡ n → length (methodRecords s (key o m)) ≤ maxMethod
-      go zero e = omega arith
-      go (suc n) e = leb-true _ maxMethod (and-left _ _ (script-of-method (key o m) 0 (omega arith)))
+  method-short o m = elim (decLt 0 (length (methodOf s o m))) [
+    | yes h ↦
+        let n = method-length o m (method-named o m h) in
+        rw n (leb-true (length (methodRecords s (key o m))) maxMethod (and-left _ _ (script-of-method (key o m) 0 (rw n at h))))
+    | no g ↦ omega arith
+  ]
 
   -- the operands of each step fit its method and the objects
   pub step-fits : (o m j : ℕ) → j < length (methodOf s o m) → operandsFit (objectCount s) (length (methodOf s o m)) (stepAt s o m j) ≡ true
   unfolding stepValid stepOf
   step-fits o m j h =
       let k = key o m in
-      let n = length-map (methodRecords s k) stepOf in
+      let small : m < 256 = method-named o m (omega arith) in
+      let n = method-length o m small in
       let rec = getD (methodRecords s k) j [] in
       let v = script-of-method k j (rw n at h) in
-      rw (List·getD-map stepOf (methodRecords s k) j [], n)
+      let e : stepAt s o m j ≡ stepOf rec =
+      ap (λ l. getD l j End) (method-is s (accepted s a) o m small) ∙ List·getD-map stepOf (methodRecords s k) j [] in
+      rw (e, n)
       (and-left (operandsFit (objectCount s) (length (methodRecords s k)) (stepOf rec)) (zeroAt (unusedBytes (stepOf rec)) rec)
       (search (and-left, and-right, v)))
 
   -- and only present objects have steps, under names at most 15
-  pub method-owned : (o m : ℕ) → m < 256 → 0 < length (methodOf s o m) → (o < objectCount s) × (m < names)
+  pub method-owned : (o m : ℕ) → 0 < length (methodOf s o m) → (o < objectCount s) × (m < names)
   unfolding stepValid
-  method-owned o m hm h =
+  method-owned o m h =
       let k = key o m in
-      let n = length-map (methodRecords s k) stepOf in
+      let small = method-named o m h in
+      let n = method-length o m small in
       let rec = getD (methodRecords s k) 0 [] in
       let v = script-of-method k 0 (rw n at h) in
       let object : objectOf rec < objectCount s = ltb-true (objectOf rec) (objectCount s) (search (and-left, and-right, v)) in

@@ -24,7 +24,7 @@ use Rattle.session.proofs.Laws.Choice.{select-same}
 use Rattle.session.proofs.Laws.Verdict.{AllYes, accepted}
 use Rattle.session.proofs.Laws.Parts.{kinds-rise, object-is, step-is, root-is, records-are}
 use Rattle.session.proofs.Laws.Numbering.{few-levels, few-objects, few-steps}
-use Rattle.session.proofs.Laws.Emptied.{steps-valid, step-name}
+use Rattle.session.proofs.Laws.Emptied.{steps-valid, step-name, method-is}
 use Rattle.session.proofs.Laws.Scripts.{keyAt}
 
 -- no key with a name below 16 lies between a method's and that of the next slot of the index
@@ -120,9 +120,9 @@ module _ (s : List ℕ) (a : verdictOf s ≡ Accepted) where
   ]
 
   -- the steps of a method: they stand from its start on
-  pub method-step : (o m j : ℕ) → j < length (methodRecords s (key o m)) → stepOf (recordAt s (methodStart s (key o m) + j)) ≡ stepAt s o m j
+  pub method-step : (o m j : ℕ) → m < names → j < length (methodRecords s (key o m)) → stepOf (recordAt s (methodStart s (key o m) + j)) ≡ stepAt s o m j
   unfolding methodStart methodRecords stepOf
-  method-step o m j h =
+  method-step o m j hm h =
       let k = key o m in
       let below = countBelow keyOf k (stepRecords s) in
       let in-range : below + j < stepCount s =
@@ -130,9 +130,12 @@ module _ (s : List ℕ) (a : verdictOf s ≡ Accepted) where
       let z : levelCount s + objectCount s + (below + j) ≡ levelCount s + objectCount s + below + j = omega arith in
       sym (List·getD-map stepOf (methodRecords s k) j []
       ∙ ap stepOf (among-at keyOf [] k 0 (stepRecords s) keys-rise j h ∙ step-is s rises (below + j) in-range ∙ ap (recordAt s) z))
+      ∙ ap (λ l. getD l j End) (sym (method-is s yes-to-all o m (omega arith)))
 
-  pub method-over : (o m j : ℕ) → length (methodRecords s (key o m)) ≤ j → End ≡ stepAt s o m j
-  method-over o m j h = sym (List·getD-eq-default (map stepOf (methodRecords s (key o m))) End (omega (arith, length-map (methodRecords s (key o m)) stepOf)))
+  pub method-over : (o m j : ℕ) → m < names → length (methodRecords s (key o m)) ≤ j → End ≡ stepAt s o m j
+  method-over o m j hm h =
+      sym (List·getD-eq-default (map stepOf (methodRecords s (key o m))) End (omega (arith, length-map (methodRecords s (key o m)) stepOf)))
+      ∙ ap (λ l. getD l j End) (sym (method-is s yes-to-all o m (omega arith)))
 
   -- the method index
   pub index-length : length (indexOf s) ≡ maxMethods + 1

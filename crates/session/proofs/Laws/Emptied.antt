@@ -5,22 +5,22 @@ use mathlib.Core.Bool.{Bool, true, false, not, _&&_, and-comm}
 use mathlib.Core.List.{List, [], _∷_, _++_, map}
 use native.Mathlib.Decide.{decLt}
 use native.Mathlib.Omega.{arith}
-use borrow.Author.Tests.{eqb-true, eq-eqb, ne-eqb, ltb-true}
+use borrow.Author.Tests.{eqb-true, eqb-false, eq-eqb, ne-eqb, ltb-true}
 use lib.Dec.{eqb, ltb}
 use lib.Pow.{pow-pos}
 use lib.ListN.{length, getD, take, replicate, length-append, length-take, length-replicate, length-map, List·getD-map, List·getD-eq-default}
 use Rattle.lattice.specs.Table.{dominates}
-use Rattle.lattice.proofs.Laws.Range.{and-left, and-right, and-both, and-fails-left, and-fails-right, not-both}
+use Rattle.lattice.proofs.Laws.Range.{refuted, and-left, and-right, and-both, and-fails-left, and-fails-right, not-both}
 use Rattle.lattice.proofs.Laws.Table.{bit-beyond}
 use Rattle.session.specs.Lists.{every, select, risingFrom}
-use Rattle.session.specs.Record.{Record, recordsOf, byteOf, kindOf, numberOf, maskOf, levelByte, nameOf, fieldIn, stepOf}
+use Rattle.session.specs.Record.{Record, recordsOf, byteOf, kindOf, numberOf, objectOf, maskOf, levelByte, nameOf, fieldIn, stepOf}
 use Rattle.session.specs.Parts.{ofKind, objectRecords, stepRecords, levelCount, objectCount, masksOf, key, keyOf, methodRecords, rootRecord}
 use Rattle.session.specs.Questions.{stepValid, scriptValid, methodsValid, scriptsValid}
 use Rattle.session.specs.Meaning.{levelOf, fieldOf, methodOf}
 use Rattle.session.specs.Emptied.{hides, stays, blanked, emptied}
 use Rattle.session.specs.declared.Value.the-variants.{Nil}
 use Rattle.session.proofs.Laws.Lists.{holds, fails, truth, every-each, every-select, select-all, select-none, select-passes}
-use Rattle.session.proofs.Laws.Choice.{select-map, every-map, select-swap, every-then, every-both, map-kept, whole, records-whole, length-joined, records-joined}
+use Rattle.session.proofs.Laws.Choice.{select-same, select-map, every-map, select-swap, every-then, every-both, map-kept, whole, records-whole, length-joined, records-joined}
 use Rattle.session.proofs.Laws.Verdict.{AllYes}
 
 -- a record's first n bytes with zeros behind: the first n bytes are kept, the others are 0
@@ -49,6 +49,20 @@ nil-field rec k e = rw (e, bit-beyond 0 k (pow-pos k))
 pub key-object : (o m o′ m′ : ℕ) → m < 256 → m′ < 256 → key o m ≡ key o′ m′ → o ≡ o′
 key-object o m o′ m′ h h′ e = omega arith
 
+-- a pair and its key are told apart alike
+pair-key : (o m o′ m′ : ℕ) → m < 256 → m′ < 16 → (eqb o′ o && eqb m′ m) ≡ eqb (key o′ m′) (key o m)
+pair-key o m o′ m′ h h′ = elim (truth (eqb (key o′ m′) (key o m))) [
+  | holds e ↦
+      let q : key o′ m′ ≡ key o m = eqb-true (key o′ m′) (key o m) e in
+      and-both (eqb o′ o) (eqb m′ m) (eq-eqb o′ o (omega arith)) (eq-eqb m′ m (omega arith)) ∙ sym e
+  | fails e ↦
+      refuted (eqb o′ o && eqb m′ m) (λ t.
+      eqb-false (key o′ m′) (key o m) e
+      (let p : o′ ≡ o = eqb-true o′ o (and-left (eqb o′ o) (eqb m′ m) t) in
+      let q : m′ ≡ m = eqb-true m′ m (and-right (eqb o′ o) (eqb m′ m) t) in
+      omega arith)) ∙ sym e
+]
+
 -- each record of a kind is of that kind; each step of an accepted session has a name below 16, and each step of a method is of its object
 module _ (s : List ℕ) where
   pub kinds : (k : ℕ) → every (λ rec. eqb (kindOf rec) k) (ofKind k s) ≡ true
@@ -66,6 +80,23 @@ module _ (s : List ℕ) where
   pub step-name : (rec : Record) → scriptValid (objectCount s) (stepRecords s) rec ≡ true → ltb (nameOf rec) 16 ≡ true
   unfolding scriptValid stepValid
   step-name rec e = search (and-left, and-right)
+
+  -- the steps of a method, by their keys
+  pub method-is : AllYes s → (o m : ℕ) → m < 256 → methodOf s o m ≡ map stepOf (methodRecords s (key o m))
+  unfolding methodOf methodRecords
+  method-is y o m h =
+      ap (map stepOf) (select-same (λ rec. eqb (objectOf rec) o && eqb (nameOf rec) m) (λ rec. eqb (keyOf rec) (key o m))
+      (scriptValid (objectCount s) (stepRecords s))
+      (λ rec v. pair-key o m (objectOf rec) (nameOf rec) h (ltb-true (nameOf rec) 16 (step-name rec v))) (stepRecords s) (steps-valid y))
+
+  pub method-none : AllYes s → (o m : ℕ) → 256 ≤ m → methodOf s o m ≡ []
+  unfolding methodOf
+  method-none y o m h =
+      ap (map stepOf) (select-none (λ rec. eqb (objectOf rec) o && eqb (nameOf rec) m) (stepRecords s)
+      (every-then (scriptValid (objectCount s) (stepRecords s)) (λ rec. not (eqb (objectOf rec) o && eqb (nameOf rec) m))
+      (λ rec v.
+      let l : nameOf rec < 16 = ltb-true (nameOf rec) 16 (step-name rec v) in
+      ap not (and-fails-right (eqb (objectOf rec) o) _ (ne-eqb (nameOf rec) m (omega arith)))) (stepRecords s) (steps-valid y)))
 
   pub method-object : AllYes s → (o m : ℕ) → m < 256 → every (λ rec. eqb (numberOf rec) o) (methodRecords s (key o m)) ≡ true
   unfolding methodRecords
@@ -247,8 +278,14 @@ module _ (s : List ℕ) (c : ℕ) where
           ap not (stays-hidden rec (and-left (eqb (kindOf rec) 3) (eqb (numberOf rec) o) t)
           (rw (eqb-true (numberOf rec) o (and-right (eqb (kindOf rec) 3) (eqb (numberOf rec) o) t)) e))
 
-  pub emptied-method : AllYes s → (o m : ℕ) → m < 256 → dominates (masksOf s) c (levelOf s o) ≡ true → methodOf (emptied c s) o m ≡ methodOf s o m
-  emptied-method y o m h e = ap (map stepOf) (emptied-method-seen y o m h e)
+  pub emptied-method : AllYes s → AllYes (emptied c s) → (o m : ℕ) → dominates (masksOf s) c (levelOf s o) ≡ true → methodOf (emptied c s) o m ≡ methodOf s o m
+  emptied-method y z o m e = elim (decLt m 256) [
+    | yes h ↦ method-is (emptied c s) z o m h ∙ ap (map stepOf) (emptied-method-seen y o m h e) ∙ sym (method-is s y o m h)
+    | no g ↦ method-none (emptied c s) z o m (omega arith) ∙ sym (method-none s y o m (omega arith))
+  ]
 
-  pub emptied-method-hidden : AllYes s → (o m : ℕ) → m < 256 → dominates (masksOf s) c (levelOf s o) ≡ false → methodOf (emptied c s) o m ≡ []
-  emptied-method-hidden y o m h e = ap (map stepOf) (emptied-method-gone y o m h e)
+  pub emptied-method-hidden : AllYes s → AllYes (emptied c s) → (o m : ℕ) → dominates (masksOf s) c (levelOf s o) ≡ false → methodOf (emptied c s) o m ≡ []
+  emptied-method-hidden y z o m e = elim (decLt m 256) [
+    | yes h ↦ method-is (emptied c s) z o m h ∙ ap (map stepOf) (emptied-method-gone y o m h e)
+    | no g ↦ method-none (emptied c s) z o m (omega arith)
+  ]

@@ -1,8 +1,8 @@
 -- The emptied session of an accepted session is accepted: each of the eight questions says yes. Assumes nothing.
 use Prim.Native.Nat.{ℕ, _+_, _*_, _/_, _%_, _≤_, _<_}
 use mathlib.Core.Path.{_≡_, _∙_, ap, fun-ext}
-use mathlib.Core.Bool.{true, _&&_, or-true}
-use mathlib.Core.List.{List}
+use mathlib.Core.Bool.{true, false, _&&_, or-true}
+use mathlib.Core.List.{List, []}
 use native.Mathlib.Omega.{arith}
 use borrow.Author.Tests.{eqb-true, eq-eqb, leb-true, le-leb, ltb-true}
 use lib.Dec.{eqb, leb, ltb}
@@ -12,13 +12,16 @@ use Rattle.lattice.proofs.Laws.Range.{and-left, and-right, and-both, implies-wh
 use Rattle.session.specs.Lists.{every, select, risingFrom, countsFrom}
 use Rattle.session.specs.Record.{Record, recordsOf, byteOf, zeroAt, between, kindOf, numberOf, levelByte, nameOf}
 use Rattle.session.specs.Record
-use Rattle.session.specs.Parts.{ofKind, objectRecords, stepRecords, rootRecords, levelCount, objectCount, stepCount, keyOf, methodRecords}
+use Rattle.session.specs.Parts.{ofKind, objectRecords, stepRecords, rootRecords, levelCount, objectCount, stepCount, masksOf, keyOf, methodRecords}
 use Rattle.session.specs.Questions.{fieldValid, question1, kindsRise, question2, question3, question4, question5, question6, question7, question8, objectValid, scriptValid, scriptsValid, verdictOf}
 use Rattle.session.specs.Emptied.{stays, blanked, emptied}
+use Rattle.session.specs.Meaning.{levelOf, methodOf}
+use Rattle.lattice.specs.Table.{dominates}
 use Rattle.session.specs.declared.Verdict.the-variants.{Accepted}
 use Rattle.session.proofs.Laws.Lists.{holds, fails, truth, every-select, select-passes, select-length}
 use Rattle.session.proofs.Laws.Rising.{rising-select}
 use Rattle.session.proofs.Laws.Choice.{every-map, rising-map, counts-map, every-then, every-both}
+use Rattle.session.proofs.Laws.Emptied
 use Rattle.session.proofs.Laws.Emptied.{hidden, staying, blanked-not, blanked-zero, blanked-byte, emptied-records, emptied-length, emptied-levels, emptied-objects, emptied-steps, emptied-roots, emptied-masks, emptied-count, emptied-level-count, emptied-root, emptied-method-seen, kinds, steps-valid, step-name, seen-stays}
 use Rattle.session.proofs.Laws.Record.{records-length}
 use Rattle.session.proofs.Laws.Parts.{kinds-rise, kinds-within, kinds-rising}
@@ -171,3 +174,10 @@ module _ (s : List ℕ) (c : ℕ) (y : AllYes s) where
 
 pub emptied-accepted : (s : List ℕ) (c : ℕ) → verdictOf s ≡ Accepted → verdictOf (emptied c s) ≡ Accepted
 emptied-accepted s c e = all-yes (emptied c s) (emptied-yes s c (accepted s e))
+
+-- the methods of the emptied session: those of the objects that the level dominates, and no others
+pub emptied-method : (s : List ℕ) (c : ℕ) → verdictOf s ≡ Accepted → (o m : ℕ) → dominates (masksOf s) c (levelOf s o) ≡ true → methodOf (emptied c s) o m ≡ methodOf s o m
+emptied-method s c e = Emptied.emptied-method s c (accepted s e) (emptied-yes s c (accepted s e))
+
+pub emptied-method-hidden : (s : List ℕ) (c : ℕ) → verdictOf s ≡ Accepted → (o m : ℕ) → dominates (masksOf s) c (levelOf s o) ≡ false → methodOf (emptied c s) o m ≡ []
+emptied-method-hidden s c e = Emptied.emptied-method-hidden s c (accepted s e) (emptied-yes s c (accepted s e))

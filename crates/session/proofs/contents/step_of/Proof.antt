@@ -103,7 +103,7 @@ returns c =
     ap (λ l. getD l (slot + 1) 0) (s .pre .1) ∙ slot-end t (s .pre .0) (s .args .object) (s .args .name) (s .pre .2) (s .pre .3) in
     let j : s .args .j < length (methodRecords t (key (s .args .object) (s .args .name))) = omega arith in
     c .step-in .ensures ∙ ap (λ r. stepOf (recordAt t (r + s .args .j))) first
-    ∙ method-step t (s .pre .0) (s .args .object) (s .args .name) (s .args .j) j
+    ∙ method-step t (s .pre .0) (s .args .object) (s .args .name) (s .args .j) (s .pre .3) j
 
 returns-2 : tie.Need-returns-2
 returns-2 c =
@@ -115,7 +115,7 @@ returns-2 c =
     ap (λ l. getD l slot 0) (s .pre .1) ∙ slot-first t (s .pre .0) (s .args .object) (s .args .name) (s .pre .2) (s .pre .3) in
     let end : getD index (slot + 1) 0 ≡ methodStart t (key (s .args .object) (s .args .name)) + length (methodRecords t (key (s .args .object) (s .args .name))) =
     ap (λ l. getD l (slot + 1) 0) (s .pre .1) ∙ slot-end t (s .pre .0) (s .args .object) (s .args .name) (s .pre .2) (s .pre .3) in
-    method-over t (s .pre .0) (s .args .object) (s .args .name) (s .args .j) (omega arith)
+    method-over t (s .pre .0) (s .args .object) (s .args .name) (s .args .j) (s .pre .3) (omega arith)
 
 pub step-of-spec : {M : Type 1} → statement M
 step-of-spec =
