@@ -12,3 +12,4 @@ pub mod Fill
 pub mod Numbering
 pub mod Contents
 pub mod Accepted
+pub mod Program

@@ -8,3 +8,4 @@ pub mod Meaning
 pub mod Emptied
 pub mod Reading
 pub mod SessionW
+pub mod Program
