@@ -1,0 +1,119 @@
+-- Document 01's wall chart, M1 to M12, computed over the definitions: one table. Assumes nothing.
+use Prim.Native.Nat.{ℕ}
+use mathlib.Core.Path.{_≡_, refl}
+use mathlib.Core.Bool.{true, false}
+use mathlib.Core.List.{List, [], _∷_, _++_, map}
+use lib.Dec.{eqb}
+use lib.ListN.{replicate, take, drop}
+use Rattle.lattice.specs.Table as table
+use Rattle.lattice.specs.Range.{all, first}
+use Rattle.lattice.specs.Order.{reflexive, antisymmetric, transitive, isOrder}
+use Rattle.lattice.specs.Join.{isLeast, join, hasJoins}
+use Rattle.lattice.specs.Table.{dominates, namesPresent, isOrdered}
+use Rattle.session.specs.Lists.{every, select, risingFrom, countsFrom, tab, joined}
+use Rattle.session.specs.Record.{recordAt, recordsOf, wordOf, zeroAt, stepOf}
+use Rattle.session.specs.Parts.{ofKind, masksOf, methodRecords}
+use Rattle.session.specs.Questions.{question1, kindsRise, question2, question3, objectValid, question6, operandsFit, unusedBytes, stepValid, scriptValid, scriptsValid, rootValid, firstNo, verdictOf}
+use Rattle.session.specs.Meaning.{methodOf}
+use Rattle.session.specs.SessionW.{sessionW}
+use Rattle.session.specs.Program.{programOf, seenBy}
+use Rattle.filter.specs.Filter.{fateOf}
+use Rattle.managers.specs.Value.{sum, isNilOr0}
+use Rattle.managers.specs.Frame.{withRegister}
+use Rattle.managers.specs.Manager.{popped, settled, concluded, started, written, called, forked, sent, operated, stepped}
+use Rattle.model.specs.Lists.{inserted, modify, lastOr}
+use Rattle.model.specs.Fork.{childOf}
+use Rattle.model.specs.History.{endBefore}
+use Rattle.model.specs.Level.{arrived, after, newest, newestTo}
+use Rattle.model.specs.Step.{viewOf, readAt, advanced, begun, moved, delivered, stepAt}
+use Rattle.model.specs.Schedule.{readIn, question14, question15, stepRefusal, runFrom, runOf, lowest, plainFrom, plainOrder}
+use Rattle.model.specs.DepthFirst.{current, close, effected, finish, runFork, depthFirst}
+use Rattle.model.specs.Result.{objectRecord, historyRecord, replyRecord, objectsShown, historiesShown, replyShown, bytesOf, ordersShown}
+use Rattle.model.specs.Entries.{entryRefusal, answerOf, timetabled, plain, deep}
+use Rattle.session.specs.Record.{Record}
+use Rattle.model.specs.Limits.{workNumbers, resultBytes}
+use Rattle.model.specs.Fork.{childStamp}
+use Rattle.model.specs.Entries.{Request, Answer}
+use Rattle.model.specs.Reader.{bytesWritten}
+
+-- a session run for a clearance; a work slice and a result buffer of the least length and one place more
+abbrev lent : List ℕ → ℕ → Request
+lent s c =
+    record {
+      session = s;
+      clearance = c;
+      work = replicate workNumbers 7 ++ 7 ∷ [];
+      buffer = replicate resultBytes 9 ++ 9 ∷ [];
+    }
+
+-- number, place, count and the bytes written
+abbrev told : Answer → List ℕ
+told a = a .number ∷ a .place ∷ a .count ∷ bytesWritten a
+
+-- the records of session W's results: "(object, history, reply)", and those that clearance 1 is shown too: "object 1 as 5, 5, NIL and
+-- history stamp 10000000 hex, 2 writes, stamps 1 and 1, 5 steps"
+abbrev object0 : Record
+object0 = 0x05 ∷ 0x00 ∷ 0x00 ∷ 0x01 ∷ 0x09 ∷ 0x00 ∷ 0x00 ∷ 0x00 ∷ 0x00 ∷ 0x00 ∷ 0x00 ∷ 0x00 ∷ 0x00 ∷ 0x00 ∷ 0x00 ∷ 0x00 ∷ []
+
+abbrev history0 : Record
+history0 = 0x06 ∷ 0x00 ∷ 0x00 ∷ 0x01 ∷ 0x00 ∷ 0x00 ∷ 0x00 ∷ 0x00 ∷ 0x01 ∷ 0x00 ∷ 0x02 ∷ 0x00 ∷ 0x05 ∷ 0x00 ∷ 0x00 ∷ 0x00 ∷ []
+
+abbrev reply : Record
+reply = 0x07 ∷ 0x00 ∷ 0x00 ∷ 0x01 ∷ 0x09 ∷ 0x00 ∷ 0x00 ∷ 0x00 ∷ 0x00 ∷ 0x00 ∷ 0x00 ∷ 0x00 ∷ 0x00 ∷ 0x00 ∷ 0x00 ∷ 0x00 ∷ []
+
+abbrev object1 : Record
+object1 = 0x05 ∷ 0x01 ∷ 0x01 ∷ 0x03 ∷ 0x05 ∷ 0x00 ∷ 0x00 ∷ 0x00 ∷ 0x05 ∷ 0x00 ∷ 0x00 ∷ 0x00 ∷ 0x00 ∷ 0x00 ∷ 0x00 ∷ 0x00 ∷ []
+
+abbrev history1 : Record
+history1 = 0x06 ∷ 0x01 ∷ 0x00 ∷ 0x02 ∷ 0x00 ∷ 0x00 ∷ 0x00 ∷ 0x10 ∷ 0x01 ∷ 0x00 ∷ 0x01 ∷ 0x00 ∷ 0x05 ∷ 0x00 ∷ 0x00 ∷ 0x00 ∷ []
+
+abbrev for0 : List ℕ
+for0 = 0 ∷ 0 ∷ 48 ∷ joined (object0 ∷ history0 ∷ reply ∷ [])
+
+abbrev for1 : List ℕ
+for1 = 0 ∷ 0 ∷ 80 ∷ joined (object0 ∷ object1 ∷ history0 ∷ history1 ∷ reply ∷ [])
+
+-- a timetable of session W, for clearance 1, the level groups by number
+abbrev timetabledW : List ℕ → Answer
+timetabledW = timetabled (lent sessionW 1) (0 ∷ 1 ∷ [])
+
+abbrev sixAndSix : List ℕ
+sixAndSix = replicate 6 0 ++ replicate 6 1
+
+pub record WallChart : Type 0 where
+  m1 : told (plain (lent sessionW 0) (0 ∷ [])) ≡ for0
+  m1-depth-first : told (deep (lent sessionW 0) (0 ∷ [])) ≡ for0
+  m2 : told (plain (lent sessionW 1) (0 ∷ 1 ∷ [])) ≡ for1
+  m2-depth-first : told (deep (lent sessionW 1) (0 ∷ 1 ∷ [])) ≡ for1
+  m3 : told (timetabledW sixAndSix) ≡ for1
+  m4 : told (timetabledW (1 ∷ sixAndSix)) ≡ 13 ∷ 0 ∷ 0 ∷ []
+  m5 : told (timetabledW (0 ∷ 0 ∷ 0 ∷ 1 ∷ [])) ≡ 14 ∷ 3 ∷ 0 ∷ []
+  m6 : told (timetabledW (sixAndSix ++ 0 ∷ [])) ≡ 13 ∷ 12 ∷ 0 ∷ []
+  m7 : told (timetabledW (replicate 6 0)) ≡ 15 ∷ 0 ∷ 0 ∷ []
+  m8 : told (timetabled (lent [] 0) [] []) ≡ 1 ∷ 0 ∷ 0 ∷ []
+  m9 : table.joinOf (0x01 ∷ 0x03 ∷ 0x05 ∷ 0x0F ∷ []) 1 2 ≡ 3
+  m10 : table.numberOfVerdict (table.verdictOf (0x01 ∷ 0x02 ∷ [])) ≡ 5
+  m11 : table.numberOfVerdict (table.verdictOf (0x03 ∷ 0x03 ∷ [])) ≡ 4
+  m12-stamp : childStamp (childStamp 0 0 2) 1 1 ≡ 0x21000000
+  m12-order : inserted (λ x. x) 0x21000000 (0x20000000 ∷ 0x30000000 ∷ []) ≡ 0x20000000 ∷ 0x21000000 ∷ 0x30000000 ∷ []
+
+pub wallChart : WallChart
+unfolding table.verdictOf all first reflexive antisymmetric transitive isOrder isLeast join hasJoins dominates namesPresent isOrdered every select risingFrom countsFrom tab joined recordAt recordsOf wordOf zeroAt stepOf ofKind masksOf methodRecords question1 kindsRise question2 question3 objectValid question6 operandsFit unusedBytes stepValid scriptValid scriptsValid rootValid firstNo verdictOf methodOf sessionW programOf seenBy fateOf sum isNilOr0 withRegister popped settled concluded started written called forked sent operated stepped inserted modify lastOr childOf endBefore arrived after newest newestTo viewOf readAt advanced begun moved delivered stepAt readIn question14 question15 stepRefusal runFrom runOf lowest plainFrom plainOrder current close effected finish runFork depthFirst objectRecord historyRecord replyRecord objectsShown historiesShown replyShown bytesOf ordersShown entryRefusal answerOf timetabled plain deep
+wallChart =
+    record {
+      m1 = refl;
+      m1-depth-first = refl;
+      m2 = refl;
+      m2-depth-first = refl;
+      m3 = refl;
+      m4 = refl;
+      m5 = refl;
+      m6 = refl;
+      m7 = refl;
+      m8 = refl;
+      m9 = refl;
+      m10 = refl;
+      m11 = refl;
+      m12-stamp = refl;
+      m12-order = refl;
+    }

@@ -1,0 +1,33 @@
+-- Forks: messages on their way to a level above. Assumes nothing.
+use Prim.Native.Nat.{ℕ, _+_, _*_, _-_, _^_}
+use mathlib.Core.List.{List}
+use lib.ListN.{replicate, set}
+use Rattle.session.specs.declared.Message.{Message}
+use Rattle.managers.specs.declared.Manager.{Manager}
+use Rattle.model.specs.Limits.{stampDigits}
+
+-- a message with its fork stamp; how many forks deep its manager will be; and for each level the write stamp that an ancestor at that
+-- level had at its fork, or 0 where no ancestor is
+pub record Fork : Type 0 where
+  pub stamp : ℕ
+  pub depth : ℕ
+  pub seen : List ℕ
+  pub message : Message
+
+-- "The root's is 0": the root's message, among n levels
+abbrev pub rootFork : ℕ → Message → Fork
+rootFork n message = record { stamp = 0; depth = 0; seen = replicate n 0; message = message }
+
+-- "Child k (1 to 15) of a manager d forks deep has the parent's stamp plus k × 16^(7−d)"
+abbrev pub childStamp : ℕ → ℕ → ℕ → ℕ
+childStamp parent d k = parent + k * 16 ^ (stampDigits - d)
+
+-- a fork made at a level by the manager of fork x, which is m before this step: "a made fork carries it too", the write stamp
+unfoldable pub childOf : ℕ → Fork → Manager → Message → Fork
+childOf level x m message =
+    record {
+      stamp = childStamp (x .stamp) (x .depth) (m .forks + 1);
+      depth = x .depth + 1;
+      seen = set (x .seen) level (m .stamp);
+      message = message;
+    }

@@ -1,0 +1,24 @@
+-- The numbers that document 01 fixes for runs. Assumes nothing.
+use Prim.Native.Nat.{ℕ, _+_, _*_}
+use Rattle.session.specs.Limits.{recordBytes, maxLevels, maxObjects}
+use Rattle.managers.specs.Limits.{maxScriptSteps, maxWrites}
+
+-- "A level keeps the 32 forks of smallest stamp"
+abbrev pub maxManagers : ℕ
+maxManagers = 32
+
+-- "k × 16^(7−d)": the digits of a fork stamp, of 4 bits each, after the first
+abbrev pub stampDigits : ℕ
+stampDigits = 7
+
+-- question 10: two numbers for each write of each manager
+abbrev pub workNumbers : ℕ
+workNumbers = maxLevels * maxManagers * maxWrites * 2
+
+-- question 11: a record for each object, each manager and the reply
+abbrev pub resultBytes : ℕ
+resultBytes = recordBytes * (maxObjects + maxLevels * maxManagers + 1)
+
+-- a plain run is over within so many scheduler steps: a start and the script steps of each manager
+abbrev pub maxSchedule : ℕ
+maxSchedule = maxLevels * maxManagers * (1 + maxScriptSteps)

@@ -1,0 +1,109 @@
+-- Result records. Assumes nothing.
+use Prim.Native.Nat.{ℕ, _+_, _*_, _/_, _%_, _^_}
+use mathlib.Core.Bool.{Bool, cond, _&&_}
+use mathlib.Core.List.{List, [], _∷_, _++_, map}
+use lib.Dec.{eqb, ltb}
+use lib.ListN.{length, replicate}
+use Rattle.lattice.specs.Range.{all}
+use Rattle.session.specs.Lists.{tab, select, every, joined}
+use Rattle.session.specs.Record.{Record}
+use Rattle.session.specs.Program.{Program}
+use Rattle.session.specs.declared.Value.{Value}
+use Rattle.session.specs.declared.Value.the-variants.{Nil, Number}
+use Rattle.session.specs.declared.Message.{Message}
+use Rattle.managers.specs.Manager.{numberOfEnding}
+use Rattle.model.specs.History.{History}
+use Rattle.model.specs.Level.{newest}
+use Rattle.model.specs.Step.{State, levelAt}
+use Rattle.model.specs.DepthFirst.{Progress, tallyAt, fieldNow}
+
+-- what a run leaves: the fields, and the histories of each level in stamp order
+pub record Result : Type 0 where
+  pub field : ℕ → ℕ → Value
+  pub ended : ℕ → List History
+
+-- of a list of scheduler steps
+abbrev pub resultOf : Program → State → Result
+resultOf p st =
+    record {
+      field = λ o k. newest (p .field o k) o k (levelAt st (p .level o) .versions);
+      ended = λ l. levelAt st l .ended;
+    }
+
+-- of the depth-first run
+abbrev pub resultOfDepthFirst : Program → Progress → Result
+resultOfDepthFirst p g = record { field = fieldNow p g; ended = λ l. tallyAt g l .ended }
+
+-- "Numbers are little-endian": of 16 and of 32 bits
+abbrev pub bytes2 : ℕ → List ℕ
+bytes2 n = n % 2 ^ 8 ∷ n / 2 ^ 8 % 2 ^ 8 ∷ []
+
+abbrev pub bytes4 : ℕ → List ℕ
+bytes4 n = n % 2 ^ 8 ∷ n / 2 ^ 8 % 2 ^ 8 ∷ n / 2 ^ 16 % 2 ^ 8 ∷ n / 2 ^ 24 % 2 ^ 8 ∷ []
+
+-- "tag (1 number, 0 NIL)", and the number, "0 if NIL"
+abbrev pub tag : Value → ℕ
+tag Nil = 0
+tag (Number n) = 1
+
+abbrev pub numberIn : Value → ℕ
+numberIn Nil = 0
+numberIn (Number n) = n
+
+-- "Kind 5: .. laid out as kind 2"
+unfoldable pub objectRecord : ℕ → ℕ → (ℕ → Value) → Record
+objectRecord o level field =
+    5 ∷ o ∷ level ∷ (tag (field 0) + 2 * tag (field 1) + 4 * tag (field 2)) ∷ []
+    ++ bytes4 (numberIn (field 0))
+    ++ bytes4 (numberIn (field 1))
+    ++ bytes4 (numberIn (field 2))
+
+-- "Kind 6: .. byte 1 level, 2 ending, 3 writes, 4 to 7 fork stamp, 8 and 9 first write stamp .., 10 and 11 last .., 12 and 13 script steps"
+unfoldable pub historyRecord : ℕ → History → Record
+historyRecord level h =
+    6 ∷ level ∷ numberOfEnding (h .ending) ∷ h .writes ∷ []
+    ++ bytes4 (h .stamp)
+    ++ bytes2 (h .first)
+    ++ bytes2 (h .last)
+    ++ bytes2 (h .steps)
+    ++ replicate 2 0
+
+-- "Kind 7 ..: byte 1 that level, byte 3 tag, 4 to 7 reply"
+unfoldable pub replyRecord : ℕ → Value → Record
+replyRecord level v = 7 ∷ level ∷ 0 ∷ tag v ∷ [] ++ bytes4 (numberIn v) ++ replicate 8 0
+
+-- "Kind 5: objects by number", "For levels the clearance dominates"
+unfoldable pub objectsShown : Program → Result → ℕ → List Record
+objectsShown p r c =
+    map (λ o. objectRecord o (p .level o) (r .field o)) (select (λ o. p .dom c (p .level o)) (tab (p .objects) (λ o. o)))
+
+-- "Kind 6: histories, one level's together in stamp order, levels' groups in any order": in this one
+unfoldable pub historiesShown : Result → List ℕ → List Record
+historiesShown r order = joined (map (λ l. map (historyRecord l) (r .ended l)) order)
+
+-- the reply of the root manager, whose fork stamp, 0, is the first at its level. "Replies of ended stacks with frames are NIL"
+abbrev pub replyOf : List History → Value
+replyOf [] = Nil
+replyOf (h ∷ hs) = h .reply
+
+-- "Kind 7, if the root's level is dominated"
+unfoldable pub replyShown : Program → Result → ℕ → ℕ → List Record
+replyShown p r c rootLevel = cond (p .dom c rootLevel) (replyRecord rootLevel (replyOf (r .ended rootLevel)) ∷ []) []
+
+-- the bytes of a result for clearance c, the level groups in the given order
+unfoldable pub bytesOf : Program → ℕ → Result → ℕ → List ℕ → List ℕ
+bytesOf p rootLevel r c order =
+    joined (objectsShown p r c ++ historiesShown r order ++ replyShown p r c rootLevel)
+
+-- how often a level stands in an order
+abbrev pub times : ℕ → List ℕ → ℕ
+times l order = length (select (eqb l) order)
+
+-- "in whichever order, each shown level's histories stand together, once": an order of the levels that clearance c dominates
+unfoldable pub ordersShown : Program → ℕ → List ℕ → Bool
+ordersShown p c order =
+    every (λ l. ltb l (p .levels)) order && all (p .levels) (λ l. eqb (times l order) (cond (p .dom c l) 1 0))
+
+-- the shown levels by rising number, one such order
+abbrev pub byNumber : Program → ℕ → List ℕ
+byNumber p c = select (p .dom c) (tab (p .levels) (λ l. l))

@@ -1,0 +1,1 @@
+// What a run of a session means: definitions and theorems, no code.
