@@ -1,7 +1,7 @@
 -- Messages in document 01's diamond, 3 over 1 and 2, these over 0, computed by the definition. Assumes nothing.
 use Prim.Native.Nat.{ℕ}
 use mathlib.Core.Path.{_≡_, refl}
-use mathlib.Core.List.{List, [], _∷_}
+use mathlib.Core.List.{[], _∷_}
 use Rattle.lattice.specs.Range.{all, first}
 use Rattle.lattice.specs.Join.{isLeast, join}
 use Rattle.lattice.specs.Table.{dominates}

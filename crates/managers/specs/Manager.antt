@@ -20,7 +20,6 @@ use Rattle.managers.specs.declared.Frame.{Frame}
 use Rattle.managers.specs.declared.Ending.{Ending}
 use Rattle.managers.specs.declared.Ending.the-variants.{Running, Finished, OutOfSteps, OutOfWrites}
 use Rattle.managers.specs.declared.Manager.{Manager}
-use Rattle.managers.specs.declared.Effect.{Effect}
 use Rattle.managers.specs.declared.Effect.the-variants as effect
 use Rattle.managers.specs.declared.Stepped.{Stepped}
 

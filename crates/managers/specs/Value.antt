@@ -1,5 +1,5 @@
 -- Values of registers and fields: "NIL or a number". Assumes nothing.
-use Prim.Native.Nat.{ℕ, _+_, _%_, _^_}
+use Prim.Native.Nat.{_+_, _%_, _^_}
 use mathlib.Core.Bool.{Bool, true}
 use lib.Dec.{eqb}
 use Rattle.session.specs.declared.Value.{Value}

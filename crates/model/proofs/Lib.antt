@@ -1,1 +1,2 @@
 pub mod WallChart
+pub mod Examples

@@ -1,10 +1,8 @@
 -- Document 01's wall chart, M1 to M12, computed over the definitions: one table. Assumes nothing.
 use Prim.Native.Nat.{ℕ}
 use mathlib.Core.Path.{_≡_, refl}
-use mathlib.Core.Bool.{true, false}
-use mathlib.Core.List.{List, [], _∷_, _++_, map}
-use lib.Dec.{eqb}
-use lib.ListN.{replicate, take, drop}
+use mathlib.Core.List.{List, [], _∷_, _++_}
+use lib.ListN.{replicate}
 use Rattle.lattice.specs.Table as table
 use Rattle.lattice.specs.Range.{all, first}
 use Rattle.lattice.specs.Order.{reflexive, antisymmetric, transitive, isOrder}

@@ -1,8 +1,8 @@
 -- A level and its manager: what waits, runs and has ended there, and the versions written. Assumes nothing.
-use Prim.Native.Nat.{ℕ, suc, _+_, _-_}
+use Prim.Native.Nat.{ℕ, _+_, _-_}
 use mathlib.Core.Bool.{Bool, true, false, not, cond, _&&_, _||_}
 use mathlib.Core.List.{List, [], _∷_}
-use lib.Dec.{eqb, leb, ltb}
+use lib.Dec.{eqb, leb}
 use lib.ListN.{length, take}
 use Rattle.session.specs.declared.Value.{Value}
 use Rattle.managers.specs.Manager.{isRunning}

@@ -10,7 +10,6 @@ use Rattle.session.specs.Record.{Record}
 use Rattle.session.specs.Program.{Program}
 use Rattle.session.specs.declared.Value.{Value}
 use Rattle.session.specs.declared.Value.the-variants.{Nil, Number}
-use Rattle.session.specs.declared.Message.{Message}
 use Rattle.managers.specs.Manager.{numberOfEnding}
 use Rattle.model.specs.History.{History}
 use Rattle.model.specs.Level.{newest}
