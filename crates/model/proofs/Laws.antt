@@ -1,0 +1,4 @@
+-- Laws of the runs.
+pub mod Confluence
+pub mod Lists
+pub mod Arrivals
