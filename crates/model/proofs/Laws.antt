@@ -2,3 +2,4 @@
 pub mod Confluence
 pub mod Lists
 pub mod Arrivals
+pub mod Locality

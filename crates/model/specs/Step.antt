@@ -89,10 +89,17 @@ unfoldable pub delivered : Arrival → State → State
 delivered none st = st
 delivered (at u x) st = modify u (arrived x) st
 
--- a scheduler step at level l, made from what l sees: its own level changes, and one strictly above may get a fork
-unfoldable pub stepAt : Program → ℕ → State → State
-stepAt p l st =
+-- what a scheduler step at level l does, made from what l sees alone
+unfoldable pub moveAt : Program → ℕ → State → Moved
+moveAt p l st =
     let view = viewOf p l st in
     let v = levelAt view l in
-    let done = moved (seenBy l p) view l v (v .activity) in
-    delivered (done .arrival) (modify l (λ _. done .own) st)
+    moved (seenBy l p) view l v (v .activity)
+
+-- it is done: the step's own level changes, and one strictly above may get a fork
+abbrev pub applied : ℕ → Moved → State → State
+applied l done st = delivered (done .arrival) (modify l (λ _. done .own) st)
+
+-- a scheduler step at level l
+unfoldable pub stepAt : Program → ℕ → State → State
+stepAt p l st = applied l (moveAt p l st) st
