@@ -3,3 +3,4 @@ pub mod Confluence
 pub mod Lists
 pub mod Arrivals
 pub mod Locality
+pub mod Diamond
