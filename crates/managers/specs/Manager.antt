@@ -89,7 +89,8 @@ popped m v =
     let answered = withStack m (m .height - 1) (set (m .frames) below (withRegister sender (f .into) (cond (f .returns) v Nil))) (m .reply) in
     cond (ltb (m .height) 2) (withStack m 0 (m .frames) v) answered
 
-abbrev isEnd : Step → Bool
+-- the script's end
+abbrev pub isEnd : Step → Bool
 isEnd End = true
 isEnd (Set a n) = false
 isEnd (Add a b) = false

@@ -5,10 +5,6 @@ use mathlib.Core.Path.{_≡_, refl, sym, _∙_}
 use mathlib.Core.List.{List, [], _∷_}
 use native.Mathlib.Decide.{ℕ-discrete}
 
--- what holds of an empty list of steps
-pub data Trivial : Type 0 where
-  trivial : Trivial
-
 -- the state after the steps at these places
 unfoldable pub ran : {S : Type 0} → (ℕ → S → S) → List ℕ → S → S
 ran act [] s = s
@@ -16,7 +12,7 @@ ran act (l ∷ ls) s = ran act ls (act l s)
 
 -- each step is allowed where it is made
 unfoldable pub Allowed : {S : Type 0} → (ℕ → S → S) → (S → ℕ → Type 0) → List ℕ → S → Type 0
-Allowed act May [] s = Trivial
+Allowed act May [] s = Unit
 Allowed act May (l ∷ ls) s = May s l × Allowed act May ls (act l s)
 
 -- two steps that are both allowed in a state with the invariant commute, and each stays allowed after the other

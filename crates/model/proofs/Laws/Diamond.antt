@@ -15,7 +15,6 @@ use Rattle.session.proofs.Laws.Lists.{getD-tab}
 use Rattle.model.specs.Level.{newLevel, hasManager}
 use Rattle.model.specs.Step.{State, levelAt, viewOf, Arrival, none, at, Moved, moveAt, applied, stepAt}
 use Rattle.model.specs.Schedule.{question12, question13, question14, stepRefusal}
-use Rattle.model.proofs.Laws.Confluence.{trivial}
 use Rattle.model.proofs.Laws.Locality.{Above, Apart, Misses, local, view-applied, applied-comm}
 
 -- a step at level l is allowed: questions 12 to 14 say yes
@@ -51,7 +50,7 @@ module _ (p : Program) (po : PartialOrder (p .levels) (p .dom)) where
       (m .below k (o .present) (and-both (p .dom l k) (not (eqb l k)) d (rw (ne-eqb l k n) refl)))
 
   misses : (l k : ℕ) (a : Arrival) → p .dom k l ≡ false → Above p l a → Misses k a
-  misses l k none e a = trivial
+  misses l k none e a = tt
   misses l k (at u x) e a = λ q. not-both (p .dom k l) (rw q at (and-left (p .dom u l) (not (eqb u l)) (a .1))) e
 
   module _ (st : State) (l k : ℕ) (n : l ≡ k → ⊥) (ml : MayStep p st l) (mk : MayStep p st k) (al : Above p l (moveAt p l st .arrival)) (ak : Above p k (moveAt p k st .arrival)) where
@@ -102,5 +101,5 @@ pub step-may : (p : Program) (st : State) (l : ℕ) → MayStep p st l → stepR
 unfolding stepRefusal question14
 step-may p st l m =
     let below : question14 p st l ≡ true =
-          all-every (p .levels) _ λ j h. implies-when (strictly (p .dom) l j) (not (hasManager (levelAt st j))) λ s. rw (m .below j h s) refl in
+    all-every (p .levels) _ λ j h. implies-when (strictly (p .dom) l j) (not (hasManager (levelAt st j))) λ s. rw (m .below j h s) refl in
     rw (lt-ltb l (p .levels) (m .present), m .managed, below) refl

@@ -15,24 +15,23 @@ use Rattle.model.specs.Lists.{modify}
 use Rattle.model.specs.Fork.{Fork}
 use Rattle.model.specs.Level.{Level, newLevel, arrived}
 use Rattle.model.specs.Step.{State, levelAt, viewOf, Arrival, none, at, Moved, moveAt, applied, delivered, stepAt}
-use Rattle.model.proofs.Laws.Confluence.{Trivial, trivial}
 use Rattle.model.proofs.Laws.Lists.{modify-other, modify-comm, modify-twice}
 use Rattle.model.proofs.Laws.Arrivals.{arrived-comm}
 
 -- a fork goes to a level that is present and strictly dominates l
 abbrev pub Above : Program → ℕ → Arrival → Type 0
-Above p l none = Trivial
+Above p l none = Unit
 Above p l (at u x) = (u < p .levels) × (strictly (p .dom) u l ≡ true)
 
 -- two forks have different stamps
 abbrev pub Apart : Arrival → Arrival → Type 0
-Apart none b = Trivial
-Apart (at u x) none = Trivial
+Apart none b = Unit
+Apart (at u x) none = Unit
 Apart (at u x) (at w y) = x .stamp ≡ y .stamp → ⊥
 
 -- a fork does not go to level l
 abbrev pub Misses : ℕ → Arrival → Type 0
-Misses l none = Trivial
+Misses l none = Unit
 Misses l (at u x) = u ≡ l → ⊥
 
 -- Locality: what a step does depends on what its level sees alone

@@ -1,0 +1,2 @@
+-- Laws of the filter, for any number of levels.
+pub mod Fate

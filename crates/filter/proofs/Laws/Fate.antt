@@ -1,0 +1,31 @@
+-- Where a message is forked. Assumes nothing.
+use Prim.Native.Nat.{ℕ, _<_}
+use mathlib.Core.Path.{_≡_, refl}
+use mathlib.Core.Bool.{Bool, true, false, cond}
+use borrow.Author.Tests.{eqb-false}
+use lib.Dec.{eqb}
+use Rattle.lattice.specs.Order.{Dominance, strictly}
+use Rattle.lattice.specs.Join.{JoinSemilattice, join}
+use Rattle.lattice.proofs.Laws.Join.{join-strict}
+use Rattle.filter.specs.Filter.{upward, fateOf}
+use Rattle.filter.specs.declared.Fate.{Fate}
+use Rattle.filter.specs.declared.Fate.the-variants.{Call, Discard, Block, Fork}
+
+-- a fork goes to a present level strictly above the manager's
+abbrev pub Rises : ℕ → Dominance → ℕ → Fate → Type 0
+Rises n dom m Call = Unit
+Rises n dom m Discard = Unit
+Rises n dom m Block = Unit
+Rises n dom m (Fork u) = (u < n) × (strictly dom u m ≡ true)
+
+module _ (n : ℕ) (dom : Dominance) (sl : JoinSemilattice n dom) where
+  rises : (m l2 : ℕ) → m < n → l2 < n → (a b c : Bool) → eqb (join n dom m l2) m ≡ c → Rises n dom m (cond a Call (cond b (cond c Discard (Fork (join n dom m l2))) Block))
+  rises m l2 hm h2 true b c e = tt
+  rises m l2 hm h2 false false c e = tt
+  rises m l2 hm h2 false true true e = tt
+  rises m l2 hm h2 false true false e =
+      (sl .least m l2 hm h2 .present, join-strict n dom sl m l2 hm h2 (eqb-false (join n dom m l2) m e))
+
+  pub fate-rises : (m l1 l2 : ℕ) → m < n → l2 < n → Rises n dom m (fateOf n dom m l1 l2)
+  unfolding fateOf
+  fate-rises m l1 l2 hm h2 = rises m l2 hm h2 (dom l1 l2) (dom l2 l1) (eqb (join n dom m l2) m) refl
