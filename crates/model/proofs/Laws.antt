@@ -4,3 +4,4 @@ pub mod Lists
 pub mod Arrivals
 pub mod Locality
 pub mod Diamond
+pub mod Moves

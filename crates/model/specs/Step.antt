@@ -54,13 +54,13 @@ pub record Moved : Type 0 where
 
 -- what a manager's effect adds to the versions of its level: "Versions written carry it", the write stamp; "a later write of a field under
 -- one stamp replacing the earlier", since it is found first
-abbrev versionsAfter : Manager → Effect → List Version → List Version
+abbrev pub versionsAfter : Manager → Effect → List Version → List Version
 versionsAfter m Nothing ws = ws
 versionsAfter m (Write object k v) ws = record { stamp = m .stamp; object = object; field = k; value = v } ∷ ws
 versionsAfter m (Fork u message) ws = ws
 
 -- the fork that it makes
-abbrev arrivalOf : ℕ → fork.Fork → Manager → Effect → Arrival
+abbrev pub arrivalOf : ℕ → fork.Fork → Manager → Effect → Arrival
 arrivalOf l x m Nothing = none
 arrivalOf l x m (Write object k v) = none
 arrivalOf l x m (Fork u message) = at u (fork.childOf l x m message)
