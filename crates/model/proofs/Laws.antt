@@ -5,3 +5,5 @@ pub mod Arrivals
 pub mod Locality
 pub mod Diamond
 pub mod Moves
+pub mod Stamps
+pub mod Tree

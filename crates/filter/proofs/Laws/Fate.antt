@@ -7,7 +7,7 @@ use lib.Dec.{eqb}
 use Rattle.lattice.specs.Order.{Dominance, strictly}
 use Rattle.lattice.specs.Join.{JoinSemilattice, join}
 use Rattle.lattice.proofs.Laws.Join.{join-strict}
-use Rattle.filter.specs.Filter.{upward, fateOf}
+use Rattle.filter.specs.Filter.{fateOf}
 use Rattle.filter.specs.declared.Fate.{Fate}
 use Rattle.filter.specs.declared.Fate.the-variants.{Call, Discard, Block, Fork}
 

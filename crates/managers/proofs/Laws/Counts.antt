@@ -1,8 +1,6 @@
 -- What a script step does to a manager's counts, by its effect. Assumes nothing.
-use Prim.Native.Nat.{ℕ, zero, suc, _+_, _<_}
-use mathlib.Core.Path.{_≡_, refl, sym, _∙_, ap}
-use mathlib.Core.Bool.{Bool, true, false, cond}
-use borrow.Author.Tests.{ltb-true}
+use Prim.Native.Nat.{ℕ, zero, suc, _+_}
+use mathlib.Core.Path.{_≡_, refl, _∙_, ap}
 use lib.Dec.{eqb, ltb}
 use Rattle.session.specs.Program.{Program}
 use Rattle.session.specs.declared.Value.{Value}
@@ -10,15 +8,13 @@ use Rattle.session.specs.declared.Value.the-variants.{Nil}
 use Rattle.session.specs.declared.Message.{Message}
 use Rattle.session.specs.declared.Step.{Step}
 use Rattle.session.specs.declared.Step.the-variants.{End, Set, Add, Jump, Read, Write, Send, Quit}
-use Rattle.session.proofs.Laws.Lists.{Truth, holds, fails, truth}
-use Rattle.filter.specs.Filter.{fateOf}
+use Rattle.session.proofs.Laws.Lists.{holds, fails, truth}
 use Rattle.filter.specs.declared.Fate.{Fate}
 use Rattle.filter.specs.declared.Fate.the-variants as fate
 use Rattle.managers.specs.Limits.{maxFrames, maxWrites, maxForks}
 use Rattle.managers.specs.Manager.{top, nextStep, isEnd, isRunning, popped, settled, concluded, started, written, called, forked, sent, operated, stepped}
 use Rattle.managers.specs.Frame.{atStep}
 use Rattle.managers.specs.declared.Frame.{Frame}
-use Rattle.managers.specs.declared.Ending.{Ending}
 use Rattle.managers.specs.declared.Manager.{Manager}
 use Rattle.managers.specs.declared.Effect.{Effect}
 use Rattle.managers.specs.declared.Effect.the-variants as effect

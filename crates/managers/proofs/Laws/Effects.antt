@@ -1,7 +1,7 @@
 -- What a script step may do outside its manager. Assumes nothing.
 use Prim.Native.Nat.{ℕ, _+_, _<_}
-use mathlib.Core.Path.{_≡_, refl}
-use mathlib.Core.Bool.{Bool, true, false}
+use mathlib.Core.Path.{_≡_}
+use mathlib.Core.Bool.{true}
 use borrow.Author.Tests.{ltb-true, eqb-true}
 use lib.Dec.{eqb, ltb}
 use Rattle.lattice.specs.Order.{strictly}
@@ -11,8 +11,7 @@ use Rattle.session.specs.declared.Value.{Value}
 use Rattle.session.specs.declared.Message.{Message}
 use Rattle.session.specs.declared.Step.{Step}
 use Rattle.session.specs.declared.Step.the-variants.{End, Set, Add, Jump, Read, Write, Send, Quit}
-use Rattle.session.proofs.Laws.Lists.{Truth, holds, fails, truth}
-use Rattle.filter.specs.Filter.{fateOf}
+use Rattle.session.proofs.Laws.Lists.{holds, fails, truth}
 use Rattle.filter.specs.declared.Fate.{Fate}
 use Rattle.filter.specs.declared.Fate.the-variants as fate
 use Rattle.filter.proofs.Laws.Fate.{Rises, fate-rises}

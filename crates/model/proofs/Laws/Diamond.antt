@@ -1,19 +1,16 @@
 -- Two levels that may both step are incomparable: their steps commute, and each stays allowed after the other. Assumes nothing.
 use Prim.Native.Nat.{ℕ, _<_}
 use mathlib.Core.Path.{_≡_, refl, sym, _∙_, ap}
-use mathlib.Core.Bool.{Bool, true, false, not, cond, _&&_}
+use mathlib.Core.Bool.{Bool, true, false, not, cond}
 use borrow.Author.Tests.{ltb-true, lt-ltb, ne-eqb, not-true}
 use native.Mathlib.Omega.{arith}
-use lib.Dec.{eqb, ltb}
-use lib.ListN.{getD}
-use Rattle.lattice.specs.Range.{all, implies}
+use lib.Dec.{eqb}
 use Rattle.lattice.specs.Order.{strictly, PartialOrder}
 use Rattle.lattice.proofs.Laws.Range.{and-left, and-both, not-both, implies-then, implies-when, all-each, all-every, refuted}
-use Rattle.session.specs.Lists.{tab}
 use Rattle.session.specs.Program.{Program}
 use Rattle.session.proofs.Laws.Lists.{getD-tab}
 use Rattle.model.specs.Level.{newLevel, hasManager}
-use Rattle.model.specs.Step.{State, levelAt, viewOf, Arrival, none, at, Moved, moveAt, applied, stepAt}
+use Rattle.model.specs.Step.{State, levelAt, viewOf, Arrival, none, at, moveAt, applied, stepAt}
 use Rattle.model.specs.Schedule.{question12, question13, question14, stepRefusal}
 use Rattle.model.proofs.Laws.Locality.{Above, Apart, Misses, local, view-applied, applied-comm}
 

@@ -2,8 +2,7 @@
 -- commute. Over any program whose levels are partially ordered. Assumes nothing.
 use Prim.Native.Nat.{ℕ, _<_}
 use mathlib.Core.Path.{_≡_, refl, sym, _∙_, ap, fun-ext}
-use mathlib.Core.Bool.{Bool, true, false, not, cond, _&&_}
-use mathlib.Core.List.{List, [], _∷_}
+use mathlib.Core.Bool.{true, false, not, cond}
 use native.Mathlib.Decide.{ℕ-discrete}
 use lib.Dec.{eqb}
 use Rattle.lattice.specs.Order.{strictly, PartialOrder}
@@ -12,9 +11,8 @@ use Rattle.session.specs.Lists.{tab}
 use Rattle.session.specs.Program.{Program}
 use Rattle.session.proofs.Laws.Lists.{Truth, holds, fails, truth}
 use Rattle.model.specs.Lists.{modify}
-use Rattle.model.specs.Fork.{Fork}
 use Rattle.model.specs.Level.{Level, newLevel, arrived}
-use Rattle.model.specs.Step.{State, levelAt, viewOf, Arrival, none, at, Moved, moveAt, applied, delivered, stepAt}
+use Rattle.model.specs.Step.{State, levelAt, viewOf, Arrival, none, at, Moved, moveAt, applied, delivered}
 use Rattle.model.proofs.Laws.Lists.{modify-other, modify-comm, modify-twice}
 use Rattle.model.proofs.Laws.Arrivals.{arrived-comm}
 

@@ -1,7 +1,6 @@
 -- Where a scheduler step sends its fork, and what it does to its own level. Assumes nothing.
 use Prim.Native.Nat.{ℕ, _<_}
-use mathlib.Core.Path.{_≡_, refl, sym, ap}
-use mathlib.Core.Bool.{true}
+use mathlib.Core.Path.{_≡_, sym}
 use mathlib.Core.List.{List, [], _∷_}
 use Rattle.session.specs.Program.{Program, seenBy}
 use Rattle.managers.specs.Manager.{stepped}
@@ -11,7 +10,7 @@ use Rattle.managers.specs.declared.Effect.the-variants as effect
 use Rattle.managers.proofs.Laws.Effects.{Sound, Fits, stepped-fits}
 use Rattle.model.specs.Fork.{Fork}
 use Rattle.model.specs.Level.{Activity, idle, busy, Level}
-use Rattle.model.specs.Step.{State, levelAt, viewOf, readAt, Arrival, none, at, Moved, arrivalOf, begun, advanced, moved, moveAt}
+use Rattle.model.specs.Step.{State, levelAt, viewOf, readAt, Arrival, none, at, arrivalOf, begun, advanced, moved, moveAt}
 use Rattle.model.proofs.Laws.Locality.{Above}
 use Rattle.model.proofs.Laws.Diamond.{seen-level}
 
