@@ -1,6 +1,7 @@
 -- Laws of the runs.
 pub mod Confluence
 pub mod Lists
+pub mod Each
 pub mod Arrivals
 pub mod Locality
 pub mod Diamond
