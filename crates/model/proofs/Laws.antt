@@ -8,3 +8,4 @@ pub mod Diamond
 pub mod Moves
 pub mod Stamps
 pub mod Tree
+pub mod Forest
