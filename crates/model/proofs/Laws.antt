@@ -7,5 +7,6 @@ pub mod Locality
 pub mod Diamond
 pub mod Moves
 pub mod Stamps
+pub mod Rank
 pub mod Tree
 pub mod Forest
