@@ -10,3 +10,4 @@ pub mod Stamps
 pub mod Rank
 pub mod Tree
 pub mod Forest
+pub mod Entries
