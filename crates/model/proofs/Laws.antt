@@ -11,3 +11,4 @@ pub mod Rank
 pub mod Tree
 pub mod Forest
 pub mod Entries
+pub mod Change
