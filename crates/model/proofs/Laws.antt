@@ -12,3 +12,4 @@ pub mod Tree
 pub mod Forest
 pub mod Entries
 pub mod Change
+pub mod Orderly
