@@ -13,3 +13,4 @@ pub mod Forest
 pub mod Entries
 pub mod Change
 pub mod Orderly
+pub mod Keeps
