@@ -24,6 +24,16 @@ use Rattle.model.specs.Level.{Version, Activity, idle, busy, Level, newL
 use Rattle.model.specs.Step.{State, levelAt, viewOf, readAt, Arrival, none, at, Moved, begun, advanced, moved, moveAt, applied, delivered, stepAt}
 use Rattle.model.proofs.Laws.Moves.{AtLevel}
 use Rattle.model.proofs.Laws.Diamond.{seen-level}
+use Rattle.model.proofs.Laws.Lists.{modify-length}
+use Rattle.model.proofs.Laws.Each.{Each}
+use Rattle.model.proofs.Laws.Rank.{rank, rank-positive}
+use Rattle.model.proofs.Laws.Stamps.{child-after, child-within}
+use Rattle.model.proofs.Laws.Tree.{Entry, forkedFrom, childIn, Fertile}
+use Rattle.model.proofs.Laws.Forest.{Joins, Rest, whole, tail}
+use Rattle.model.proofs.Laws.Locality.{Misses}
+use Rattle.model.proofs.Laws.Entries.{entriesOf, runningEntry, waitingEntry, child-entry, arrived-joins}
+use Rattle.model.proofs.Laws.Change.{Change, quiet, forks}
+use Rattle.model.proofs.Laws.Orderly.{entriesIn, step-change, level-own, level-target, level-other, delivered-length, Grown, grown-rest, grown-fork, Orderly}
 
 -- a manager that runs on after a step is still one of its level
 after-at : (l : ℕ) (v : Level) (ws : List Fork) (versions : List Version) (x : Fork) (m : Manager) → m .level ≡ l → AtLevel l (after v ws versions x m .activity)
@@ -59,3 +69,38 @@ move-at p l st so h t =
     let same = seen-level p l l st h (so .lattice .order .itself l h) in
     let there : AtLevel l (levelAt view l .activity) = rw (ap (λ w. w .activity) same) t in
     moved-at (seenBy l p) view l (levelAt view l) (levelAt view l .activity) there there
+
+-- a running manager that may still fork has room for its child
+pub fertile : (p : Program) (l : ℕ) (x : Fork) (k : ℕ) → Sound p → l < p .levels → x .depth + rank (p .levels) (p .dom) l ≤ 8 → k < 15 → Fertile (runningEntry l x k)
+fertile p l x k so h d f =
+    let shallow : x .depth ≤ 7 = omega (arith, d, rank-positive (p .levels) (p .dom) (so .lattice .order) l h) in
+    record { after = child-after (x .stamp) (x .depth) k; room = child-within (x .stamp) (x .depth) k shallow f }
+
+-- a level strictly above is another
+other-level : (p : Program) (u l : ℕ) → strictly (p .dom) u l ≡ true → l ≡ u → ⊥
+other-level p u l s q = eqb-false u l (not-true (eqb u l) (and-right (p .dom u l) (not (eqb u l)) s)) (sym q)
+
+arrived-at : (u : ℕ) (x : Fork) (v : Level) → AtLevel u (v .activity) → AtLevel u (arrived x v .activity)
+arrived-at u x v t = unfold arrived in t
+
+-- the step that done describes, at level l, in a state with the invariant
+module _ (p : Program) (so : Sound p) (l : ℕ) (h : l < p .levels) (st : State) (o : Orderly p st) (done : Moved) (own-at : AtLevel l (done .own .activity)) where
+  here : l < length st
+  here = rw (o .size) h
+
+  pub quiet-keeps : (b : Arrival) → b ≡ none → Rest (entriesIn st l) (entriesOf l (done .own)) → Orderly p (delivered b (modify l (λ _. done .own) st))
+  quiet-keeps b q r =
+      record {
+        size = delivered-length b _ ∙ modify-length l (λ _. done .own) st ∙ o .size;
+        placed = λ k hk. placed k hk (ℕ-discrete l k);
+        grown = grown-rest p (entriesIn st) _ (o .grown) (λ k. rest k (ℕ-discrete l k));
+      }
+    where
+      misses : (k : ℕ) → Misses k b
+      misses k = rw q tt
+      placed : (k : ℕ) → k < p .levels → Dec (l ≡ k) → AtLevel k (levelAt (delivered b (modify l (λ _. done .own) st)) k .activity)
+      placed k hk (yes e) = rw (sym e) (rw (ap (λ v. v .activity) (level-own b l (done .own) st (misses l) here)) own-at)
+      placed k hk (no n) = rw (ap (λ v. v .activity) (level-other b l k (done .own) st n (misses k))) (o .placed k hk)
+      rest : (k : ℕ) → Dec (l ≡ k) → Rest (entriesIn st k) (entriesIn (delivered b (modify l (λ _. done .own) st)) k)
+      rest k (yes e) = rw (sym e) (rw (ap (entriesOf l) (level-own b l (done .own) st (misses l) here)) r)
+      rest k (no n) = whole (ap (entriesOf k) (level-other b l k (done .own) st n (misses k)))

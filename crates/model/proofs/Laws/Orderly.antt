@@ -52,24 +52,24 @@ step-change p l st so h t =
     here l p h = unfold seenBy in h
 
 -- the levels after a step: its own, the one that gets its fork, another
-level-own : (b : Arrival) (l : ℕ) (w : Level) (st : State) → Misses l b → l < length st → levelAt (delivered b (modify l (λ _. w) st)) l ≡ w
+pub level-own : (b : Arrival) (l : ℕ) (w : Level) (st : State) → Misses l b → l < length st → levelAt (delivered b (modify l (λ _. w) st)) l ≡ w
 unfolding delivered
 level-own none l w st m h = modify-at newLevel l (λ _. w) st h
 level-own (at u x) l w st m h = modify-other newLevel u l (arrived x) (modify l (λ _. w) st) m ∙ modify-at newLevel l (λ _. w) st h
 
-level-target : (u : ℕ) (x : Fork) (l : ℕ) (w : Level) (st : State) → (l ≡ u → ⊥) → u < length st → levelAt (delivered (at u x) (modify l (λ _. w) st)) u ≡ arrived x (levelAt st u)
+pub level-target : (u : ℕ) (x : Fork) (l : ℕ) (w : Level) (st : State) → (l ≡ u → ⊥) → u < length st → levelAt (delivered (at u x) (modify l (λ _. w) st)) u ≡ arrived x (levelAt st u)
 unfolding delivered
 level-target u x l w st n h =
     modify-at newLevel u (arrived x) (modify l (λ _. w) st) (rw (modify-length l (λ _. w) st) h)
     ∙ ap (arrived x) (modify-other newLevel l u (λ _. w) st n)
 
-level-other : (b : Arrival) (l k : ℕ) (w : Level) (st : State) → (l ≡ k → ⊥) → Misses k b → levelAt (delivered b (modify l (λ _. w) st)) k ≡ levelAt st k
+pub level-other : (b : Arrival) (l k : ℕ) (w : Level) (st : State) → (l ≡ k → ⊥) → Misses k b → levelAt (delivered b (modify l (λ _. w) st)) k ≡ levelAt st k
 unfolding delivered
 level-other none l k w st n m = modify-other newLevel l k (λ _. w) st n
 level-other (at u x) l k w st n m =
     modify-other newLevel u k (arrived x) (modify l (λ _. w) st) m ∙ modify-other newLevel l k (λ _. w) st n
 
-delivered-length : (b : Arrival) (st : State) → length (delivered b st) ≡ length st
+pub delivered-length : (b : Arrival) (st : State) → length (delivered b st) ≡ length st
 unfolding delivered
 delivered-length none st = refl
 delivered-length (at u x) st = modify-length u (arrived x) st
@@ -79,7 +79,7 @@ pub record Grown (p : Program) (F : ℕ → List Entry) : Type 0 where
   pub forest : Forest (p .levels) (p .dom) F
   pub shallow : (l : ℕ) → l < p .levels → Each (λ a. a .depth + rank (p .levels) (p .dom) l ≤ 8) (F l)
 
-grown-rest : (p : Program) (F G : ℕ → List Entry) → Grown p F → ((k : ℕ) → Rest (F k) (G k)) → Grown p G
+pub grown-rest : (p : Program) (F G : ℕ → List Entry) → Grown p F → ((k : ℕ) → Rest (F k) (G k)) → Grown p G
 grown-rest p F G g r =
     record {
       forest = forest-rest (p .levels) (p .dom) F G (g .forest) r;
@@ -87,7 +87,7 @@ grown-rest p F G g r =
     }
 
 -- the first manager of level l forks at level u
-grown-fork : (p : Program) (F G : ℕ → List Entry) → Sound p → Grown p F → (l u : ℕ) → l < p .levels → u < p .levels → (l ≡ u → ⊥) → (a : Entry) (W : List Entry) → F l ≡ a ∷ W → strictly (p .dom) u l ≡ true → Fertile a → G l ≡ forkedFrom a ∷ W → Joins (childIn u a) (F u) (G u) → ((k : ℕ) → (k ≡ l → ⊥) → (k ≡ u → ⊥) → G k ≡ F k) → Grown p G
+pub grown-fork : (p : Program) (F G : ℕ → List Entry) → Sound p → Grown p F → (l u : ℕ) → l < p .levels → u < p .levels → (l ≡ u → ⊥) → (a : Entry) (W : List Entry) → F l ≡ a ∷ W → strictly (p .dom) u l ≡ true → Fertile a → G l ≡ forkedFrom a ∷ W → Joins (childIn u a) (F u) (G u) → ((k : ℕ) → (k ≡ l → ⊥) → (k ≡ u → ⊥) → G k ≡ F k) → Grown p G
 grown-fork p F G so g l u hl hu lu a W e s f tl tu o =
     record {
       forest = forest-fork (p .levels) (p .dom) (so .lattice .order) F G (g .forest) l u hl hu lu a W e s f tl tu o;
@@ -102,3 +102,9 @@ grown-fork p F G so g l u hl hu lu a W e s f tl tu o =
     deep k hk (yes q) d = rw (q, tl) (unfold Each in (at-l .0, at-l .1))
     deep k hk (no n) (yes q) = rw q (tu .each (λ a. a .depth + rank (p .levels) (p .dom) u ≤ 8) child (g .shallow u hu))
     deep k hk (no n) (no q) = rw (o k n q) (g .shallow k hk)
+
+-- the invariant of a state
+pub record Orderly (p : Program) (st : State) : Type 0 where
+  pub size : length st ≡ p .levels
+  pub placed : (l : ℕ) → l < p .levels → AtLevel l (levelAt st l .activity)
+  pub grown : Grown p (entriesIn st)
