@@ -104,3 +104,42 @@ module _ (p : Program) (so : Sound p) (l : ℕ) (h : l < p .levels) (st : State)
       rest : (k : ℕ) → Dec (l ≡ k) → Rest (entriesIn st k) (entriesIn (delivered b (modify l (λ _. done .own) st)) k)
       rest k (yes e) = rw (sym e) (rw (ap (entriesOf l) (level-own b l (done .own) st (misses l) here)) r)
       rest k (no n) = whole (ap (entriesOf k) (level-other b l k (done .own) st n (misses k)))
+
+  pub fork-keeps : (u : ℕ) (c : Fork) (a : Entry) (W : List Entry) → waitingEntry u c ≡ childIn u a → entriesIn st l ≡ a ∷ W → Rest (forkedFrom a ∷ W) (entriesOf l (done .own)) → u < p .levels → strictly (p .dom) u l ≡ true → Fertile a → Orderly p (delivered (at u c) (modify l (λ _. done .own) st))
+  fork-keeps u c a W q e r hu s f =
+      record {
+        size = delivered-length (at u c) _ ∙ modify-length l (λ _. done .own) st ∙ o .size;
+        placed = λ k hk. placed k hk (ℕ-discrete l k) (ℕ-discrete u k);
+        grown = grown-rest p between _
+          (grown-fork p (entriesIn st) between so (o .grown) l u h hu lu a W e s f between-l (rw between-u joins) (λ k n g. between-other k n ∙ others k n g))
+          (λ k. rest k (ℕ-discrete k l));
+      }
+    where
+      lu : l ≡ u → ⊥
+      lu = other-level p u l s
+      next : State
+      next = delivered (at u c) (modify l (λ _. done .own) st)
+      -- the state between the fork and the sender's end
+      between : ℕ → List Entry
+      between k = cond (eqb k l) (forkedFrom a ∷ W) (entriesIn next k)
+      own : levelAt next l ≡ done .own
+      own = level-own (at u c) l (done .own) st (λ t. lu (sym t)) here
+      target : levelAt next u ≡ arrived c (levelAt st u)
+      target = level-target u c l (done .own) st lu (rw (o .size) hu)
+      between-l : between l ≡ forkedFrom a ∷ W
+      between-l = rw (eq-eqb l l refl) refl
+      between-other : (k : ℕ) → (k ≡ l → ⊥) → between k ≡ entriesIn next k
+      between-other k n = rw (ne-eqb k l n) refl
+      between-u : between u ≡ entriesIn next u
+      between-u = between-other u (λ t. lu (sym t))
+      joins : Joins (childIn u a) (entriesIn st u) (entriesIn next u)
+      joins = rw (ap (entriesOf u) target, sym q) (arrived-joins u c (levelAt st u))
+      others : (k : ℕ) → (k ≡ l → ⊥) → (k ≡ u → ⊥) → entriesIn next k ≡ entriesIn st k
+      others k n g = ap (entriesOf k) (level-other (at u c) l k (done .own) st (λ t. n (sym t)) (λ t. g (sym t)))
+      rest : (k : ℕ) → Dec (k ≡ l) → Rest (between k) (entriesIn next k)
+      rest k (yes t) = rw (t, between-l, ap (entriesOf l) own) r
+      rest k (no n) = whole (sym (between-other k n))
+      placed : (k : ℕ) → k < p .levels → Dec (l ≡ k) → Dec (u ≡ k) → AtLevel k (levelAt next k .activity)
+      placed k hk (yes t) d = rw (sym t) (rw (ap (λ v. v .activity) own) own-at)
+      placed k hk (no n) (yes t) = rw (sym t) (rw (ap (λ v. v .activity) target) (arrived-at u c (levelAt st u) (o .placed u hu)))
+      placed k hk (no n) (no g) = rw (ap (λ v. v .activity) (level-other (at u c) l k (done .own) st n g)) (o .placed k hk)
