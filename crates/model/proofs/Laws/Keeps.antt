@@ -143,3 +143,23 @@ module _ (p : Program) (so : Sound p) (l : ℕ) (h : l < p .levels) (st : State)
       placed k hk (yes t) d = rw (sym t) (rw (ap (λ v. v .activity) own) own-at)
       placed k hk (no n) (yes t) = rw (sym t) (rw (ap (λ v. v .activity) target) (arrived-at u c (levelAt st u) (o .placed u hu)))
       placed k hk (no n) (no g) = rw (ap (λ v. v .activity) (level-other (at u c) l k (done .own) st n g)) (o .placed k hk)
+
+first-of : (P : Entry → Type 0) (a : Entry) (W E : List Entry) → E ≡ a ∷ W → Each P E → P a
+unfolding Each
+first-of P a W E e g = (rw e at g) .0
+
+-- every scheduler step keeps the invariant
+pub step-keeps : (p : Program) (l : ℕ) (st : State) → Sound p → l < p .levels → Orderly p st → Orderly p (stepAt p l st)
+unfolding stepAt
+step-keeps p l st so h o =
+    keeps (moveAt p l st) (move-at p l st so h (o .placed l h)) (step-change p l st so h (o .placed l h))
+  where
+    arriving : (b c : Arrival) (s : State) → b ≡ c → Orderly p (delivered c s) → Orderly p (delivered b s)
+    arriving b c s q r = rw q r
+    keeps : (done : Moved) → AtLevel l (done .own .activity) → Change p l (entriesIn st l) (entriesOf l (done .own)) (done .arrival) → Orderly p (applied l done st)
+    keeps done t (quiet q r) = quiet-keeps p so l h st o done t (done .arrival) q r
+    keeps done t (forks u x m message W q e r hu s f) =
+        let a = runningEntry l x (m .forks) in
+        let d = first-of (λ a. a .depth + rank (p .levels) (p .dom) l ≤ 8) a W (entriesIn st l) e (o .grown .shallow l h) in
+        arriving (done .arrival) (at u (childOf l x m message)) (modify l (λ _. done .own) st) q
+        (fork-keeps p so l h st o done t u (childOf l x m message) a W (child-entry l u x m message) e r hu s (fertile p l x (m .forks) so h d f))
