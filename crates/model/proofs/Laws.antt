@@ -14,3 +14,4 @@ pub mod Entries
 pub mod Change
 pub mod Orderly
 pub mod Keeps
+pub mod Commute

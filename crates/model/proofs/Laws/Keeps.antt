@@ -144,7 +144,7 @@ module _ (p : Program) (so : Sound p) (l : ℕ) (h : l < p .levels) (st : State)
       placed k hk (no n) (yes t) = rw (sym t) (rw (ap (λ v. v .activity) target) (arrived-at u c (levelAt st u) (o .placed u hu)))
       placed k hk (no n) (no g) = rw (ap (λ v. v .activity) (level-other (at u c) l k (done .own) st n g)) (o .placed k hk)
 
-first-of : (P : Entry → Type 0) (a : Entry) (W E : List Entry) → E ≡ a ∷ W → Each P E → P a
+pub first-of : (P : Entry → Type 0) (a : Entry) (W E : List Entry) → E ≡ a ∷ W → Each P E → P a
 unfolding Each
 first-of P a W E e g = (rw e at g) .0
 
