@@ -15,3 +15,4 @@ pub mod Change
 pub mod Orderly
 pub mod Keeps
 pub mod Commute
+pub mod Finish
