@@ -16,3 +16,4 @@ pub mod Orderly
 pub mod Keeps
 pub mod Commute
 pub mod Finish
+pub mod ReadIn
