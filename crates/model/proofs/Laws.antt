@@ -17,3 +17,4 @@ pub mod Keeps
 pub mod Commute
 pub mod Finish
 pub mod ReadIn
+pub mod Accepted

@@ -12,11 +12,11 @@ use Rattle.managers.specs.Manager.{isRunning, started, stepped}
 use Rattle.managers.specs.declared.Manager.{Manager}
 use Rattle.managers.specs.declared.Effect.{Effect}
 use Rattle.managers.specs.declared.Effect.the-variants as effect
-use Rattle.managers.proofs.Laws.Counts.{Counts, counts, grown, oneMore, started-counts, stepped-counts}
+use Rattle.managers.proofs.Laws.Counts.{counts, grown, oneMore, started-counts, stepped-counts}
 use Rattle.managers.proofs.Laws.Effects.{Sound, Fits, stepped-fits}
 use Rattle.model.specs.Fork.{Fork, childOf}
 use Rattle.model.specs.Level.{Version, Activity, idle, busy, Level, after}
-use Rattle.model.specs.Step.{State, readAt, Arrival, none, at, Moved, versionsAfter, arrivalOf, begun, advanced, moved}
+use Rattle.model.specs.Step.{State, readAt, Arrival, none, at, versionsAfter, arrivalOf, begun, advanced, moved}
 use Rattle.model.proofs.Laws.Tree.{Entry, forkedFrom}
 use Rattle.model.proofs.Laws.Forest.{Rest, whole, tail}
 use Rattle.model.proofs.Laws.Entries.{waitingEntry, runningEntry, entriesBy, entriesOf, forked-entry}
@@ -66,7 +66,7 @@ effect-change p l v x m m' (effect.Fork u message) q h c f =
     let W = map (waitingEntry l) (v .waiting) in
     let more : m' .forks ≡ m .forks + 1 = ap (λ c. c .forks) c in
     let grew : forkedFrom (runningEntry l x (m .forks)) ∷ W ≡ runningEntry l x (m' .forks) ∷ W =
-          ap (λ e. e ∷ W) (sym (ap (runningEntry l x) more ∙ forked-entry l x (m .forks))) in
+    ap (λ e. e ∷ W) (sym (ap (runningEntry l x) more ∙ forked-entry l x (m .forks))) in
     forks u x m message W refl (ap (λ a. entriesBy l a (v .waiting)) q)
     (rest-from (runningEntry l x (m' .forks) ∷ W) _ _ grew (after-rest l v (v .waiting) (v .versions) x m'))
     (f .0) (rw (sym h) (f .1 .0)) (f .1 .1)

@@ -1,21 +1,20 @@
 -- Steps that are both allowed commute, in every state with the invariant. Assumes nothing.
 use Prim.Native.Nat.{ℕ, _+_, _≤_, _<_}
-use mathlib.Core.Path.{_≡_, refl, sym, _∙_}
-use mathlib.Core.Bool.{true, false}
-use mathlib.Core.List.{List, [], _∷_}
-use native.Mathlib.Omega.{arith}
+use mathlib.Core.Path.{_≡_, sym}
+use mathlib.Core.Bool.{false}
+use mathlib.Core.List.{List, _∷_}
 use Rattle.session.specs.Program.{Program}
 use Rattle.managers.proofs.Laws.Effects.{Sound}
 use Rattle.model.specs.Fork.{childOf}
-use Rattle.model.specs.Step.{State, levelAt, Arrival, none, at, moveAt, stepAt}
+use Rattle.model.specs.Step.{State, Arrival, none, at, moveAt, stepAt}
 use Rattle.model.proofs.Laws.Confluence.{Commuting}
 use Rattle.model.proofs.Laws.Each.{Each}
 use Rattle.model.proofs.Laws.Rank.{rank}
-use Rattle.model.proofs.Laws.Tree.{Entry, Related, children-apart, Fertile}
-use Rattle.model.proofs.Laws.Locality.{Above, Apart}
+use Rattle.model.proofs.Laws.Tree.{Entry, Related, children-apart}
+use Rattle.model.proofs.Laws.Locality.{Apart}
 use Rattle.model.proofs.Laws.Diamond.{MayStep, may-apart, may-stay, diamond}
 use Rattle.model.proofs.Laws.Moves.{move-above}
-use Rattle.model.proofs.Laws.Entries.{runningEntry, entriesOf}
+use Rattle.model.proofs.Laws.Entries.{runningEntry}
 use Rattle.model.proofs.Laws.Change.{Change, quiet, forks}
 use Rattle.model.proofs.Laws.Orderly.{entriesIn, step-change, Orderly}
 use Rattle.model.proofs.Laws.Keeps.{fertile, first-of, step-keeps}
@@ -60,8 +59,8 @@ steps-commute p so =
     record {
       keeps = λ st l o m. step-keeps p l st so (m .present) o;
       stays = λ st l k n o m w.
-        may-stay p po st l k n m w (move-above p l st so (m .present) (o .placed l (m .present))) (move-above p k st so (w .present) (o .placed k (w .present)));
+          may-stay p po st l k n m w (move-above p l st so (m .present) (o .placed l (m .present))) (move-above p k st so (w .present) (o .placed k (w .present)));
       commute = λ st l k n o m w.
-        diamond p po st l k n m w (move-above p l st so (m .present) (o .placed l (m .present))) (move-above p k st so (w .present) (o .placed k (w .present)))
-        (moves-apart p so st o l k (m .present) (w .present) n (may-apart p po l k st n m w) (may-apart p po k l st (λ q. n (sym q)) w m));
+          diamond p po st l k n m w (move-above p l st so (m .present) (o .placed l (m .present))) (move-above p k st so (w .present) (o .placed k (w .present)))
+          (moves-apart p so st o l k (m .present) (w .present) n (may-apart p po l k st n m w) (may-apart p po k l st (λ q. n (sym q)) w m));
     }

@@ -1,24 +1,20 @@
 -- The managers of a state that have not ended, as a forest, and what a scheduler step does to them. Assumes nothing.
-use Prim.Native.Nat.{ℕ, _+_, _*_, _-_, _≤_, _<_}
-use mathlib.Core.Path.{_≡_, refl, sym, _∙_, ap, ap₂}
-use mathlib.Core.Bool.{Bool, true, false, cond}
-use mathlib.Core.List.{List, [], _∷_, map}
+use Prim.Native.Nat.{ℕ, _+_, _-_}
+use mathlib.Core.Path.{_≡_, refl, _∙_, ap}
+use mathlib.Core.List.{List, _∷_, map}
 use native.Mathlib.Nat.{one-mul}
 use native.Mathlib.Omega.{arith}
 use lib.ListN.{take}
-use Rattle.session.specs.Program.{Program}
 use Rattle.session.specs.declared.Message.{Message}
-use Rattle.session.proofs.Laws.Lists.{holds, fails, truth}
-use Rattle.managers.specs.Manager.{isRunning}
 use Rattle.managers.specs.declared.Manager.{Manager}
 use Rattle.model.specs.Limits.{maxManagers}
 use Rattle.model.specs.Lists.{inserted}
 use Rattle.model.specs.Fork.{Fork, childStamp, childOf}
-use Rattle.model.specs.Level.{Version, Activity, idle, busy, Level, startedCount, arrived, after}
+use Rattle.model.specs.Level.{Activity, idle, busy, Level, startedCount, arrived}
 use Rattle.model.proofs.Laws.Each.{Each, Pairwise, each-take, each-inserted, pairwise-take, pairwise-inserted, inserted-map, take-map}
 use Rattle.model.proofs.Laws.Stamps.{span, child-at, child-next}
 use Rattle.model.proofs.Laws.Tree.{Entry, forkedFrom, childIn}
-use Rattle.model.proofs.Laws.Forest.{Joins, Rest, whole, tail}
+use Rattle.model.proofs.Laws.Forest.{Joins}
 
 -- a manager that waits, and one that runs, at level l
 abbrev pub waitingEntry : ℕ → Fork → Entry
@@ -79,6 +75,7 @@ arrived-joins u x v = joins (v .activity)
     waits : Joins (waitingEntry u x) (map (waitingEntry u) (v .waiting)) (map (waitingEntry u) (take (maxManagers - startedCount v) (inserted (λ y. y .stamp) x (v .waiting))))
     waits =
         rw (mapped-taken u (maxManagers - startedCount v) x (v .waiting)) (joins-taken (maxManagers - startedCount v) (waitingEntry u x) (map (waitingEntry u) (v .waiting)))
+
     joins : (a : Activity) → Joins (waitingEntry u x) (entriesBy u a (v .waiting)) (entriesBy u a (take (maxManagers - startedCount v) (inserted (λ y. y .stamp) x (v .waiting))))
     joins idle = waits
     joins (busy y m) = joins-after (runningEntry u y (m .forks)) (waitingEntry u x) _ _ waits

@@ -1,25 +1,18 @@
 -- Whole lists of scheduler steps: any two that finish from one state end in the same state. Assumes nothing.
-use Prim.Native.Nat.{ℕ, zero, suc, _+_, _≤_, _<_}
+use Prim.Native.Nat.{ℕ, suc}
 use mathlib.Core.Path.{_≡_, refl, sym, _∙_, ap}
-use mathlib.Core.Bool.{Bool, true, false, not, cond}
+use mathlib.Core.Bool.{Bool, true, false}
 use mathlib.Core.List.{List, [], _∷_}
-use native.Mathlib.Decide.{ℕ-discrete}
-use native.Mathlib.Omega.{arith}
 use borrow.Author.Tests.{eqb-true, not-true}
 use lib.Dec.{eqb}
-use lib.ListN.{length, getD, replicate}
 use Rattle.lattice.proofs.Laws.Range.{all-each, not-both}
 use Rattle.session.specs.Program.{Program}
-use Rattle.session.specs.declared.Message.{Message}
 use Rattle.session.proofs.Laws.Lists.{holds, fails, truth}
 use Rattle.managers.proofs.Laws.Effects.{Sound}
-use Rattle.model.specs.Lists.{inserted, modify}
-use Rattle.model.specs.Fork.{rootFork}
-use Rattle.model.specs.Level.{Level, newLevel, hasManager, arrived}
+use Rattle.model.specs.Level.{hasManager}
 use Rattle.model.specs.Step.{State, levelAt, stepAt}
-use Rattle.model.specs.Schedule.{readIn, question15, stepRefusal, Outcome, finished, refused, runFrom, runOf}
+use Rattle.model.specs.Schedule.{question15, stepRefusal, Outcome, finished, refused, runFrom}
 use Rattle.model.proofs.Laws.Confluence.{ran, Allowed, Over, confluent}
-use Rattle.model.proofs.Laws.Lists.{modify-length, modify-at, modify-other}
 use Rattle.model.proofs.Laws.Diamond.{MayStep, may-step}
 use Rattle.model.proofs.Laws.Orderly.{Orderly}
 use Rattle.model.proofs.Laws.Commute.{steps-commute}
@@ -42,14 +35,14 @@ pub finishes : (i : ℕ) (p : Program) (ls : List ℕ) (st t : State) → runFro
 unfolding runFrom ran Allowed
 finishes i p [] st t e = elim (truth (question15 p st)) [
   | holds q ↦
-    let same : st ≡ t = ap stateOf (rw q at e) in
-    record { allowed = tt; ends = same; over = rw (sym same) q }
+      let same : st ≡ t = ap stateOf (rw q at e) in
+      record { allowed = tt; ends = same; over = rw (sym same) q }
   | fails q ↦ absurd (not-both false (ap isFinished (rw q at e)) refl)
 ]
 finishes i p (l ∷ ls) st t e = elim (truth (eqb (stepRefusal p st l) 0)) [
   | holds q ↦
-    let rest = finishes (suc i) p ls (stepAt p l st) t (rw q at e) in
-    record { allowed = (may-step p st l (eqb-true (stepRefusal p st l) 0 q), rest .allowed); ends = rest .ends; over = rest .over }
+      let rest = finishes (suc i) p ls (stepAt p l st) t (rw q at e) in
+      record { allowed = (may-step p st l (eqb-true (stepRefusal p st l) 0 q), rest .allowed); ends = rest .ends; over = rest .over }
   | fails q ↦ absurd (not-both false (ap isFinished (rw q at e)) refl)
 ]
 

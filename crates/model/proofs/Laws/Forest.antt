@@ -1,7 +1,7 @@
 -- The managers that have not ended, level by level, form a forest of intervals: any two are related as in `Tree`. A fork and an end keep
 -- this. Assumes nothing.
 use Prim.Native.Nat.{ℕ, _<_}
-use mathlib.Core.Path.{_≡_, refl, sym, _∙_, ap}
+use mathlib.Core.Path.{_≡_, refl, sym, _∙_}
 use mathlib.Core.Bool.{true}
 use mathlib.Core.List.{List, [], _∷_}
 use native.Mathlib.Decide.{ℕ-discrete}
@@ -42,8 +42,8 @@ forest-rest n dom F G f r =
       home = λ l h. rest-each (λ a. a .level ≡ l) (F l) (G l) (r l) (f .home l h);
       same = λ l h. rest-pairs (Related dom) (F l) (G l) (r l) (f .same l h);
       across = λ l k hl hk d.
-        rest-each (λ a. Each (Related dom a) (G k)) (F l) (G l) (r l)
-        (each-map (λ a. Each (Related dom a) (F k)) (λ a. Each (Related dom a) (G k)) (λ a. rest-each (Related dom a) (F k) (G k) (r k)) (F l) (f .across l k hl hk d));
+          rest-each (λ a. Each (Related dom a) (G k)) (F l) (G l) (r l)
+          (each-map (λ a. Each (Related dom a) (F k)) (λ a. Each (Related dom a) (G k)) (λ a. rest-each (Related dom a) (F k) (G k) (r k)) (F l) (f .across l k hl hk d));
     }
 
 -- two facts of each element
@@ -117,9 +117,9 @@ module _ (n : ℕ) (dom : Dominance) (po : PartialOrder n dom) (F G : ℕ → Li
   l-u =
       rw to-l (
         to-u .each (Related dom (forkedFrom a)) (parent-child dom u a (rw a-home s) fertile)
-        (each-map (Related dom a) (Related dom (forkedFrom a)) (λ b. parent-related dom a b) (F u) (a-across u hu lu)),
+            (each-map (Related dom a) (Related dom (forkedFrom a)) (λ b. parent-related dom a b) (F u) (a-across u hu lu)),
         each-both (Related dom (childIn u a)) (λ w. Each (Related dom w) (F u)) (λ w. Each (Related dom w) (G u))
-        (λ w c r. to-u .each (Related dom w) (related-sym c) r) W (child-each l hl W w-home a-same) (w-across u hu lu),
+            (λ w c r. to-u .each (Related dom w) (related-sym c) r) W (child-each l hl W w-home a-same) (w-across u hu lu),
       )
 
   swap : (j k : ℕ) → Each (λ b. Each (Related dom b) (G k)) (G j) → Each (λ b. Each (Related dom b) (G j)) (G k)

@@ -1,7 +1,7 @@
 -- Every scheduler step keeps the invariant, and the session as read in has it. Assumes nothing.
 use Prim.Native.Nat.{ℕ, _+_, _≤_, _<_}
 use mathlib.Core.Path.{_≡_, refl, sym, _∙_, ap}
-use mathlib.Core.Bool.{true, false, not, cond}
+use mathlib.Core.Bool.{true, not, cond}
 use mathlib.Core.List.{List, [], _∷_}
 use native.Mathlib.Decide.{ℕ-discrete}
 use native.Mathlib.Omega.{arith}
@@ -20,7 +20,7 @@ use Rattle.managers.proofs.Laws.Counts.{Counts, counts, grown, oneMore, started
 use Rattle.managers.proofs.Laws.Effects.{Sound}
 use Rattle.model.specs.Lists.{modify}
 use Rattle.model.specs.Fork.{Fork, childOf}
-use Rattle.model.specs.Level.{Version, Activity, idle, busy, Level, newLevel, arrived, after}
+use Rattle.model.specs.Level.{Version, Activity, idle, busy, Level, arrived, after}
 use Rattle.model.specs.Step.{State, levelAt, viewOf, readAt, Arrival, none, at, Moved, begun, advanced, moved, moveAt, applied, delivered, stepAt}
 use Rattle.model.proofs.Laws.Moves.{AtLevel}
 use Rattle.model.proofs.Laws.Diamond.{seen-level}
@@ -29,11 +29,11 @@ use Rattle.model.proofs.Laws.Each.{Each}
 use Rattle.model.proofs.Laws.Rank.{rank, rank-positive}
 use Rattle.model.proofs.Laws.Stamps.{child-after, child-within}
 use Rattle.model.proofs.Laws.Tree.{Entry, forkedFrom, childIn, Fertile}
-use Rattle.model.proofs.Laws.Forest.{Joins, Rest, whole, tail}
+use Rattle.model.proofs.Laws.Forest.{Joins, Rest, whole}
 use Rattle.model.proofs.Laws.Locality.{Misses}
 use Rattle.model.proofs.Laws.Entries.{entriesOf, runningEntry, waitingEntry, child-entry, arrived-joins}
 use Rattle.model.proofs.Laws.Change.{Change, quiet, forks}
-use Rattle.model.proofs.Laws.Orderly.{entriesIn, step-change, level-own, level-target, level-other, delivered-length, Grown, grown-rest, grown-fork, Orderly}
+use Rattle.model.proofs.Laws.Orderly.{entriesIn, step-change, level-own, level-target, level-other, delivered-length, grown-rest, grown-fork, Orderly}
 
 -- a manager that runs on after a step is still one of its level
 after-at : (l : ℕ) (v : Level) (ws : List Fork) (versions : List Version) (x : Fork) (m : Manager) → m .level ≡ l → AtLevel l (after v ws versions x m .activity)
@@ -98,9 +98,11 @@ module _ (p : Program) (so : Sound p) (l : ℕ) (h : l < p .levels) (st : State)
     where
       misses : (k : ℕ) → Misses k b
       misses k = rw q tt
+
       placed : (k : ℕ) → k < p .levels → Dec (l ≡ k) → AtLevel k (levelAt (delivered b (modify l (λ _. done .own) st)) k .activity)
       placed k hk (yes e) = rw (sym e) (rw (ap (λ v. v .activity) (level-own b l (done .own) st (misses l) here)) own-at)
       placed k hk (no n) = rw (ap (λ v. v .activity) (level-other b l k (done .own) st n (misses k))) (o .placed k hk)
+
       rest : (k : ℕ) → Dec (l ≡ k) → Rest (entriesIn st k) (entriesIn (delivered b (modify l (λ _. done .own) st)) k)
       rest k (yes e) = rw (sym e) (rw (ap (entriesOf l) (level-own b l (done .own) st (misses l) here)) r)
       rest k (no n) = whole (ap (entriesOf k) (level-other b l k (done .own) st n (misses k)))
@@ -111,34 +113,45 @@ module _ (p : Program) (so : Sound p) (l : ℕ) (h : l < p .levels) (st : State)
         size = delivered-length (at u c) _ ∙ modify-length l (λ _. done .own) st ∙ o .size;
         placed = λ k hk. placed k hk (ℕ-discrete l k) (ℕ-discrete u k);
         grown = grown-rest p between _
-          (grown-fork p (entriesIn st) between so (o .grown) l u h hu lu a W e s f between-l (rw between-u joins) (λ k n g. between-other k n ∙ others k n g))
-          (λ k. rest k (ℕ-discrete k l));
+            (grown-fork p (entriesIn st) between so (o .grown) l u h hu lu a W e s f between-l (rw between-u joins) (λ k n g. between-other k n ∙ others k n g))
+            (λ k. rest k (ℕ-discrete k l));
       }
     where
       lu : l ≡ u → ⊥
       lu = other-level p u l s
+
       next : State
       next = delivered (at u c) (modify l (λ _. done .own) st)
+
       -- the state between the fork and the sender's end
       between : ℕ → List Entry
       between k = cond (eqb k l) (forkedFrom a ∷ W) (entriesIn next k)
+
       own : levelAt next l ≡ done .own
       own = level-own (at u c) l (done .own) st (λ t. lu (sym t)) here
+
       target : levelAt next u ≡ arrived c (levelAt st u)
       target = level-target u c l (done .own) st lu (rw (o .size) hu)
+
       between-l : between l ≡ forkedFrom a ∷ W
       between-l = rw (eq-eqb l l refl) refl
+
       between-other : (k : ℕ) → (k ≡ l → ⊥) → between k ≡ entriesIn next k
       between-other k n = rw (ne-eqb k l n) refl
+
       between-u : between u ≡ entriesIn next u
       between-u = between-other u (λ t. lu (sym t))
+
       joins : Joins (childIn u a) (entriesIn st u) (entriesIn next u)
       joins = rw (ap (entriesOf u) target, sym q) (arrived-joins u c (levelAt st u))
+
       others : (k : ℕ) → (k ≡ l → ⊥) → (k ≡ u → ⊥) → entriesIn next k ≡ entriesIn st k
       others k n g = ap (entriesOf k) (level-other (at u c) l k (done .own) st (λ t. n (sym t)) (λ t. g (sym t)))
+
       rest : (k : ℕ) → Dec (k ≡ l) → Rest (between k) (entriesIn next k)
       rest k (yes t) = rw (t, between-l, ap (entriesOf l) own) r
       rest k (no n) = whole (sym (between-other k n))
+
       placed : (k : ℕ) → k < p .levels → Dec (l ≡ k) → Dec (u ≡ k) → AtLevel k (levelAt next k .activity)
       placed k hk (yes t) d = rw (sym t) (rw (ap (λ v. v .activity) own) own-at)
       placed k hk (no n) (yes t) = rw (sym t) (rw (ap (λ v. v .activity) target) (arrived-at u c (levelAt st u) (o .placed u hu)))
@@ -156,6 +169,7 @@ step-keeps p l st so h o =
   where
     arriving : (b c : Arrival) (s : State) → b ≡ c → Orderly p (delivered c s) → Orderly p (delivered b s)
     arriving b c s q r = rw q r
+
     keeps : (done : Moved) → AtLevel l (done .own .activity) → Change p l (entriesIn st l) (entriesOf l (done .own)) (done .arrival) → Orderly p (applied l done st)
     keeps done t (quiet q r) = quiet-keeps p so l h st o done t (done .arrival) q r
     keeps done t (forks u x m message W q e r hu s f) =

@@ -1,28 +1,25 @@
 -- The invariant of every state that a run reaches: managers run at their levels, the stamps form a forest, no chain of forks is too long.
 -- Every scheduler step keeps it, allowed or not. Assumes nothing.
 use Prim.Native.Nat.{ℕ, _+_, _≤_, _<_}
-use mathlib.Core.Path.{_≡_, refl, sym, _∙_, ap}
-use mathlib.Core.Bool.{true, false, not, cond}
-use mathlib.Core.List.{List, [], _∷_}
+use mathlib.Core.Path.{_≡_, refl, _∙_, ap}
+use mathlib.Core.Bool.{true}
+use mathlib.Core.List.{List, _∷_}
 use native.Mathlib.Decide.{ℕ-discrete}
 use native.Mathlib.Omega.{arith}
-use borrow.Author.Tests.{eq-eqb, ne-eqb, eqb-false, not-true}
-use lib.Dec.{eqb}
 use lib.ListN.{length}
 use Rattle.lattice.specs.Order.{strictly}
-use Rattle.lattice.proofs.Laws.Range.{and-right}
 use Rattle.session.specs.Program.{Program, seenBy}
 use Rattle.managers.proofs.Laws.Effects.{Sound}
 use Rattle.model.specs.Lists.{modify}
-use Rattle.model.specs.Fork.{Fork, childOf}
-use Rattle.model.specs.Level.{Activity, idle, busy, Level, newLevel, arrived}
-use Rattle.model.specs.Step.{State, levelAt, viewOf, Arrival, none, at, Moved, moved, moveAt, applied, delivered, stepAt}
+use Rattle.model.specs.Fork.{Fork}
+use Rattle.model.specs.Level.{Level, newLevel, arrived}
+use Rattle.model.specs.Step.{State, levelAt, viewOf, Arrival, none, at, moveAt, delivered}
 use Rattle.model.proofs.Laws.Lists.{modify-length, modify-at, modify-other}
-use Rattle.model.proofs.Laws.Each.{Each, each-map}
-use Rattle.model.proofs.Laws.Rank.{rank, rank-falls, rank-positive}
+use Rattle.model.proofs.Laws.Each.{Each}
+use Rattle.model.proofs.Laws.Rank.{rank, rank-falls}
 use Rattle.model.proofs.Laws.Tree.{Entry, forkedFrom, childIn, Fertile}
-use Rattle.model.proofs.Laws.Forest.{Forest, Joins, Rest, whole, tail, rest-each, forest-rest, forest-fork}
-use Rattle.model.proofs.Laws.Entries.{entriesOf, runningEntry, waitingEntry, child-entry, arrived-joins}
+use Rattle.model.proofs.Laws.Forest.{Forest, Joins, Rest, rest-each, forest-rest, forest-fork}
+use Rattle.model.proofs.Laws.Entries.{entriesOf}
 use Rattle.model.proofs.Laws.Change.{Change, quiet, forks, moved-change}
 use Rattle.model.proofs.Laws.Moves.{AtLevel, seen-sound}
 use Rattle.model.proofs.Laws.Diamond.{seen-level}
@@ -96,8 +93,10 @@ grown-fork p F G so g l u hl hu lu a W e s f tl tu o =
   where
     at-l : Each (λ a. a .depth + rank (p .levels) (p .dom) l ≤ 8) (a ∷ W)
     at-l = rw e at (g .shallow l hl)
+
     child : a .depth + 1 + rank (p .levels) (p .dom) u ≤ 8
     child = unfold Each in omega (arith, at-l .0, rank-falls (p .levels) (p .dom) (so .lattice .order) u l hu hl s)
+
     deep : (k : ℕ) → k < p .levels → Dec (k ≡ l) → Dec (k ≡ u) → Each (λ a. a .depth + rank (p .levels) (p .dom) k ≤ 8) (G k)
     deep k hk (yes q) d = rw (q, tl) (unfold Each in (at-l .0, at-l .1))
     deep k hk (no n) (yes q) = rw q (tu .each (λ a. a .depth + rank (p .levels) (p .dom) u ≤ 8) child (g .shallow u hu))

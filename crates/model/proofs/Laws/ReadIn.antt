@@ -1,18 +1,17 @@
 -- The session as read in has the invariant, so any two whole lists of scheduler steps that finish end in the same state. Assumes nothing.
-use Prim.Native.Nat.{ℕ, zero, suc, _+_, _≤_, _<_}
+use Prim.Native.Nat.{ℕ, zero, suc, _+_, _≤_}
 use mathlib.Core.Path.{_≡_, refl, sym, _∙_, ap}
-use mathlib.Core.Bool.{true, false}
 use mathlib.Core.List.{List, [], _∷_}
 use native.Mathlib.Decide.{ℕ-discrete}
 use native.Mathlib.Omega.{arith}
-use lib.ListN.{length, getD, replicate, length-replicate}
+use lib.ListN.{replicate, length-replicate}
 use Rattle.session.specs.Program.{Program}
 use Rattle.session.specs.declared.Message.{Message}
 use Rattle.managers.proofs.Laws.Effects.{Sound}
-use Rattle.model.specs.Lists.{inserted, modify}
+use Rattle.model.specs.Lists.{inserted}
 use Rattle.model.specs.Fork.{Fork, rootFork}
-use Rattle.model.specs.Level.{Level, newLevel, arrived}
-use Rattle.model.specs.Step.{State, levelAt, stepAt}
+use Rattle.model.specs.Level.{newLevel, arrived}
+use Rattle.model.specs.Step.{State, levelAt}
 use Rattle.model.specs.Schedule.{readIn, finished, runOf}
 use Rattle.model.proofs.Laws.Lists.{modify-length, modify-at, modify-other}
 use Rattle.model.proofs.Laws.Each.{Each, Pairwise}
@@ -21,7 +20,7 @@ use Rattle.model.proofs.Laws.Tree.{Entry, Related}
 use Rattle.model.proofs.Laws.Moves.{AtLevel}
 use Rattle.model.proofs.Laws.Entries.{entriesOf, waitingEntry}
 use Rattle.model.proofs.Laws.Orderly.{entriesIn, Orderly}
-use Rattle.model.proofs.Laws.Finish.{Finishes, finishes, same-end}
+use Rattle.model.proofs.Laws.Finish.{finishes, same-end}
 
 -- no level but the root's has a manager
 new-level : (n k : ℕ) → levelAt (replicate n newLevel) k ≡ newLevel
