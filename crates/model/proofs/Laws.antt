@@ -18,3 +18,4 @@ pub mod Commute
 pub mod Finish
 pub mod ReadIn
 pub mod Accepted
+pub mod Progress
