@@ -1,3 +1,4 @@
 -- Laws of a manager: what a script step may change. The runs cite these, not the text of the step.
 pub mod Counts
 pub mod Effects
+pub mod Endings
