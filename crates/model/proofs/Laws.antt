@@ -19,3 +19,4 @@ pub mod Finish
 pub mod ReadIn
 pub mod Accepted
 pub mod Progress
+pub mod Measure

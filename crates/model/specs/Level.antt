@@ -44,7 +44,7 @@ abbrev pub isBusy : Activity → Bool
 isBusy idle = false
 isBusy (busy x m) = true
 
-abbrev isEmpty : List Fork → Bool
+abbrev pub isEmpty : List Fork → Bool
 isEmpty [] = true
 isEmpty (x ∷ xs) = false
 
