@@ -20,3 +20,4 @@ pub mod ReadIn
 pub mod Accepted
 pub mod Progress
 pub mod Measure
+pub mod Plain

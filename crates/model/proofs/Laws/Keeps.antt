@@ -77,7 +77,7 @@ fertile p l x k so h d f =
     record { after = child-after (x .stamp) (x .depth) k; room = child-within (x .stamp) (x .depth) k shallow f }
 
 -- a level strictly above is another
-other-level : (p : Program) (u l : ℕ) → strictly (p .dom) u l ≡ true → l ≡ u → ⊥
+pub other-level : (p : Program) (u l : ℕ) → strictly (p .dom) u l ≡ true → l ≡ u → ⊥
 other-level p u l s q = eqb-false u l (not-true (eqb u l) (and-right (p .dom u l) (not (eqb u l)) s)) (sym q)
 
 arrived-at : (u : ℕ) (x : Fork) (v : Level) → AtLevel u (v .activity) → AtLevel u (arrived x v .activity)
