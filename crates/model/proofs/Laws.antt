@@ -21,3 +21,4 @@ pub mod Accepted
 pub mod Progress
 pub mod Measure
 pub mod Plain
+pub mod PlainRun

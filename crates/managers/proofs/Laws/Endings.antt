@@ -11,8 +11,7 @@ use Rattle.session.proofs.Laws.Lists.{holds, fails, truth}
 use Rattle.managers.specs.Limits.{maxFrames, maxScriptSteps}
 use Rattle.managers.specs.Frame.{atStep}
 use Rattle.managers.specs.Manager.{isRunning, top, nextStep, settled, concluded, operated, stepped}
-use Rattle.managers.specs.declared.Ending.{Ending}
-use Rattle.managers.specs.declared.Ending.the-variants.{Running, Finished, OutOfSteps, OutOfWrites}
+use Rattle.managers.specs.declared.Ending.the-variants.{Running, Finished, OutOfSteps}
 use Rattle.managers.specs.declared.Manager.{Manager}
 
 running-when : (a b : Bool) → isRunning (cond a (cond b Running OutOfSteps) Finished) ≡ true → b ≡ true

@@ -1,7 +1,7 @@
 -- How many scheduler steps a level can still make; each step takes one or more of them. Assumes nothing.
-use Prim.Native.Nat.{ℕ, zero, suc, _+_, _*_, _-_, _≤_, _<_}
-use mathlib.Core.Path.{_≡_, refl, sym, _∙_, ap, ap₂}
-use mathlib.Core.Bool.{Bool, true, false, not, cond, _||_}
+use Prim.Native.Nat.{ℕ, suc, _+_, _*_, _-_, _≤_, _<_}
+use mathlib.Core.Path.{_≡_, refl, _∙_, ap, ap₂}
+use mathlib.Core.Bool.{true, not, cond, _||_}
 use mathlib.Core.List.{List, [], _∷_}
 use native.Mathlib.Nat.{min-le-left}
 use native.Mathlib.Omega.{arith}
@@ -18,11 +18,11 @@ use Rattle.managers.specs.declared.Effect.the-variants as effect
 use Rattle.managers.proofs.Laws.Counts.{Counts, counts, grown, oneMore, started-counts, stepped-counts}
 use Rattle.managers.proofs.Laws.Endings.{running-few}
 use Rattle.model.specs.Limits.{maxManagers}
-use Rattle.model.specs.Lists.{inserted, modify}
+use Rattle.model.specs.Lists.{inserted}
 use Rattle.model.specs.Fork.{Fork}
-use Rattle.model.specs.History.{History, historyOf}
-use Rattle.model.specs.Level.{Version, Activity, idle, busy, Level, newLevel, isBusy, isEmpty, hasManager, startedCount, arrived, after}
-use Rattle.model.specs.Step.{State, levelAt, readAt, Moved, versionsAfter, begun, advanced, moved}
+use Rattle.model.specs.History.{historyOf}
+use Rattle.model.specs.Level.{Version, Activity, idle, busy, Level, isBusy, isEmpty, hasManager, startedCount, arrived, after}
+use Rattle.model.specs.Step.{State, readAt, versionsAfter, begun, advanced, moved}
 
 -- the script steps that the running manager can still make
 abbrev pub left : Activity → ℕ
@@ -94,7 +94,7 @@ unfolding advanced
 advanced-falls p st l v x m t q =
     let s = stepped p (readAt p st l x) m in
     let one-more : s .manager .steps ≡ m .steps + 1 =
-          ap (λ c. c .steps) (stepped-counts p (readAt p st l x) m) ∙ grown-steps (counts m) (s .effect) in
+    ap (λ c. c .steps) (stepped-counts p (readAt p st l x) m) ∙ grown-steps (counts m) (s .effect) in
     let count : startedCount v ≡ length (v .ended) + 1 = ap (λ a. length (v .ended) + cond (isBusy a) 1 0) q in
     let live : m .steps < maxScriptSteps = live-at (v .activity) q (t .live) in
     record {
@@ -116,7 +116,7 @@ unfolding arrived
 arrived-tame x v t =
     let ys = inserted (λ y. y .stamp) x (v .waiting) in
     let few : length (take (maxManagers - startedCount v) ys) ≤ maxManagers - startedCount v =
-          rw (length-take (maxManagers - startedCount v) ys) (min-le-left (maxManagers - startedCount v) (length ys)) in
+    rw (length-take (maxManagers - startedCount v) ys) (min-le-left (maxManagers - startedCount v) (length ys)) in
     record { room = omega (arith, t .room, few); live = t .live }
 
 pub arrived-cost : (x : Fork) (v : Level) → cost (arrived x v) ≡ cost v

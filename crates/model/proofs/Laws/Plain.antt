@@ -1,11 +1,11 @@
 -- The plain order finishes, within the number of steps that the session as read in has left. Assumes nothing.
-use Prim.Native.Nat.{ℕ, zero, suc, _+_, _*_, _≤_, _<_}
+use Prim.Native.Nat.{ℕ, zero, suc, _+_, _≤_, _<_}
 use mathlib.Core.Path.{_≡_, refl, sym, _∙_, ap}
-use mathlib.Core.Bool.{Bool, true, false, cond}
+use mathlib.Core.Bool.{true}
 use mathlib.Core.List.{List, [], _∷_}
 use native.Mathlib.Decide.{ℕ-discrete}
 use native.Mathlib.Omega.{arith}
-use borrow.Author.Tests.{lt-ltb, le-ltb, ltb-true, eq-eqb, eqb-true}
+use borrow.Author.Tests.{lt-ltb, ltb-true, eq-eqb, eqb-true}
 use lib.Dec.{eqb, ltb}
 use lib.ListN.{length}
 use Rattle.lattice.proofs.Laws.Range.{first-passes}
@@ -14,8 +14,8 @@ use Rattle.session.proofs.Laws.Lists.{holds, fails, truth}
 use Rattle.managers.proofs.Laws.Effects.{Sound}
 use Rattle.model.specs.Lists.{modify}
 use Rattle.model.specs.Fork.{Fork}
-use Rattle.model.specs.Level.{Level, newLevel, hasManager, arrived}
-use Rattle.model.specs.Step.{State, levelAt, viewOf, Arrival, none, at, moved, moveAt, applied, delivered, stepAt}
+use Rattle.model.specs.Level.{Level, arrived}
+use Rattle.model.specs.Step.{State, levelAt, viewOf, Arrival, none, at, moveAt, delivered, stepAt}
 use Rattle.model.specs.Schedule.{question15, stepRefusal, finished, runFrom, lowest, plainFrom}
 use Rattle.model.proofs.Laws.Locality.{Above, Misses}
 use Rattle.model.proofs.Laws.Diamond.{MayStep, may-step, step-may, seen-level}
@@ -38,7 +38,7 @@ total-modify zero f (v ∷ vs) h = omega arith
 total-modify (suc l) f (v ∷ vs) h = omega (arith, total-modify l f vs (omega arith))
 
 -- a fork that arrives takes none
-total-arrived : (u : ℕ) (x : Fork) (st : State) → total (modify u (arrived x) st) ≡ total st
+pub total-arrived : (u : ℕ) (x : Fork) (st : State) → total (modify u (arrived x) st) ≡ total st
 unfolding modify total
 total-arrived u x [] = refl
 total-arrived zero x (v ∷ vs) = ap (λ c. c + total vs) (arrived-cost x v)
@@ -79,6 +79,7 @@ module _ (p : Program) (so : Sound p) (st : State) (o : Orderly p st) (t : AllTa
     where
       own : Tame (moveAt p l st .own)
       own = move-falls p l st so m (t l) .tame
+
       at-level : (b : Arrival) → Above p l b → Dec (l ≡ k) → Tame (levelAt (delivered b (modify l (λ _. moveAt p l st .own) st)) k)
       at-level b a (yes e) = rw (sym e, level-own b l (moveAt p l st .own) st (misses b a) here) own
       at-level none a (no n) = rw (level-other none l k (moveAt p l st .own) st n tt) (t k)
@@ -129,15 +130,15 @@ pub plain-finishes : (p : Program) → Sound p → (fuel i : ℕ) (st : State) �
 plain-finishes p so zero i st o t h = elim (truth (question15 p st)) [
   | holds q ↦ (st, run-over i p (plainFrom zero p st) st q (plain-over zero p st q))
   | fails q ↦
-    let m = lowest-may p st (lowest-found p (so .lattice .order) st q) in
-    absurd (omega (arith, h, step-less p so st o t (lowest p st) m))
+      let m = lowest-may p st (lowest-found p (so .lattice .order) st q) in
+      absurd (omega (arith, h, step-less p so st o t (lowest p st) m))
 ]
 plain-finishes p so (suc fuel) i st o t h = elim (truth (question15 p st)) [
   | holds q ↦ (st, run-over i p (plainFrom (suc fuel) p st) st q (plain-over (suc fuel) p st q))
   | fails q ↦
-    let l = lowest p st in
-    let low = lowest-found p (so .lattice .order) st q in
-    let m = lowest-may p st low in
-    let (w, e) = plain-finishes p so fuel (suc i) (stepAt p l st) (step-keeps p l st so (m .present) o) (step-tame p so st o t l m) (omega (arith, h, step-less p so st o t l m)) in
-    (w, ap (λ ls. runFrom i p ls st) (plain-next fuel p st low) ∙ run-next i p l (plainFrom fuel p (stepAt p l st)) st m ∙ e)
+      let l = lowest p st in
+      let low = lowest-found p (so .lattice .order) st q in
+      let m = lowest-may p st low in
+      let (w, e) = plain-finishes p so fuel (suc i) (stepAt p l st) (step-keeps p l st so (m .present) o) (step-tame p so st o t l m) (omega (arith, h, step-less p so st o t l m)) in
+      (w, ap (λ ls. runFrom i p ls st) (plain-next fuel p st low) ∙ run-next i p l (plainFrom fuel p (stepAt p l st)) st m ∙ e)
 ]

@@ -1,6 +1,6 @@
 -- While a manager has not ended some level may step: a lowest one of those that have managers. Assumes nothing.
 use Prim.Native.Nat.{ℕ, zero, suc, _≤_, _<_}
-use mathlib.Core.Path.{_≡_, refl, sym}
+use mathlib.Core.Path.{_≡_, refl}
 use mathlib.Core.Bool.{Bool, true, false, not, _&&_}
 use native.Mathlib.Omega.{arith}
 use borrow.Author.Tests.{eqb-false, eq-eqb, not-true, not-false}
@@ -9,7 +9,7 @@ use Rattle.lattice.specs.Range.{all, implies}
 use Rattle.lattice.specs.Order.{strictly, PartialOrder}
 use Rattle.lattice.proofs.Laws.Range.{and-left, and-right, and-both, not-both, refuted, implies-then, all-each, first-found}
 use Rattle.session.specs.Program.{Program}
-use Rattle.session.proofs.Laws.Lists.{Truth, holds, fails, truth}
+use Rattle.session.proofs.Laws.Lists.{holds, fails, truth}
 use Rattle.model.specs.Level.{hasManager}
 use Rattle.model.specs.Step.{State, levelAt}
 use Rattle.model.specs.Schedule.{question14, question15, stepRefusal, lowest}
@@ -23,8 +23,8 @@ somewhere zero t e = absurd (not-both true refl e)
 somewhere (suc n) t e = elim (truth (t n)) [
   | fails q ↦ (n, (omega arith, q))
   | holds q ↦
-    let (i, (h, f)) = somewhere n t (elim (truth (all n t)) [ | holds r ↦ absurd (not-both (all n t && t n) (and-both (all n t) (t n) r q) e) | fails r ↦ r ]) in
-    (i, (omega (arith, h), f))
+      let (i, (h, f)) = somewhere n t (elim (truth (all n t)) [ holds r ↦ absurd (not-both (all n t && t n) (and-both (all n t) (t n) r q) e) | fails r ↦ r ]) in
+      (i, (omega (arith, h), f))
 ]
 
 -- a implies b fails only where a holds and b does not
@@ -63,9 +63,9 @@ module _ (p : Program) (po : PartialOrder (p .levels) (p .dom)) (st : State) whe
       },
     )
     | fails q ↦
-      let (j, (hj, e)) = somewhere (p .levels) _ q in
-      let s = implies-fails-left (strictly (p .dom) l j) (not (hasManager (levelAt st j))) e in
-      some-below c j (omega (arith, b, below-falls l j h hj s)) hj (not-false (hasManager (levelAt st j)) (implies-fails-right (strictly (p .dom) l j) _ e))
+        let (j, (hj, e)) = somewhere (p .levels) _ q in
+        let s = implies-fails-left (strictly (p .dom) l j) (not (hasManager (levelAt st j))) e in
+        some-below c j (omega (arith, b, below-falls l j h hj s)) hj (not-false (hasManager (levelAt st j)) (implies-fails-right (strictly (p .dom) l j) _ e))
   ]
 
   -- while a manager has not ended some level may step

@@ -34,19 +34,19 @@ unfolding arrived inserted
 arrived-new l x = refl
 
 module _ (p : Program) (so : Sound p) (few : p .levels ≤ 8) (root : Message) where
-  abbrev r : ℕ
+  abbrev pub r : ℕ
   r = p .level (root .object)
 
-  abbrev x : Fork
+  abbrev pub x : Fork
   x = rootFork (p .levels) root
 
-  at-root : levelAt (readIn p root) r ≡ arrived x newLevel
+  pub at-root : levelAt (readIn p root) r ≡ arrived x newLevel
   unfolding readIn
   at-root =
       modify-at newLevel r (arrived x) (replicate (p .levels) newLevel) (rw (length-replicate (p .levels) newLevel) (so .placed (root .object)))
       ∙ ap (arrived x) (new-level (p .levels) r)
 
-  elsewhere : (k : ℕ) → (r ≡ k → ⊥) → levelAt (readIn p root) k ≡ newLevel
+  pub elsewhere : (k : ℕ) → (r ≡ k → ⊥) → levelAt (readIn p root) k ≡ newLevel
   unfolding readIn
   elsewhere k n = modify-other newLevel r k (arrived x) (replicate (p .levels) newLevel) n ∙ new-level (p .levels) k
 
