@@ -1,4 +1,4 @@
--- What the wall chart does not show, computed over the definitions. Assumes nothing.
+-- What the proved cases M1 to M12 do not show, computed over the definitions. Assumes nothing.
 use Prim.Native.Nat.{ℕ, _+_, _*_}
 use mathlib.Core.Path.{_≡_, refl}
 use mathlib.Core.Bool.{Bool, true, false, _&&_}
@@ -30,16 +30,17 @@ use Rattle.model.specs.DepthFirst.{current, close, effected, finish, run
 use Rattle.model.specs.Result.{objectRecord, historyRecord, replyRecord, objectsShown, historiesShown, replyShown, bytesOf, ordersShown}
 use Rattle.model.specs.Entries.{entryRefusal, answerOf, timetabled, plain, deep}
 use Rattle.session.specs.Program.{Program}
-use Rattle.session.specs.declared.Value.the-variants.{Nil}
+use Rattle.session.specs.declared.Value.{Value}
+use Rattle.session.specs.declared.Value.the-variants.{Nil, Number}
 use Rattle.session.specs.declared.Message.{Message}
 use Rattle.session.specs.declared.Step.{Step}
-use Rattle.session.specs.declared.Step.the-variants.{End, Send}
+use Rattle.session.specs.declared.Step.the-variants.{End, Set, Read, Write, Send, Quit}
 use Rattle.model.specs.Limits.{workNumbers}
 use Rattle.model.specs.History.{History}
 use Rattle.model.specs.Step.{levelAt}
 use Rattle.model.specs.Schedule.{Outcome, finished, refused}
 use Rattle.model.specs.DepthFirst.{tallyAt}
-use Rattle.model.specs.Result.{byNumber}
+use Rattle.model.specs.Result.{Result, resultOf, resultOfDepthFirst, byNumber}
 use Rattle.model.specs.Entries.{Request, Answer}
 
 -- Levels 3 over 1 and 2, these over 0, an object at each. The root, at 0, sends to 1, to 2 and three times to 3; those at 1 and 2 send 15
@@ -81,6 +82,34 @@ kept =
 abbrev lateFirst : List ℕ
 lateFirst = replicate 6 0 ++ replicate 16 2 ++ replicate 16 1 ++ replicate 32 3
 
+-- Levels in a chain, an object at each. The root, at 0, sends to 1, where 7 is written; to 2, which asks object 1 for its field and writes
+-- what it gets; and to 1 again, where 8 is written. The reader at 2 has no ancestor at 1: it sees what the first of its managers left.
+abbrev names : List (List (List Step))
+names =
+    ((Send 0 0 1 ∷ Send 0 0 2 ∷ Send 0 1 1 ∷ []) ∷ [])
+    ∷ ((Set 0 7 ∷ Write 0 0 ∷ []) ∷ (Set 0 8 ∷ Write 0 0 ∷ []) ∷ (Read 0 0 ∷ Quit 0 ∷ []) ∷ [])
+    ∷ ((Send 0 2 1 ∷ Write 0 0 ∷ []) ∷ [])
+    ∷ []
+
+abbrev chain : Program
+chain =
+    record {
+      levels = 3;
+      dom = dominates (0x01 ∷ 0x03 ∷ 0x07 ∷ []);
+      objects = 3;
+      level = λ o. o;
+      field = λ o k. Nil;
+      step = λ o name j. getD (getD (getD names o []) name []) j End;
+    }
+
+-- the first fields of objects 1 and 2 in a result, and after a list of scheduler steps
+abbrev firstFields : Result → List Value
+firstFields r = r .field 1 0 ∷ r .field 2 0 ∷ []
+
+abbrev fieldsAfter : Outcome → List Value
+fieldsAfter (finished st) = firstFields (resultOf chain st)
+fieldsAfter (refused number place) = []
+
 -- session W and what is lent to its runs, the lengths given
 abbrev lent : ℕ → ℕ → ℕ → Request
 lent c work buffer = record { session = sessionW; clearance = c; work = replicate work 7; buffer = replicate buffer 9 }
@@ -111,6 +140,9 @@ pub record Examples : Type 0 where
   fan-arrived : stampsAfter (runOf fan root lateFirst) ≡ kept
   fan-plain : stampsAfter (runOf fan root (plainOrder fan root)) ≡ kept
   fan-depth-first : stampsOf (tallyAt (depthFirst fan root) 3 .ended) ≡ kept
+  -- "the end stamp of the largest smaller fork stamp there"; "starts one above the last one's end stamp"
+  chain-plain : fieldsAfter (runOf chain root (plainOrder chain root)) ≡ Number 8 ∷ Number 7 ∷ []
+  chain-depth-first : firstFields (resultOfDepthFirst chain (depthFirst chain root)) ≡ Number 8 ∷ Number 7 ∷ []
   -- questions 9 to 11
   clearance-absent : numberOf (plain (lent 2 8192 4624) []) ≡ 9
   work-short : numberOf (plain (lent 1 8191 4624) bothLevels) ≡ 10
@@ -138,6 +170,8 @@ examples =
       fan-arrived = refl;
       fan-plain = refl;
       fan-depth-first = refl;
+      chain-plain = refl;
+      chain-depth-first = refl;
       clearance-absent = refl;
       work-short = refl;
       work-not-asked = refl;

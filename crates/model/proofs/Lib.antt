@@ -1,3 +1,3 @@
 pub mod Laws
-pub mod WallChart
+pub mod ProvedCases
 pub mod Examples

@@ -1,4 +1,4 @@
--- Document 01's wall chart, M1 to M12, computed over the definitions: one table. Assumes nothing.
+-- Document 01's proved cases M1 to M12, computed over the definitions: one table. Assumes nothing.
 use Prim.Native.Nat.{ℕ}
 use mathlib.Core.Path.{_≡_, refl}
 use mathlib.Core.List.{List, [], _∷_, _++_}
@@ -78,7 +78,7 @@ timetabledW = timetabled (lent sessionW 1) (0 ∷ 1 ∷ [])
 abbrev sixAndSix : List ℕ
 sixAndSix = replicate 6 0 ++ replicate 6 1
 
-pub record WallChart : Type 0 where
+pub record ProvedCases : Type 0 where
   m1 : told (plain (lent sessionW 0) (0 ∷ [])) ≡ for0
   m1-depth-first : told (deep (lent sessionW 0) (0 ∷ [])) ≡ for0
   m2 : told (plain (lent sessionW 1) (0 ∷ 1 ∷ [])) ≡ for1
@@ -95,9 +95,9 @@ pub record WallChart : Type 0 where
   m12-stamp : childStamp (childStamp 0 0 2) 1 1 ≡ 0x21000000
   m12-order : inserted (λ x. x) 0x21000000 (0x20000000 ∷ 0x30000000 ∷ []) ≡ 0x20000000 ∷ 0x21000000 ∷ 0x30000000 ∷ []
 
-pub wallChart : WallChart
+pub provedCases : ProvedCases
 unfolding table.verdictOf all first reflexive antisymmetric transitive isOrder isLeast join hasJoins dominates namesPresent isOrdered every select risingFrom countsFrom tab joined recordAt recordsOf wordOf zeroAt stepOf ofKind masksOf methodRecords question1 kindsRise question2 question3 objectValid question6 operandsFit unusedBytes stepValid scriptValid scriptsValid rootValid firstNo verdictOf methodOf sessionW programOf seenBy fateOf sum isNilOr0 withRegister popped settled concluded started written called forked sent operated stepped inserted modify lastOr childOf endBefore arrived after newest newestTo viewOf readAt advanced begun moved delivered moveAt stepAt readIn question14 question15 stepRefusal runFrom runOf lowest plainFrom plainOrder current close effected finish runFork depthFirst objectRecord historyRecord replyRecord objectsShown historiesShown replyShown bytesOf ordersShown entryRefusal answerOf timetabled plain deep
-wallChart =
+provedCases =
     record {
       m1 = refl;
       m1-depth-first = refl;
