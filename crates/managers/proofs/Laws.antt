@@ -2,3 +2,4 @@
 pub mod Counts
 pub mod Effects
 pub mod Endings
+pub mod Within

@@ -15,6 +15,7 @@ pub mod Change
 pub mod Orderly
 pub mod Keeps
 pub mod Commute
+pub mod WriteStamps
 pub mod Finish
 pub mod ReadIn
 pub mod Accepted
@@ -22,3 +23,4 @@ pub mod Progress
 pub mod Measure
 pub mod Plain
 pub mod PlainRun
+pub mod Bytes

@@ -1,12 +1,12 @@
--- Where a message is forked. Assumes nothing.
+-- Where a message is forked, and that what runs it dominates its object. Assumes nothing.
 use Prim.Native.Nat.{ℕ, _<_}
 use mathlib.Core.Path.{_≡_, refl}
 use mathlib.Core.Bool.{Bool, true, false, cond}
-use borrow.Author.Tests.{eqb-false}
+use borrow.Author.Tests.{eqb-true, eqb-false}
 use lib.Dec.{eqb}
 use Rattle.lattice.specs.Order.{Dominance, strictly}
 use Rattle.lattice.specs.Join.{JoinSemilattice, join}
-use Rattle.lattice.proofs.Laws.Join.{join-strict}
+use Rattle.lattice.proofs.Laws.Join.{join-same, join-strict}
 use Rattle.filter.specs.Filter.{fateOf}
 use Rattle.filter.specs.declared.Fate.{Fate}
 use Rattle.filter.specs.declared.Fate.the-variants.{Call, Discard, Block, Fork}
@@ -17,6 +17,13 @@ Rises n dom m Call = Unit
 Rises n dom m Discard = Unit
 Rises n dom m Block = Unit
 Rises n dom m (Fork u) = (u < n) × (strictly dom u m ≡ true)
+
+-- what runs a message dominates its object: the sender, the manager, the level that it is forked at
+abbrev pub Covers : Dominance → ℕ → ℕ → ℕ → Fate → Type 0
+Covers dom m l1 l2 Call = dom l1 l2 ≡ true
+Covers dom m l1 l2 Discard = dom m l2 ≡ true
+Covers dom m l1 l2 Block = Unit
+Covers dom m l1 l2 (Fork u) = dom u l2 ≡ true
 
 module _ (n : ℕ) (dom : Dominance) (sl : JoinSemilattice n dom) where
   rises : (m l2 : ℕ) → m < n → l2 < n → (a b c : Bool) → eqb (join n dom m l2) m ≡ c → Rises n dom m (cond a Call (cond b (cond c Discard (Fork (join n dom m l2))) Block))
@@ -29,3 +36,14 @@ module _ (n : ℕ) (dom : Dominance) (sl : JoinSemilattice n dom) where
   pub fate-rises : (m l1 l2 : ℕ) → m < n → l2 < n → Rises n dom m (fateOf n dom m l1 l2)
   unfolding fateOf
   fate-rises m l1 l2 hm h2 = rises m l2 hm h2 (dom l1 l2) (dom l2 l1) (eqb (join n dom m l2) m) refl
+
+  covers : (m l1 l2 : ℕ) → m < n → l2 < n → (a b c : Bool) → dom l1 l2 ≡ a → eqb (join n dom m l2) m ≡ c → Covers dom m l1 l2 (cond a Call (cond b (cond c Discard (Fork (join n dom m l2))) Block))
+  covers m l1 l2 hm h2 true b c d e = d
+  covers m l1 l2 hm h2 false false c d e = tt
+  covers m l1 l2 hm h2 false true true d e = join-same n dom sl m l2 hm h2 .0 (eqb-true (join n dom m l2) m e)
+  covers m l1 l2 hm h2 false true false d e = sl .least m l2 hm h2 .above-right
+
+  pub fate-covers : (m l1 l2 : ℕ) → m < n → l2 < n → Covers dom m l1 l2 (fateOf n dom m l1 l2)
+  unfolding fateOf
+  fate-covers m l1 l2 hm h2 =
+      covers m l1 l2 hm h2 (dom l1 l2) (dom l2 l1) (eqb (join n dom m l2) m) refl refl

@@ -29,7 +29,7 @@ apart-right (at u x) c q = rw q tt
 apart-both : (b c d e : Arrival) → b ≡ d → c ≡ e → Apart d e → Apart b c
 apart-both b c d e q r a = rw (q, r) a
 
-module _ (p : Program) (so : Sound p) (st : State) (o : Orderly p st) (l k : ℕ) (hl : l < p .levels) (hk : k < p .levels) (n : l ≡ k → ⊥) (lk : p .dom l k ≡ false) (kl : p .dom k l ≡ false) where
+module _ (p : Program) (so : Sound p) (st : State) (o : Orderly p st) (l k : ℕ) (hl : l < p .levels) (hk : k < p .levels) (n : l ≡ k → ⊥) where
   -- the running managers of two levels are related
   heads : (a b : Entry) (Z W : List Entry) → entriesIn st l ≡ a ∷ Z → entriesIn st k ≡ b ∷ W → Related (p .dom) a b
   heads a b Z W e g =
@@ -44,10 +44,10 @@ module _ (p : Program) (so : Sound p) (st : State) (o : Orderly p st) (l k : ℕ
       let ey = first-of (λ a. a .depth + rank (p .levels) (p .dom) k ≤ 8) (runningEntry k y (j .forks)) W (entriesIn st k) g (o .grown .shallow k hk) in
       apart-both b c (at u (childOf l x m message)) (at w (childOf k y j text)) q t
       (unfold childOf in
-      children-apart (p .dom) (runningEntry l x (m .forks)) (runningEntry k y (j .forks)) lk kl (fertile p l x (m .forks) so hl ex f) (fertile p k y (j .forks) so hk ey i)
+      children-apart (p .dom) (runningEntry l x (m .forks)) (runningEntry k y (j .forks)) (fertile p l x (m .forks) so hl ex f) (fertile p k y (j .forks) so hk ey i)
       (heads (runningEntry l x (m .forks)) (runningEntry k y (j .forks)) Z W e g))
 
-  -- forks from two incomparable levels have different stamps
+  -- forks from two levels have different stamps
   pub moves-apart : Apart (moveAt p l st .arrival) (moveAt p k st .arrival)
   moves-apart =
       apart _ _ (moveAt p l st .arrival) (moveAt p k st .arrival) (step-change p l st so hl (o .placed l hl)) (step-change p k st so hk (o .placed k hk))
@@ -62,5 +62,5 @@ steps-commute p so =
           may-stay p po st l k n m w (move-above p l st so (m .present) (o .placed l (m .present))) (move-above p k st so (w .present) (o .placed k (w .present)));
       commute = λ st l k n o m w.
           diamond p po st l k n m w (move-above p l st so (m .present) (o .placed l (m .present))) (move-above p k st so (w .present) (o .placed k (w .present)))
-          (moves-apart p so st o l k (m .present) (w .present) n (may-apart p po l k st n m w) (may-apart p po k l st (λ q. n (sym q)) w m));
+          (moves-apart p so st o l k (m .present) (w .present) n);
     }

@@ -21,11 +21,11 @@ pub record Joins (c : Entry) (xs ys : List Entry) : Type 1 where
   pub pairs : (R : Entry → Entry → Type 0) → ((a b : Entry) → R a b → R b a) → Each (R c) xs → Pairwise R xs → Pairwise R ys
 
 -- the list ys is xs, or xs without its first
-pub data Rest (xs ys : List Entry) : Type 0 where
+pub data Rest {A : Type 0} (xs ys : List A) : Type 0 where
   whole : ys ≡ xs → Rest xs ys
-  tail : (x : Entry) → xs ≡ x ∷ ys → Rest xs ys
+  tail : (x : A) → xs ≡ x ∷ ys → Rest xs ys
 
-pub rest-each : (P : Entry → Type 0) (xs ys : List Entry) → Rest xs ys → Each P xs → Each P ys
+pub rest-each : {A : Type 0} (P : A → Type 0) (xs ys : List A) → Rest xs ys → Each P xs → Each P ys
 unfolding Each
 rest-each P xs ys (whole q) e = rw q e
 rest-each P xs ys (tail x q) e = (rw q at e) .1

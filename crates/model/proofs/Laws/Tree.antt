@@ -86,11 +86,9 @@ parent-related dom a b (under h) = under (record { below = h .below; before = h 
 pub parent-child : (dom : Dominance) (u : ℕ) (a : Entry) → strictly dom u (a .level) ≡ true → Fertile a → Related dom (forkedFrom a) (childIn u a)
 parent-child dom u a s f = over (record { below = s; before = f .after; within = omega arith })
 
--- children of managers at incomparable levels have different stamps
-pub children-apart : (dom : Dominance) (a b : Entry) → dom (a .level) (b .level) ≡ false → dom (b .level) (a .level) ≡ false → Fertile a → Fertile b → Related dom a b → a .next ≡ b .next → ⊥
-children-apart dom a b e g f h (left r) q = omega (arith, f .room, h .after, span-positive (a .depth + 1))
-children-apart dom a b e g f h (right r) q = omega (arith, h .room, f .after, span-positive (b .depth + 1))
-children-apart dom a b e g f h (over r) q =
-    not-both (dom (b .level) (a .level)) (and-left (dom (b .level) (a .level)) _ (r .below)) g
-children-apart dom a b e g f h (under r) q =
-    not-both (dom (a .level) (b .level)) (and-left (dom (a .level) (b .level)) _ (r .below)) e
+-- children of two managers have different stamps
+pub children-apart : (dom : Dominance) (a b : Entry) → Fertile a → Fertile b → Related dom a b → a .next ≡ b .next → ⊥
+children-apart dom a b f h (left r) q = omega (arith, f .room, h .after, span-positive (a .depth + 1))
+children-apart dom a b f h (right r) q = omega (arith, h .room, f .after, span-positive (b .depth + 1))
+children-apart dom a b f h (over r) q = omega (arith, h .room, r .within, span-positive (b .depth + 1))
+children-apart dom a b f h (under r) q = omega (arith, f .room, r .within, span-positive (a .depth + 1))
