@@ -15,7 +15,6 @@ pub mod Change
 pub mod Orderly
 pub mod Keeps
 pub mod Commute
-pub mod WriteStamps
 pub mod Finish
 pub mod ReadIn
 pub mod Accepted
@@ -23,4 +22,8 @@ pub mod Progress
 pub mod Measure
 pub mod Plain
 pub mod PlainRun
+pub mod WriteStamps
+pub mod Became
+pub mod Stamped
+pub mod Isolation
 pub mod Bytes

@@ -10,3 +10,4 @@ pub mod DepthFirst
 pub mod Result
 pub mod Entries
 pub mod Reader
+pub mod Isolation

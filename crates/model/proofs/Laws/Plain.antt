@@ -14,7 +14,7 @@ use Rattle.session.proofs.Laws.Lists.{holds, fails, truth}
 use Rattle.managers.proofs.Laws.Effects.{Sound}
 use Rattle.model.specs.Lists.{modify}
 use Rattle.model.specs.Fork.{Fork}
-use Rattle.model.specs.Level.{Level, arrived}
+use Rattle.model.specs.Level.{Level, hasManager, arrived}
 use Rattle.model.specs.Step.{State, levelAt, viewOf, Arrival, none, at, moveAt, delivered, stepAt}
 use Rattle.model.specs.Schedule.{question15, stepRefusal, finished, runFrom, lowest, plainFrom}
 use Rattle.model.proofs.Laws.Locality.{Above, Misses}
@@ -49,14 +49,14 @@ unfolding delivered
 total-delivered none st = refl
 total-delivered (at u x) st = total-arrived u x st
 
--- an allowed step keeps the limits of its level, and leaves it fewer steps
-move-falls : (p : Program) (l : ℕ) (st : State) → Sound p → MayStep p st l → Tame (levelAt st l) → Falls (levelAt st l) (moveAt p l st .own)
+-- a step of a manager keeps the limits of its level, and leaves it fewer steps
+move-falls : (p : Program) (l : ℕ) (st : State) → Sound p → l < p .levels → hasManager (levelAt st l) ≡ true → Tame (levelAt st l) → Falls (levelAt st l) (moveAt p l st .own)
 unfolding moveAt
-move-falls p l st so m t =
+move-falls p l st so h m t =
     let view = viewOf p l st in
-    let same : levelAt view l ≡ levelAt st l = seen-level p l l st (m .present) (so .lattice .order .itself l (m .present)) in
+    let same : levelAt view l ≡ levelAt st l = seen-level p l l st h (so .lattice .order .itself l h) in
     by (levelAt view l) (levelAt st l) same
-    (moved-falls (seenBy l p) view l (levelAt view l) (levelAt view l .activity) (rw same t) refl (rw same (m .managed)))
+    (moved-falls (seenBy l p) view l (levelAt view l) (levelAt view l .activity) (rw same t) refl (rw same m))
   where
     by : (v w : Level) → v ≡ w → {z : Level} → Falls v z → Falls w z
     by v w q f = rw (sym q) f
@@ -65,10 +65,10 @@ move-falls p l st so m t =
 abbrev pub AllTame : State → Type 0
 AllTame st = (k : ℕ) → Tame (levelAt st k)
 
--- an allowed step keeps the limits of all levels
-module _ (p : Program) (so : Sound p) (st : State) (o : Orderly p st) (t : AllTame st) (l : ℕ) (m : MayStep p st l) where
+-- a step of a manager keeps the limits of all levels
+module _ (p : Program) (so : Sound p) (st : State) (o : Orderly p st) (t : AllTame st) (l : ℕ) (h : l < p .levels) (m : hasManager (levelAt st l) ≡ true) where
   here : l < length st
-  here = rw (o .size) (m .present)
+  here = rw (o .size) h
 
   misses : (b : Arrival) → Above p l b → Misses l b
   misses none a = tt
@@ -78,7 +78,7 @@ module _ (p : Program) (so : Sound p) (st : State) (o : Orderly p st) (t : AllTa
   delivered-tame b a k = at-level b a (ℕ-discrete l k)
     where
       own : Tame (moveAt p l st .own)
-      own = move-falls p l st so m (t l) .tame
+      own = move-falls p l st so h m (t l) .tame
 
       at-level : (b : Arrival) → Above p l b → Dec (l ≡ k) → Tame (levelAt (delivered b (modify l (λ _. moveAt p l st .own) st)) k)
       at-level b a (yes e) = rw (sym e, level-own b l (moveAt p l st .own) st (misses b a) here) own
@@ -90,12 +90,12 @@ module _ (p : Program) (so : Sound p) (st : State) (o : Orderly p st) (t : AllTa
 
   pub step-tame : AllTame (stepAt p l st)
   unfolding stepAt
-  step-tame = delivered-tame (moveAt p l st .arrival) (move-above p l st so (m .present) (o .placed l (m .present)))
+  step-tame = delivered-tame (moveAt p l st .arrival) (move-above p l st so h (o .placed l h))
 
   pub step-less : total (stepAt p l st) < total st
   unfolding stepAt
   step-less =
-      omega (arith, total-delivered (moveAt p l st .arrival) (modify l (λ _. moveAt p l st .own) st), total-modify l (λ _. moveAt p l st .own) st here, move-falls p l st so m (t l) .less)
+      omega (arith, total-delivered (moveAt p l st .arrival) (modify l (λ _. moveAt p l st .own) st), total-modify l (λ _. moveAt p l st .own) st here, move-falls p l st so h m (t l) .less)
 
 -- the lowest level that may step, may
 lowest-may : (p : Program) (st : State) → lowest p st < p .levels → MayStep p st (lowest p st)
@@ -121,7 +121,7 @@ plain-next : (fuel : ℕ) (p : Program) (st : State) → lowest p st < p .levels
 unfolding plainFrom
 plain-next fuel p st h = rw (lt-ltb (lowest p st) (p .levels) h) refl
 
-run-next : (i : ℕ) (p : Program) (l : ℕ) (ls : List ℕ) (st : State) → MayStep p st l → runFrom i p (l ∷ ls) st ≡ runFrom (suc i) p ls (stepAt p l st)
+pub run-next : (i : ℕ) (p : Program) (l : ℕ) (ls : List ℕ) (st : State) → MayStep p st l → runFrom i p (l ∷ ls) st ≡ runFrom (suc i) p ls (stepAt p l st)
 unfolding runFrom
 run-next i p l ls st m = rw (eq-eqb (stepRefusal p st l) 0 (step-may p st l m)) refl
 
@@ -131,7 +131,7 @@ plain-finishes p so zero i st o t h = elim (truth (question15 p st)) [
   | holds q ↦ (st, run-over i p (plainFrom zero p st) st q (plain-over zero p st q))
   | fails q ↦
       let m = lowest-may p st (lowest-found p (so .lattice .order) st q) in
-      absurd (omega (arith, h, step-less p so st o t (lowest p st) m))
+      absurd (omega (arith, h, step-less p so st o t (lowest p st) (m .present) (m .managed)))
 ]
 plain-finishes p so (suc fuel) i st o t h = elim (truth (question15 p st)) [
   | holds q ↦ (st, run-over i p (plainFrom (suc fuel) p st) st q (plain-over (suc fuel) p st q))
@@ -139,6 +139,6 @@ plain-finishes p so (suc fuel) i st o t h = elim (truth (question15 p st)) [
       let l = lowest p st in
       let low = lowest-found p (so .lattice .order) st q in
       let m = lowest-may p st low in
-      let (w, e) = plain-finishes p so fuel (suc i) (stepAt p l st) (step-keeps p l st so (m .present) o) (step-tame p so st o t l m) (omega (arith, h, step-less p so st o t l m)) in
+      let (w, e) = plain-finishes p so fuel (suc i) (stepAt p l st) (step-keeps p l st so (m .present) o) (step-tame p so st o t l (m .present) (m .managed)) (omega (arith, h, step-less p so st o t l (m .present) (m .managed))) in
       (w, ap (λ ls. runFrom i p ls st) (plain-next fuel p st low) ∙ run-next i p l (plainFrom fuel p (stepAt p l st)) st m ∙ e)
 ]

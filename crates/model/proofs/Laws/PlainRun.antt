@@ -33,7 +33,7 @@ total-new zero = refl
 total-new (suc n) = omega (arith, total-new n)
 
 module _ (p : Program) (so : Sound p) (few : p .levels ≤ 8) (root : Message) where
-  read-in-tame : AllTame (readIn p root)
+  pub read-in-tame : AllTame (readIn p root)
   read-in-tame k = elim (ℕ-discrete (p .level (root .object)) k) [
     | yes e ↦ rw (sym e, at-root p so few root) (arrived-tame (rootFork (p .levels) root) newLevel new-tame)
     | no n ↦ rw (elsewhere p so few root k n) new-tame

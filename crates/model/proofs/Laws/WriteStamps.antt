@@ -40,10 +40,18 @@ pub data Closes (v w : Level) : Type 0 where
   kept : w .ended ≡ v .ended → Closes v w
   closed : (x : Fork) (xs : List Fork) (h : History) → forksOf v ≡ x ∷ xs → h .stamp ≡ x .stamp → h .last < writeStamp w → w .ended ≡ inserted (λ h. h .stamp) h (v .ended) → Closes v w
 
--- a fork that the first manager makes at level l carries a write stamp of that level that is past
-pub data Sends (l : ℕ) (v w : Level) (b : Arrival) : Type 0 where
-  silent : b ≡ none → Sends l v w b
-  sends : (u : ℕ) (x c : Fork) (xs : List Fork) (s : ℕ) → b ≡ at u c → forksOf v ≡ x ∷ xs → c .seen ≡ set (x .seen) l s → s < writeStamp w → Sends l v w b
+-- the fork c that the first manager makes at level l carries a write stamp of that level that is past
+pub record Child (l : ℕ) (v w : Level) (c : Fork) : Type 0 where
+  pub sender : Fork
+  pub others : List Fork
+  pub past : ℕ
+  pub first : forksOf v ≡ sender ∷ others
+  pub seen : c .seen ≡ set (sender .seen) l past
+  pub below : past < writeStamp w
+
+abbrev pub Sends : ℕ → Level → Level → Arrival → Type 0
+Sends l v w none = Unit
+Sends l v w (at u c) = Child l v w c
 
 -- what a step does to its own level
 pub record Marks (l : ℕ) (v w : Level) (b : Arrival) : Type 0 where
@@ -108,13 +116,13 @@ begun-marks p l v q [] e =
       fresh = [];
       versions = refl;
       above = tt;
-      child = silent refl;
+      child = tt;
     }
 begun-marks p l v q (x ∷ xs) e =
     let m = started p l (v .next) (x .message) in
     let begins : m .stamp ≡ v .next = ap (λ c. c .stamp) (started-counts p l (v .next) (x .message)) in
     let now : writeStamp v ≡ v .next = ap (λ a. stampBy a (v .next)) q in
-    marks-after v xs (v .versions) x m l none [] (ap₂ forksBy q e) (omega (arith, begins, now)) refl tt (silent refl)
+    marks-after v xs (v .versions) x m l none [] (ap₂ forksBy q e) (omega (arith, begins, now)) refl tt tt
 
 -- the running manager x makes a step with an effect
 effect-marks : (l : ℕ) (v : Level) (x : Fork) (m m' : Manager) (e : Effect) → v .activity ≡ busy x m → counts m' ≡ oneMore (grown (counts m) e) → Marks l v (after v (v .waiting) (versionsAfter m e (v .versions)) x m') (arrivalOf l x m e)
@@ -122,16 +130,23 @@ unfolding Each
 effect-marks l v x m m' effect.Nothing q c =
     let same : m' .stamp ≡ m .stamp = ap (λ c. c .stamp) c in
     let now : writeStamp v ≡ m .stamp = ap (λ a. stampBy a (v .next)) q in
-    marks-after v (v .waiting) (v .versions) x m' l none [] (ap (λ a. forksBy a (v .waiting)) q) (omega (arith, same, now)) refl tt (silent refl)
+    marks-after v (v .waiting) (v .versions) x m' l none [] (ap (λ a. forksBy a (v .waiting)) q) (omega (arith, same, now)) refl tt tt
 effect-marks l v x m m' (effect.Write o k w) q c =
     let same : m' .stamp ≡ m .stamp = ap (λ c. c .stamp) c in
     let now : writeStamp v ≡ m .stamp = ap (λ a. stampBy a (v .next)) q in
-    marks-after v (v .waiting) _ x m' l none (record { stamp = m .stamp; object = o; field = k; value = w } ∷ []) (ap (λ a. forksBy a (v .waiting)) q) (omega (arith, same, now)) refl (omega (arith, now), tt) (silent refl)
+    marks-after v (v .waiting) _ x m' l none (record { stamp = m .stamp; object = o; field = k; value = w } ∷ []) (ap (λ a. forksBy a (v .waiting)) q) (omega (arith, same, now)) refl (omega (arith, now), tt) tt
 effect-marks l v x m m' (effect.Fork u message) q c =
     let more : m' .stamp ≡ m .stamp + 1 = ap (λ c. c .stamp) c in
     let now : writeStamp v ≡ m .stamp = ap (λ a. stampBy a (v .next)) q in
     marks-after v (v .waiting) (v .versions) x m' l _ [] (ap (λ a. forksBy a (v .waiting)) q) (omega (arith, more, now)) refl tt
-    (sends u x (childOf l x m message) (v .waiting) (m .stamp) refl (ap (λ a. forksBy a (v .waiting)) q) (unfold childOf in refl) (omega (arith, more, after-stamp v (v .waiting) (v .versions) x m')))
+    (record {
+      sender = x;
+      others = v .waiting;
+      past = m .stamp;
+      first = ap (λ a. forksBy a (v .waiting)) q;
+      seen = unfold childOf in refl;
+      below = omega (arith, more, after-stamp v (v .waiting) (v .versions) x m');
+    })
 
 pub moved-marks : (p : Program) (st : State) (l : ℕ) (v : Level) (a : Activity) → v .activity ≡ a → Marks l v (moved p st l v a .own) (moved p st l v a .arrival)
 unfolding moved advanced

@@ -13,10 +13,10 @@ use Rattle.lattice.specs.Table.{dominates}
 use Rattle.lattice.proofs.Laws.Range.{refuted, and-left, and-right, and-both, and-fails-left, and-fails-right, not-both}
 use Rattle.lattice.proofs.Laws.Table.{bit-beyond}
 use Rattle.session.specs.Lists.{every, select, risingFrom}
-use Rattle.session.specs.Record.{Record, recordsOf, byteOf, kindOf, numberOf, objectOf, maskOf, levelByte, nameOf, fieldIn, stepOf}
+use Rattle.session.specs.Record.{Record, recordsOf, byteOf, kindOf, numberOf, objectOf, maskOf, levelByte, nameOf, fieldIn, stepOf, parameterOf}
 use Rattle.session.specs.Parts.{ofKind, objectRecords, stepRecords, levelCount, objectCount, masksOf, key, keyOf, methodRecords, rootRecord}
 use Rattle.session.specs.Questions.{stepValid, scriptValid, methodsValid, scriptsValid}
-use Rattle.session.specs.Meaning.{levelOf, fieldOf, methodOf}
+use Rattle.session.specs.Meaning.{levelOf, fieldOf, methodOf, rootOf}
 use Rattle.session.specs.Emptied.{hides, stays, blanked, emptied}
 use Rattle.session.specs.declared.Value.the-variants.{Nil}
 use Rattle.session.proofs.Laws.Lists.{holds, fails, truth, every-each, every-select, select-all, select-none, select-passes}
@@ -236,6 +236,9 @@ module _ (s : List ℕ) (c : ℕ) where
 
   pub emptied-root : rootRecord (emptied c s) ≡ rootRecord s
   emptied-root = ap (λ l. getD l 0 []) emptied-roots
+
+  pub emptied-message : rootOf (emptied c s) ≡ rootOf s
+  emptied-message = ap (λ rec. record { object = objectOf rec; name = nameOf rec; parameter = parameterOf rec }) emptied-root
 
   -- the fields of an object that the level dominates, and of one that it does not
   pub emptied-field : (o k : ℕ) → dominates (masksOf s) c (levelOf s o) ≡ true → fieldOf (emptied c s) o k ≡ fieldOf s o k

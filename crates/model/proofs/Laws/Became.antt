@@ -1,0 +1,54 @@
+-- Each level after a scheduler step: the step's own, the one that gets its fork, another. Assumes nothing.
+use Prim.Native.Nat.{ℕ, _<_}
+use mathlib.Core.Path.{_≡_, refl, sym, ap}
+use mathlib.Core.Bool.{true}
+use native.Mathlib.Decide.{ℕ-discrete}
+use lib.ListN.{length}
+use Rattle.lattice.specs.Order.{strictly}
+use Rattle.session.specs.Program.{Program, seenBy}
+use Rattle.managers.proofs.Laws.Effects.{Sound}
+use Rattle.model.specs.Lists.{modify}
+use Rattle.model.specs.Fork.{Fork}
+use Rattle.model.specs.Level.{Level, arrived}
+use Rattle.model.specs.Step.{State, levelAt, viewOf, Arrival, none, at, moveAt, delivered, stepAt}
+use Rattle.model.proofs.Laws.Locality.{Above}
+use Rattle.model.proofs.Laws.Diamond.{seen-level}
+use Rattle.model.proofs.Laws.Moves.{move-above}
+use Rattle.model.proofs.Laws.Orderly.{level-own, level-target, level-other, Orderly}
+use Rattle.model.proofs.Laws.Keeps.{other-level}
+use Rattle.model.proofs.Laws.WriteStamps.{Marks, moved-marks}
+
+-- what level k is after a step at level l
+pub data Became (p : Program) (l : ℕ) (st : State) (k : ℕ) (v : Level) : Type 0 where
+  own : k ≡ l → v ≡ moveAt p l st .own → Became p l st k v
+  got : (c : Fork) → moveAt p l st .arrival ≡ at k c → strictly (p .dom) k l ≡ true → v ≡ arrived c (levelAt st k) → Became p l st k v
+  stayed : (k ≡ l → ⊥) → v ≡ levelAt st k → Became p l st k v
+
+module _ (p : Program) (so : Sound p) (st : State) (o : Orderly p st) (l : ℕ) (h : l < p .levels) where
+  pub became : (k : ℕ) → Became p l st k (levelAt (stepAt p l st) k)
+  unfolding stepAt
+  became k =
+      at-level (moveAt p l st .arrival) refl (move-above p l st so h (o .placed l h)) (ℕ-discrete l k)
+    where
+      at-level : (b : Arrival) → moveAt p l st .arrival ≡ b → Above p l b → Dec (l ≡ k) → Became p l st k (levelAt (delivered b (modify l (λ _. moveAt p l st .own) st)) k)
+      at-level none q a (yes e) = own (sym e) (rw (sym e) (level-own none l (moveAt p l st .own) st tt (rw (o .size) h)))
+      at-level (at u x) q a (yes e) =
+          own (sym e) (rw (sym e) (level-own (at u x) l (moveAt p l st .own) st (λ t. other-level p u l (a .1) (sym t)) (rw (o .size) h)))
+      at-level none q a (no n) = stayed (λ e. n (sym e)) (level-other none l k (moveAt p l st .own) st n tt)
+      at-level (at u x) q a (no n) = elim (ℕ-discrete u k) [
+        | yes e ↦
+            got x (rw (sym e) q) (rw (sym e) (a .1))
+            (rw (sym e) (level-target u x l (moveAt p l st .own) st (other-level p u l (a .1)) (rw (o .size) (a .0))))
+        | no g ↦ stayed (λ e. n (sym e)) (level-other (at u x) l k (moveAt p l st .own) st n g)
+      ]
+
+  -- what a step does to its own level's write stamp, versions, histories and forks
+  pub step-marks : Marks l (levelAt st l) (moveAt p l st .own) (moveAt p l st .arrival)
+  unfolding moveAt
+  step-marks =
+      let view = viewOf p l st in
+      let same : levelAt view l ≡ levelAt st l = seen-level p l l st h (so .lattice .order .itself l h) in
+      by (levelAt view l) (levelAt st l) same (moved-marks (seenBy l p) view l (levelAt view l) (levelAt view l .activity) refl)
+    where
+      by : (v w : Level) → v ≡ w → {z : Level} {b : Arrival} → Marks l v z b → Marks l w z b
+      by v w q f = rw (sym q) f
