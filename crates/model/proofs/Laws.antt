@@ -25,5 +25,9 @@ pub mod PlainRun
 pub mod WriteStamps
 pub mod Became
 pub mod Stamped
+pub mod Safe
+pub mod Reads
+pub mod Delay
+pub mod SafeCommute
 pub mod Isolation
 pub mod Bytes

@@ -11,7 +11,7 @@ use Rattle.model.proofs.Laws.Confluence.{Commuting}
 use Rattle.model.proofs.Laws.Each.{Each}
 use Rattle.model.proofs.Laws.Rank.{rank}
 use Rattle.model.proofs.Laws.Tree.{Entry, Related, children-apart}
-use Rattle.model.proofs.Laws.Locality.{Apart}
+use Rattle.model.proofs.Laws.Locality.{Above, Apart}
 use Rattle.model.proofs.Laws.Diamond.{MayStep, may-apart, may-stay, diamond}
 use Rattle.model.proofs.Laws.Moves.{move-above}
 use Rattle.model.proofs.Laws.Entries.{runningEntry}
@@ -52,6 +52,10 @@ module _ (p : Program) (so : Sound p) (st : State) (o : Orderly p st) (l k : ℕ
   moves-apart =
       apart _ _ (moveAt p l st .arrival) (moveAt p k st .arrival) (step-change p l st so hl (o .placed l hl)) (step-change p k st so hk (o .placed k hk))
 
+-- a step's fork goes strictly above
+pub orderly-above : (p : Program) → Sound p → (st : State) → Orderly p st → (l : ℕ) → l < p .levels → Above p l (moveAt p l st .arrival)
+orderly-above p so st o l h = move-above p l st so h (o .placed l h)
+
 -- scheduler steps that questions 12 to 14 allow commute
 pub steps-commute : (p : Program) → Sound p → Commuting State (stepAt p) (MayStep p) (Orderly p)
 steps-commute p so =
@@ -59,8 +63,8 @@ steps-commute p so =
     record {
       keeps = λ st l o m. step-keeps p l st so (m .present) o;
       stays = λ st l k n o m w.
-          may-stay p po st l k n m w (move-above p l st so (m .present) (o .placed l (m .present))) (move-above p k st so (w .present) (o .placed k (w .present)));
+          may-stay p po st l k (m .present) (w .present) (may-apart p po l k st n m w) (orderly-above p so st o k (w .present)) m;
       commute = λ st l k n o m w.
-          diamond p po st l k n m w (move-above p l st so (m .present) (o .placed l (m .present))) (move-above p k st so (w .present) (o .placed k (w .present)))
-          (moves-apart p so st o l k (m .present) (w .present) n);
+          diamond p po st l k n (m .present) (w .present) (may-apart p po l k st n m w) (may-apart p po k l st (λ q. n (sym q)) w m)
+          (orderly-above p so st o l (m .present)) (orderly-above p so st o k (w .present)) (moves-apart p so st o l k (m .present) (w .present) n);
     }

@@ -1,4 +1,5 @@
--- Two levels that may both step are incomparable: their steps commute, and each stays allowed after the other. Assumes nothing.
+-- Steps at two incomparable levels commute. Two levels that may both step are incomparable, and each stays allowed after the other.
+-- Assumes nothing.
 use Prim.Native.Nat.{ℕ, _<_}
 use mathlib.Core.Path.{_≡_, refl, sym, _∙_, ap}
 use mathlib.Core.Bool.{Bool, true, false, not, cond}
@@ -46,36 +47,35 @@ module _ (p : Program) (po : PartialOrder (p .levels) (p .dom)) where
       not-both (hasManager (levelAt st k)) (o .managed)
       (m .below k (o .present) (and-both (p .dom l k) (not (eqb l k)) d (rw (ne-eqb l k n) refl)))
 
-  misses : (l k : ℕ) (a : Arrival) → p .dom k l ≡ false → Above p l a → Misses k a
+  pub misses : (l k : ℕ) (a : Arrival) → p .dom k l ≡ false → Above p l a → Misses k a
   misses l k none e a = tt
   misses l k (at u x) e a = λ q. not-both (p .dom k l) (rw q at (and-left (p .dom u l) (not (eqb u l)) (a .1))) e
 
-  module _ (st : State) (l k : ℕ) (n : l ≡ k → ⊥) (ml : MayStep p st l) (mk : MayStep p st k) (al : Above p l (moveAt p l st .arrival)) (ak : Above p k (moveAt p k st .arrival)) where
-    -- a step at k leaves what l sees as it was
+  -- a step at a level k that l does not dominate leaves what l sees, and what it does, as it was
+  module _ (st : State) (l k : ℕ) (hl : l < p .levels) (hk : k < p .levels) (lk : p .dom l k ≡ false) (ak : Above p k (moveAt p k st .arrival)) where
     unseen : viewOf p l (stepAt p k st) ≡ viewOf p l st
     unfolding stepAt
-    unseen = view-applied p po l k (moveAt p k st) st (ml .present) (mk .present) (may-apart l k st n ml mk) ak
+    unseen = view-applied p po l k (moveAt p k st) st hl hk lk ak
 
-    pub may-stay : MayStep p (stepAt p k st) l
-    may-stay = may-local l st (stepAt p k st) (sym unseen) ml
+    pub may-stay : MayStep p st l → MayStep p (stepAt p k st) l
+    may-stay = may-local l st (stepAt p k st) (sym unseen)
 
     pub move-same : moveAt p l (stepAt p k st) ≡ moveAt p l st
     move-same = local p l (stepAt p k st) st unseen
 
-  -- Diamond: either order, the same state
-  pub diamond : (st : State) (l k : ℕ) → (l ≡ k → ⊥) → MayStep p st l → MayStep p st k → Above p l (moveAt p l st .arrival) → Above p k (moveAt p k st .arrival) → Apart (moveAt p l st .arrival) (moveAt p k st .arrival) → stepAt p l (stepAt p k st) ≡ stepAt p k (stepAt p l st)
-  diamond st l k n ml mk al ak d =
-      let n' : k ≡ l → ⊥ = λ q. n (sym q) in
+  pub step-is : (l : ℕ) (st : State) → stepAt p l st ≡ applied l (moveAt p l st) st
+  step-is l st = unfold stepAt in refl
+
+  -- Diamond: steps at two incomparable levels in either order, the same state
+  pub diamond : (st : State) (l k : ℕ) → (l ≡ k → ⊥) → l < p .levels → k < p .levels → p .dom l k ≡ false → p .dom k l ≡ false → Above p l (moveAt p l st .arrival) → Above p k (moveAt p k st .arrival) → Apart (moveAt p l st .arrival) (moveAt p k st .arrival) → stepAt p l (stepAt p k st) ≡ stepAt p k (stepAt p l st)
+  diamond st l k n hl hk lk kl al ak d =
       step-is l (stepAt p k st)
-      ∙ ap (λ m. applied l m (stepAt p k st)) (move-same st l k n ml mk al ak)
+      ∙ ap (λ m. applied l m (stepAt p k st)) (move-same st l k hl hk lk ak)
       ∙ ap (applied l (moveAt p l st)) (step-is k st)
-      ∙ applied-comm l k (moveAt p l st) (moveAt p k st) st n (misses l k (moveAt p l st .arrival) (may-apart k l st n' mk ml) al) (misses k l (moveAt p k st .arrival) (may-apart l k st n ml mk) ak) d
+      ∙ applied-comm l k (moveAt p l st) (moveAt p k st) st n (misses l k (moveAt p l st .arrival) kl al) (misses k l (moveAt p k st .arrival) lk ak) d
       ∙ sym (ap (applied k (moveAt p k st)) (step-is l st))
-      ∙ sym (ap (λ m. applied k m (stepAt p l st)) (move-same st k l n' mk ml ak al))
+      ∙ sym (ap (λ m. applied k m (stepAt p l st)) (move-same st k l hk hl kl al))
       ∙ sym (step-is k (stepAt p l st))
-    where
-      step-is : (l : ℕ) (st : State) → stepAt p l st ≡ applied l (moveAt p l st) st
-      step-is l st = unfold stepAt in refl
 
 -- questions 12 to 14, taken apart and put together
 all-yes : (a b c : Bool) → cond {A = ℕ} a (cond b (cond c 0 14) 13) 12 ≡ 0 → (a ≡ true) × ((b ≡ true) × (c ≡ true))

@@ -42,7 +42,7 @@ pub record Tame (v : Level) : Type 0 where
   pub room : startedCount v + length (v .waiting) ≤ maxManagers
   pub live : Live (v .activity)
 
-inserted-length : {A : Type 0} (key : A → ℕ) (x : A) (ys : List A) → length (inserted key x ys) ≡ length ys + 1
+pub inserted-length : {A : Type 0} (key : A → ℕ) (x : A) (ys : List A) → length (inserted key x ys) ≡ length ys + 1
 unfolding inserted
 inserted-length key x [] = refl
 inserted-length key x (y ∷ ys) = elim (truth (ltb (key x) (key y))) [

@@ -54,7 +54,7 @@ pub record Fertile (a : Entry) : Type 0 where
   pub room : a .next + span (a .depth + 1) ≤ upTo a
 
 module _ (n : ℕ) (dom : Dominance) (po : PartialOrder n dom) where
-  strictly-through : (i j k : ℕ) → i < n → j < n → k < n → strictly dom i j ≡ true → strictly dom j k ≡ true → strictly dom i k ≡ true
+  pub strictly-through : (i j k : ℕ) → i < n → j < n → k < n → strictly dom i j ≡ true → strictly dom j k ≡ true → strictly dom i k ≡ true
   strictly-through i j k hi hj hk a b =
       let ij = and-left (dom i j) (not (eqb i j)) a in
       let jk = and-left (dom j k) (not (eqb j k)) b in
