@@ -29,5 +29,7 @@ pub mod Safe
 pub mod Reads
 pub mod Delay
 pub mod SafeCommute
+pub mod Resting
+pub mod Working
 pub mod Isolation
 pub mod Bytes

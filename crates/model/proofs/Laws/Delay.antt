@@ -22,6 +22,7 @@ use Rattle.model.specs.Level.{Version, Activity, idle, busy, Level, newL
 use Rattle.model.specs.Step.{State, levelAt, viewOf, readAt, Arrival, none, at, Moved, versionsAfter, arrivalOf, begun, advanced, moved, moveAt, stepAt}
 use Rattle.model.proofs.Laws.Each.{Each}
 use Rattle.model.proofs.Laws.Diamond.{seen-level}
+use Rattle.model.proofs.Laws.Moves.{move-is}
 use Rattle.model.proofs.Laws.Keeps.{other-level}
 use Rattle.model.proofs.Laws.Measure.{Tame, inserted-length}
 use Rattle.model.proofs.Laws.WriteStamps.{writeStamp, forksBy, forksOf}
@@ -184,30 +185,24 @@ module _ (p : Program) (so : Sound p) (st : State) (i : Steady p st) (l k : ℕ)
   reads : readAt (seenBy l p) (viewOf p l st) l x ≡ readAt (seenBy l p) (viewOf p l next) l x
   reads = read-same (seenBy l p) (viewOf p l st) (viewOf p l next) l x (unfold seenBy in λ o. looks (p .level o) (so .placed o))
 
-  here : levelAt (viewOf p l st) l ≡ levelAt st l
-  here = seen-level p l l st (s .present) (so .lattice .order .itself l (s .present))
-
-  here-next : levelAt (viewOf p l next) l ≡ levelAt next l
-  here-next = seen-level p l l next (s .present) (so .lattice .order .itself l (s .present))
-
-  move-is : (st : State) (v : Level) → levelAt (viewOf p l st) l ≡ v → moveAt p l st ≡ moved (seenBy l p) (viewOf p l st) l v (v .activity)
-  unfolding moveAt
-  move-is st v q = ap (λ v. moved (seenBy l p) (viewOf p l st) l v (v .activity)) q
+  move-next : (v : Level) → levelAt next l ≡ v → moveAt p l next ≡ moved (seenBy l p) (viewOf p l next) l v (v .activity)
+  move-next v q =
+      move-is p l next so (s .present) ∙ ap (λ v. moved (seenBy l p) (viewOf p l next) l v (v .activity)) q
 
   -- it does the same where k sent nothing to l
   pub delayed : levelAt next l ≡ levelAt st l → moveAt p l next ≡ moveAt p l st
   delayed q =
-      move-is next (levelAt st l) (here-next ∙ q)
+      move-next (levelAt st l) q
       ∙ moved-reads (seenBy l p) l (viewOf p l st) (viewOf p l next) x (s .others) reads (levelAt st l) (levelAt st l .activity) (s .first)
-      ∙ sym (move-is st (levelAt st l) here)
+      ∙ sym (move-is p l st so (s .present))
 
   -- and the same beside a fork that k sent to l
   pub delayed-beside : (c : Fork) → levelAt next l ≡ arrived c (levelAt st l) → x .stamp < c .stamp → moveAt p l next ≡ beside c (moveAt p l st)
   delayed-beside c q h =
-      move-is next (arrived c (levelAt st l)) (here-next ∙ q)
+      move-next (arrived c (levelAt st l)) q
       ∙ ap (moved (seenBy l p) (viewOf p l next) l (arrived c (levelAt st l))) (same-activity c (levelAt st l))
       ∙ moved-beside (seenBy l p) l (viewOf p l st) (viewOf p l next) x (s .others) reads c (levelAt st l) (i .tame l) h (levelAt st l .activity) refl (s .first)
-      ∙ sym (ap (beside c) (move-is st (levelAt st l) here))
+      ∙ sym (ap (beside c) (move-is p l st so (s .present)))
     where
       same-activity : (c : Fork) (v : Level) → arrived c v .activity ≡ v .activity
       same-activity c v = unfold arrived in refl

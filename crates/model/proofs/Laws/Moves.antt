@@ -1,6 +1,6 @@
 -- Where a scheduler step sends its fork, and what it does to its own level. Assumes nothing.
 use Prim.Native.Nat.{ℕ, _<_}
-use mathlib.Core.Path.{_≡_, sym}
+use mathlib.Core.Path.{_≡_, sym, ap}
 use mathlib.Core.List.{List, [], _∷_}
 use Rattle.session.specs.Program.{Program, seenBy}
 use Rattle.managers.specs.Manager.{stepped}
@@ -54,3 +54,9 @@ move-above p l st so h q =
     above-seen : (b : Arrival) → Above (seenBy l p) l b → Above p l b
     above-seen none a = tt
     above-seen (at u x) a = unfold seenBy in a
+
+-- a step is made from what the level sees, with the level as it is
+pub move-is : (p : Program) (l : ℕ) (st : State) → Sound p → l < p .levels → moveAt p l st ≡ moved (seenBy l p) (viewOf p l st) l (levelAt st l) (levelAt st l .activity)
+unfolding moveAt
+move-is p l st so h =
+    ap (λ v. moved (seenBy l p) (viewOf p l st) l v (v .activity)) (seen-level p l l st h (so .lattice .order .itself l h))

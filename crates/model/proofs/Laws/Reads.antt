@@ -43,16 +43,26 @@ looks-same l j x v w q e =
       below = λ _ i o k. ap (newestTo (boundAt x j v) i o k) q;
     }
 
+-- a read at the manager's own level, and one below
+pub read-own : (p : Program) (st : State) (l : ℕ) (x : Fork) (o k : ℕ) → p .level o ≡ l → readAt p st l x o k ≡ newest (p .field o k) o k (levelAt st (p .level o) .versions)
+unfolding readAt
+read-own p st l x o k e = rw (eq-eqb (p .level o) l e) refl
+
+pub read-below : (p : Program) (st : State) (l : ℕ) (x : Fork) (o k : ℕ) → (p .level o ≡ l → ⊥) → readAt p st l x o k ≡ newestTo (boundAt x (p .level o) (levelAt st (p .level o))) (p .field o k) o k (levelAt st (p .level o) .versions)
+unfolding readAt
+read-below p st l x o k n = rw (ne-eqb (p .level o) l n) refl
+
 -- two states that look the same read the same
 pub read-same : (p : Program) (st st' : State) (l : ℕ) (x : Fork) → ((o : ℕ) → LooksSame l (p .level o) x (levelAt st (p .level o)) (levelAt st' (p .level o))) → readAt p st l x ≡ readAt p st' l x
-unfolding readAt
 read-same p st st' l x s = fun-ext λ o. fun-ext λ k. at o k (ℕ-discrete (p .level o) l)
   where
     at : (o k : ℕ) → Dec (p .level o ≡ l) → readAt p st l x o k ≡ readAt p st' l x o k
-    at o k (yes e) = unfold readAt in rw (eq-eqb (p .level o) l e) (ap (newest (p .field o k) o k) (s o .own e))
+    at o k (yes e) = read-own p st l x o k e ∙ ap (newest (p .field o k) o k) (s o .own e) ∙ sym (read-own p st' l x o k e)
     at o k (no n) =
-        unfold readAt in
-        rw (ne-eqb (p .level o) l n) (s o .below n (p .field o k) o k ∙ ap (λ b. newestTo b (p .field o k) o k (levelAt st' (p .level o) .versions)) (s o .bound n))
+        read-below p st l x o k n
+        ∙ s o .below n (p .field o k) o k
+        ∙ ap (λ b. newestTo b (p .field o k) o k (levelAt st' (p .level o) .versions)) (s o .bound n)
+        ∙ sym (read-below p st' l x o k n)
 
 -- a history that is not smaller is not looked at
 passed-over : (x : ℕ) (h : History) → x ≤ h .stamp → (hs : List History) → select (λ h. ltb (h .stamp) x) (inserted (λ h. h .stamp) h hs) ≡ select (λ h. ltb (h .stamp) x) hs
