@@ -31,5 +31,7 @@ pub mod Delay
 pub mod SafeCommute
 pub mod Resting
 pub mod Working
+pub mod Ready
+pub mod DeepStep
 pub mod Isolation
 pub mod Bytes

@@ -1,10 +1,12 @@
 -- Each level after a scheduler step: the step's own, the one that gets its fork, another. Assumes nothing.
 use Prim.Native.Nat.{ℕ, _<_}
-use mathlib.Core.Path.{_≡_, refl, sym, ap}
-use mathlib.Core.Bool.{true}
+use mathlib.Core.Path.{_≡_, refl, sym, _∙_, ap}
+use mathlib.Core.Bool.{Bool, true, false, not}
 use native.Mathlib.Decide.{ℕ-discrete}
+use lib.Dec.{eqb}
 use lib.ListN.{length}
 use Rattle.lattice.specs.Order.{strictly}
+use Rattle.lattice.proofs.Laws.Range.{and-left, not-both}
 use Rattle.session.specs.Program.{Program, seenBy}
 use Rattle.managers.proofs.Laws.Effects.{Sound}
 use Rattle.model.specs.Lists.{modify}
@@ -52,3 +54,50 @@ module _ (p : Program) (so : Sound p) (st : State) (o : Orderly p st) (l : ℕ) 
     where
       by : (v w : Level) → v ≡ w → {z : Level} {b : Arrival} → Marks l v z b → Marks l w z b
       by v w q f = rw (sym q) f
+
+-- the same, level by level
+module _ (p : Program) (so : Sound p) (st : State) (o : Orderly p st) (l : ℕ) (h : l < p .levels) where
+  pub level-stepped : levelAt (stepAt p l st) l ≡ moveAt p l st .own
+  level-stepped = by (became p so st o l h l)
+    where
+      by : Became p l st l (levelAt (stepAt p l st) l) → levelAt (stepAt p l st) l ≡ moveAt p l st .own
+      by (own e q) = q
+      by (got c e s q) = absurd (other-level p l l s refl)
+      by (stayed n q) = absurd (n refl)
+
+  pub level-quiet : moveAt p l st .arrival ≡ none → (j : ℕ) → (j ≡ l → ⊥) → levelAt (stepAt p l st) j ≡ levelAt st j
+  level-quiet e j n = by (became p so st o l h j)
+    where
+      isNone : Arrival → Bool
+      isNone none = true
+      isNone (at u x) = false
+
+      by : Became p l st j (levelAt (stepAt p l st) j) → levelAt (stepAt p l st) j ≡ levelAt st j
+      by (own q t) = absurd (n q)
+      by (got c q s t) = absurd (not-both (isNone (moveAt p l st .arrival)) (ap isNone e) (ap isNone q))
+      by (stayed m t) = t
+
+  pub level-reached : (u : ℕ) (c : Fork) → moveAt p l st .arrival ≡ at u c → levelAt (stepAt p l st) u ≡ arrived c (levelAt st u)
+  unfolding stepAt
+  level-reached u c q =
+      let a : (u < p .levels) × (strictly (p .dom) u l ≡ true) = above (moveAt p l st .arrival) q (move-above p l st so h (o .placed l h)) in
+      ap (λ b. levelAt (delivered b (modify l (λ _. moveAt p l st .own) st)) u) q
+      ∙ level-target u c l (moveAt p l st .own) st (other-level p u l (a .1)) (rw (o .size) (a .0))
+    where
+      above : (b : Arrival) → b ≡ at u c → Above p l b → (u < p .levels) × (strictly (p .dom) u l ≡ true)
+      above b e a = rw e at a
+
+  pub level-missed : (u : ℕ) (c : Fork) → moveAt p l st .arrival ≡ at u c → (j : ℕ) → (j ≡ l → ⊥) → (j ≡ u → ⊥) → levelAt (stepAt p l st) j ≡ levelAt st j
+  unfolding stepAt
+  level-missed u c q j n m =
+      ap (λ b. levelAt (delivered b (modify l (λ _. moveAt p l st .own) st)) j) q
+      ∙ level-other (at u c) l j (moveAt p l st .own) st (λ e. n (sym e)) (λ e. m (sym e))
+
+  -- a level that does not dominate the step's is as it was
+  pub level-unmoved : (j : ℕ) → p .dom j l ≡ false → levelAt (stepAt p l st) j ≡ levelAt st j
+  level-unmoved j d = by (became p so st o l h j)
+    where
+      by : Became p l st j (levelAt (stepAt p l st) j) → levelAt (stepAt p l st) j ≡ levelAt st j
+      by (own e q) = absurd (not-both (p .dom j l) (rw e (so .lattice .order .itself l h)) d)
+      by (got c e s q) = absurd (not-both (p .dom j l) (and-left (p .dom j l) (not (eqb j l)) s) d)
+      by (stayed n q) = q
