@@ -33,5 +33,7 @@ pub mod Resting
 pub mod Working
 pub mod Ready
 pub mod DeepStep
+pub mod DeepFork
+pub mod DeepRun
 pub mod Isolation
 pub mod Bytes

@@ -142,11 +142,11 @@ module _ (p : Program) (so : Sound p) (st : State) (g : Progress) (u : ℕ) (hu 
   leads-next = leads-one p so u hu st g (w .around .steady) (working-safe p so st g u hu c m (suc k) w r)
 
   -- the versions of the level, before and after
-  versions-before : levelAt st u .versions ≡ w .versions
+  pub versions-before : levelAt st u .versions ≡ w .versions
   versions-before =
       ap (λ v. v .versions) (w .is) ∙ after-versions (resting (tallyAt g u) (w .versions)) [] (w .versions) c m
 
-  versions-next : levelAt (stepAt p u st) u .versions ≡ versionsAfter m (after-it .effect) (w .versions)
+  pub versions-next : levelAt (stepAt p u st) u .versions ≡ versionsAfter m (after-it .effect) (w .versions)
   versions-next =
       ap (λ v. v .versions) (own-next p so st g u hu c m k w r)
       ∙ after-versions (resting (tallyAt g u) (w .versions)) [] (versionsAfter m (after-it .effect) (w .versions)) c (after-it .manager)

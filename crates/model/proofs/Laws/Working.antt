@@ -128,7 +128,7 @@ module _ (p : Program) (so : Sound p) (st : State) (g : Progress) (u : ℕ) (c :
 
 -- the step of a manager that runs does what the depth-first run does
 module _ (p : Program) (so : Sound p) (st : State) (g : Progress) (u : ℕ) (hu : u < p .levels) (c : Fork) (m : Manager) (k : ℕ) (w : Working p st g u c m k) (r : isRunning (m .ending) ≡ true) where
-  busy-is : levelAt st u ≡ working (tallyAt g u) (w .versions) c m
+  pub busy-is : levelAt st u ≡ working (tallyAt g u) (w .versions) c m
   busy-is = w .is ∙ running-is (tallyAt g u) (w .versions) c m r
 
   pub working-safe : Safe p st u
