@@ -35,5 +35,6 @@ pub mod Ready
 pub mod DeepStep
 pub mod DeepFork
 pub mod DeepRun
+pub mod Root
 pub mod Isolation
 pub mod Bytes
