@@ -38,3 +38,5 @@ pub mod DeepRun
 pub mod Root
 pub mod Isolation
 pub mod Bytes
+pub mod Shown
+pub mod Answers

@@ -11,3 +11,4 @@ pub mod Result
 pub mod Entries
 pub mod Reader
 pub mod Isolation
+pub mod Demands

@@ -1,0 +1,125 @@
+-- The client's demands of runs, proved. Assumes nothing.
+use Prim.Native.Nat.{ℕ, _≤_, _<_}
+use mathlib.Core.Path.{_≡_, refl, sym, _∙_, ap, ap₂}
+use mathlib.Core.Bool.{true}
+use mathlib.Core.List.{List}
+use Rattle.session.specs.Parts.{levelCount}
+use Rattle.session.specs.Questions.{verdictOf}
+use Rattle.session.specs.Meaning.{rootOf}
+use Rattle.session.specs.Program.{Program, programOf, seenBy}
+use Rattle.session.specs.Emptied.{emptied}
+use Rattle.session.specs.declared.Message.{Message}
+use Rattle.session.specs.declared.Verdict.the-variants.{Accepted}
+use Rattle.session.proofs.Laws.Numbering.{few-levels}
+use Rattle.session.proofs.Laws.Verdict.{accepted}
+use Rattle.session.proofs.Laws.Emptied.{emptied-message}
+use Rattle.session.proofs.Laws.Program.{emptied-program}
+use Rattle.model.specs.Step.{State}
+use Rattle.model.specs.Schedule.{plainOrder}
+use Rattle.model.specs.DepthFirst.{depthFirst}
+use Rattle.model.specs.Result.{resultOf, resultOfDepthFirst, bytesOf, ordersShown}
+use Rattle.model.specs.Entries.{Request, Answer, question10, entryRefusal, bytesFor, timetabled, plain, deep}
+use Rattle.model.specs.Reader.{Finished, bytesWritten, SameBytes, EqualToReader}
+use Rattle.model.specs.Demands.{OneEnd, PlainFinishes, Demand2, Demand2Plain, Isolation, TimetabledRun, DepthFirstRun, Demand3}
+use Rattle.model.proofs.Laws.Accepted.{sound, any-order}
+use Rattle.model.proofs.Laws.PlainRun.{accepted-plain}
+use Rattle.model.proofs.Laws.Root.{same-result}
+use Rattle.model.proofs.Laws.Isolation as laws
+use Rattle.model.proofs.Laws.Bytes.{same-sym, same-trans}
+use Rattle.model.proofs.Laws.Shown.{reader-sees}
+use Rattle.model.proofs.Laws.Answers.{Passes, passed, passes, FinishedRun, finished-run, run-finished, deep-finished, deep-passes, deep-bytes}
+
+pub one-end : OneEnd
+one-end s a ls ks t w = any-order s a ls ks t w
+
+pub plain-finishes : PlainFinishes
+unfolding plain
+plain-finishes q order e =
+    let (t, run) = accepted-plain (q .session) (passes (question10 q) q e .accepted) in
+    run-finished q order (plainOrder (programOf (q .session)) (rootOf (q .session))) e t run
+
+few-of : (s : List ℕ) → verdictOf s ≡ Accepted → programOf s .levels ≤ 8
+few-of s a = unfold programOf in few-levels s (accepted s a .three)
+
+-- where a timetabled run passes questions 1 to 11, so does the depth-first run
+deep-may : (q : Request) → Passes (question10 q) q → entryRefusal true q ≡ 0
+deep-may q p =
+    passed true q (record { accepted = p .accepted; level = p .level; work = refl; room = p .room })
+
+pub demand-2 : Demand2
+demand-2 q order ls f =
+    let r = finished-run q order ls f in
+    let a = r .passes .accepted in
+    let e = deep-may q (r .passes) in (
+      deep-finished q order e,
+      r .bytes
+          ∙ ap (bytesFor q order) (same-result (programOf (q .session)) (sound (q .session) a) (few-of (q .session) a) (rootOf (q .session)) ls (r .state) (r .ends))
+          ∙ sym (deep-bytes q order e),
+    )
+
+pub demand-2-plain : Demand2Plain
+unfolding plain
+demand-2-plain q order f = demand-2 q order (plainOrder (programOf (q .session)) (rootOf (q .session))) f
+
+pub isolation : Isolation
+isolation s a c h ls t e = laws.isolation s a c h ls t e
+
+-- the bytes of a depth-first run of a program
+abbrev deepBytes : Program → Message → ℕ → List ℕ → List ℕ
+deepBytes p root c order =
+    bytesOf p (p .level (root .object)) (resultOfDepthFirst p (depthFirst p root)) c order
+
+session-bytes : (q : Request) (order : List ℕ) → bytesFor q order (resultOfDepthFirst (programOf (q .session)) (depthFirst (programOf (q .session)) (rootOf (q .session)))) ≡ deepBytes (programOf (q .session)) (rootOf (q .session)) (q .clearance) order
+unfolding programOf
+session-bytes q order = refl
+
+run-bytes : (q : Request) (order : List ℕ) (t : State) → bytesFor q order (resultOf (programOf (q .session)) t) ≡ bytesOf (programOf (q .session)) (programOf (q .session) .level (rootOf (q .session) .object)) (resultOf (programOf (q .session)) t) (q .clearance) order
+unfolding programOf
+run-bytes q order t = refl
+
+seen-bytes : (c : ℕ) (p : Program) (root : Message) (order : List ℕ) → deepBytes (seenBy c p) root c order ≡ bytesOf (seenBy c p) (p .level (root .object)) (resultOfDepthFirst (seenBy c p) (depthFirst (seenBy c p) root)) c order
+unfolding seenBy
+seen-bytes c p root order = refl
+
+present : (s : List ℕ) (c : ℕ) → c < levelCount s → c < programOf s .levels
+present s c h = unfold programOf in h
+
+same-as : (a b a' b' : List ℕ) → a ≡ a' → b ≡ b' → SameBytes a' b' → SameBytes a b
+same-as a b a' b' q e s = rw (q, e) s
+
+-- a run, and the depth-first run of the emptied session
+run-and-deep : (q q' : Request) (order order' ls : List ℕ) → q' .session ≡ emptied (q .clearance) (q .session) → q' .clearance ≡ q .clearance → ordersShown (programOf (q .session)) (q .clearance) order ≡ true → ordersShown (programOf (q' .session)) (q' .clearance) order' ≡ true → Finished (timetabled q order ls) → Finished (deep q' order') → EqualToReader (timetabled q order ls) (deep q' order')
+run-and-deep q q' order order' ls of reader g g' f f' =
+    let r = finished-run q order ls f in
+    let a = r .passes .accepted in
+    let p = programOf (q .session) in
+    let c = q .clearance in
+    let program : programOf (q' .session) ≡ seenBy c p = ap programOf of ∙ emptied-program (q .session) c a in
+    let root : rootOf (q' .session) ≡ rootOf (q .session) = ap rootOf of ∙ emptied-message (q .session) c in
+    let deeper : bytesWritten (deep q' order') ≡ deepBytes (seenBy c p) (rootOf (q .session)) c order' =
+    deep-bytes q' order' (deep-passes q' order' f')
+    ∙ session-bytes q' order'
+    ∙ (λ i. deepBytes (program i) (root i) (reader i) order') in
+    let shown : ordersShown (seenBy c p) c order' ≡ true = rw (sym program, sym reader) g' in
+    let sees = reader-sees p (sound (q .session) a) (few-of (q .session) a) (rootOf (q .session)) c (present (q .session) c (r .passes .level)) ls (r .state) (r .ends) order order' g shown in
+    same-as (bytesWritten (timetabled q order ls)) (bytesWritten (deep q' order')) _ _ (r .bytes ∙ run-bytes q order (r .state)) (deeper ∙ seen-bytes c p (rootOf (q .session)) order') sees
+
+-- a finished run is equal to the reader to the depth-first run of the emptied session
+reader-same : (c : ℕ) (s : List ℕ) (a d : Answer) → TimetabledRun s c a → DepthFirstRun (emptied c s) c d → EqualToReader a d
+reader-same c s a d r x =
+    let q = r .request in
+    let of : x .request .session ≡ emptied (q .clearance) (q .session) = x .of ∙ (λ i. emptied (sym (r .reader) i) (sym (r .of) i)) in
+    same-as (bytesWritten a) (bytesWritten d) _ _ (ap bytesWritten (r .answer)) (ap bytesWritten (x .answer))
+    (run-and-deep q (x .request) (r .order) (x .order) (r .list) of (x .reader ∙ sym (r .reader)) (rw (r .of, r .reader) (r .groups)) (rw (x .of, x .reader) (x .groups)) (rw (sym (r .answer)) (r .finished)) (rw (sym (x .answer)) (x .finished)))
+
+pub demand-3 : Demand3
+demand-3 c s s' a a' d d' r r' x x' =
+    let left = reader-same c s a d r x in
+    let right = reader-same c s' a' d' r' x' in
+    let A = bytesWritten a in
+    let A' = bytesWritten a' in
+    let D = bytesWritten d in
+    let D' = bytesWritten d' in (
+      λ e. same-trans D A D' (same-sym A D left) (same-trans A A' D' e right),
+      λ e. same-trans A D A' left (same-trans D D' A' e (same-sym A' D' right)),
+    )

@@ -1,0 +1,88 @@
+-- What the client demands of runs, as statements. Their proofs are in proofs/Demands.antt. Assumes nothing.
+use Prim.Native.Nat.{ℕ, _<_}
+use mathlib.Core.Path.{_≡_}
+use mathlib.Core.Bool.{true}
+use mathlib.Core.List.{List}
+use Rattle.session.specs.Parts.{levelCount}
+use Rattle.session.specs.Questions.{verdictOf}
+use Rattle.session.specs.Meaning.{rootOf}
+use Rattle.session.specs.Program.{programOf}
+use Rattle.session.specs.Emptied.{emptied}
+use Rattle.session.specs.declared.Verdict.the-variants.{Accepted}
+use Rattle.model.specs.Step.{State}
+use Rattle.model.specs.Schedule.{readIn, finished, runOf}
+use Rattle.model.specs.Result.{ordersShown}
+use Rattle.model.specs.Entries.{Request, Answer, question10, entryRefusal, timetabled, plain, deep}
+use Rattle.model.specs.Reader.{Finished, bytesWritten, EqualToReader}
+use Rattle.model.specs.Isolation.{Isolated}
+
+-- "A session is accepted when every question Check uses says yes"
+abbrev pub IsAccepted : List ℕ → Type 0
+IsAccepted s = verdictOf s ≡ Accepted
+
+-- the list of scheduler steps ls of session s finishes in state t
+abbrev pub EndsIn : List ℕ → List ℕ → State → Type 0
+EndsIn s ls t = runOf (programOf s) (rootOf s) ls ≡ finished t
+
+-- Any two lists that finish end in the same state
+abbrev pub OneEnd : Type 0
+OneEnd = (s : List ℕ) → IsAccepted s → (ls ks : List ℕ) (t w : State) → EndsIn s ls t → EndsIn s ks w → t ≡ w
+
+-- The plain run is finished wherever questions 1 to 11 say yes
+abbrev pub PlainFinishes : Type 0
+PlainFinishes = (q : Request) (order : List ℕ) → entryRefusal (question10 q) q ≡ 0 → Finished (plain q order)
+
+-- Demand 2: "a finished run has the records of the depth-first run". Byte by byte, for any clearance, with the level groups in any order
+abbrev pub Demand2 : Type 0
+Demand2 =
+    (q : Request) (order ls : List ℕ)
+    → Finished (timetabled q order ls)
+    → Finished (deep q order) × (bytesWritten (timetabled q order ls) ≡ bytesWritten (deep q order))
+
+abbrev pub Demand2Plain : Type 0
+Demand2Plain =
+    (q : Request) (order : List ℕ)
+    → Finished (plain q order)
+    → Finished (deep q order) × (bytesWritten (plain q order) ≡ bytesWritten (deep q order))
+
+-- Strike from a list that finishes every level that c does not dominate: what is left runs in the session emptied for c, step by step, with
+-- the same states at the levels that c dominates
+abbrev pub Isolation : Type 0
+Isolation =
+    (s : List ℕ) → IsAccepted s
+    → (c : ℕ) → c < levelCount s
+    → (ls : List ℕ) (t : State) → EndsIn s ls t
+    → Isolated (programOf s) (programOf (emptied c s)) c ls (readIn (programOf s) (rootOf s)) (readIn (programOf (emptied c s)) (rootOf (emptied c s)))
+
+-- a is the answer of a finished timetabled run of session s for a reader cleared to level c, whatever its list, its buffers and its order of
+-- the level groups. A plain run is one
+pub record TimetabledRun (s : List ℕ) (c : ℕ) (a : Answer) : Type 0 where
+  pub request : Request
+  pub of : request .session ≡ s
+  pub reader : request .clearance ≡ c
+  pub order : List ℕ
+  pub groups : ordersShown (programOf s) c order ≡ true
+  pub list : List ℕ
+  pub answer : a ≡ timetabled request order list
+  pub finished : Finished a
+
+-- a is that of a finished depth-first run
+pub record DepthFirstRun (s : List ℕ) (c : ℕ) (a : Answer) : Type 0 where
+  pub request : Request
+  pub of : request .session ≡ s
+  pub reader : request .clearance ≡ c
+  pub order : List ℕ
+  pub groups : ordersShown (programOf s) c order ≡ true
+  pub answer : a ≡ deep request order
+  pub finished : Finished a
+
+-- Demand 3: any two accepted sessions, any two whole lists of scheduler steps that finish: "the two runs are equal to a reader exactly when
+-- the depth-first runs of the two sessions emptied for that reader are". A finished run's session is accepted and has the level c
+abbrev pub Demand3 : Type 0
+Demand3 =
+    (c : ℕ) (s s' : List ℕ) (a a' d d' : Answer)
+    → TimetabledRun s c a
+    → TimetabledRun s' c a'
+    → DepthFirstRun (emptied c s) c d
+    → DepthFirstRun (emptied c s') c d'
+    → (EqualToReader a a' → EqualToReader d d') × (EqualToReader d d' → EqualToReader a a')
