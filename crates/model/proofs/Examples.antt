@@ -73,6 +73,14 @@ abbrev stampsAfter : Outcome → List ℕ
 stampsAfter (finished st) = stampsOf (levelAt st 3 .ended)
 stampsAfter (refused number place) = []
 
+-- the write stamps at which the managers of a level ended, after a list of scheduler steps
+abbrev lastsOf : List History → List ℕ
+lastsOf = map (λ h. h .last)
+
+abbrev rootEnded : Outcome → List ℕ
+rootEnded (finished st) = lastsOf (levelAt st 0 .ended)
+rootEnded (refused number place) = []
+
 -- the 32 smallest: those of the 33 but the root's fifth child
 abbrev kept : List ℕ
 kept =
@@ -140,6 +148,9 @@ pub record Examples : Type 0 where
   fan-arrived : stampsAfter (runOf fan root lateFirst) ≡ kept
   fan-plain : stampsAfter (runOf fan root (plainOrder fan root)) ≡ kept
   fan-depth-first : stampsOf (tallyAt (depthFirst fan root) 3 .ended) ≡ kept
+  -- "others are dropped but still use their child number": the root makes five forks, and its write stamp grows by five
+  fan-grown : rootEnded (runOf fan root lateFirst) ≡ 6 ∷ []
+  fan-grown-depth-first : lastsOf (tallyAt (depthFirst fan root) 0 .ended) ≡ 6 ∷ []
   -- "the end stamp of the largest smaller fork stamp there"; "starts one above the last one's end stamp"
   chain-plain : fieldsAfter (runOf chain root (plainOrder chain root)) ≡ Number 8 ∷ Number 7 ∷ []
   chain-depth-first : firstFields (resultOfDepthFirst chain (depthFirst chain root)) ≡ Number 8 ∷ Number 7 ∷ []
@@ -170,6 +181,8 @@ examples =
       fan-arrived = refl;
       fan-plain = refl;
       fan-depth-first = refl;
+      fan-grown = refl;
+      fan-grown-depth-first = refl;
       chain-plain = refl;
       chain-depth-first = refl;
       clearance-absent = refl;

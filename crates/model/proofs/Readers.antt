@@ -1,0 +1,152 @@
+-- The demands are not empty: sessions that are equal to a reader, and sessions that are not. Assumes nothing.
+use Prim.Native.Nat.{ℕ}
+use mathlib.Core.Path.{_≡_, refl, sym, _∙_, ap}
+use mathlib.Core.Bool.{true}
+use mathlib.Core.List.{List, [], _∷_, _++_}
+use lib.ListN.{getD, set, replicate}
+use Rattle.lattice.specs.Range.{all, first}
+use Rattle.lattice.specs.Order.{reflexive, antisymmetric, transitive, isOrder}
+use Rattle.lattice.specs.Join.{isLeast, join, hasJoins}
+use Rattle.lattice.specs.Table.{dominates, namesPresent, isOrdered}
+use Rattle.session.specs.Lists.{every, select, risingFrom, countsFrom, tab, joined}
+use Rattle.session.specs.Record.{recordAt, recordsOf, wordOf, zeroAt, stepOf}
+use Rattle.session.specs.Parts.{ofKind, masksOf, methodRecords}
+use Rattle.session.specs.Questions.{question1, kindsRise, question2, question3, objectValid, question6, operandsFit, unusedBytes, stepValid, scriptValid, scriptsValid, rootValid, firstNo, verdictOf}
+use Rattle.session.specs.Meaning.{methodOf}
+use Rattle.session.specs.SessionW.{sessionW}
+use Rattle.session.specs.Program.{programOf, seenBy}
+use Rattle.filter.specs.Filter.{fateOf}
+use Rattle.managers.specs.Value.{sum, isNilOr0}
+use Rattle.managers.specs.Frame.{withRegister}
+use Rattle.managers.specs.Manager.{popped, settled, concluded, started, written, called, forked, sent, operated, stepped}
+use Rattle.model.specs.Lists.{inserted, modify, lastOr}
+use Rattle.model.specs.Fork.{childOf}
+use Rattle.model.specs.History.{endBefore}
+use Rattle.model.specs.Level.{arrived, after, newest, newestTo}
+use Rattle.model.specs.Step.{viewOf, readAt, advanced, begun, moved, delivered, moveAt, stepAt}
+use Rattle.model.specs.Schedule.{readIn, question14, question15, stepRefusal, runFrom, runOf, lowest, plainFrom, plainOrder}
+use Rattle.model.specs.DepthFirst.{current, close, effected, finish, runFork, depthFirst}
+use Rattle.model.specs.Result.{objectRecord, historyRecord, replyRecord, objectsShown, historiesShown, replyShown, bytesOf, ordersShown}
+use Rattle.model.specs.Entries.{entryRefusal, answerOf, timetabled, plain, deep}
+use Rattle.model.specs.Limits.{workNumbers, resultBytes}
+use Rattle.model.specs.Entries.{Request, Answer}
+use Rattle.model.specs.Reader.{bytesWritten, historiesAt, SameBytes, EqualToReader}
+use native.Mathlib.Omega.{arith}
+use Rattle.session.specs.Record.{byteOf}
+use Rattle.session.specs.Emptied.{emptied, blanked, stays}
+use Rattle.model.specs.Demands.{TimetabledRun, DepthFirstRun}
+
+-- session W and what is lent to its runs
+abbrev lent : List ℕ → ℕ → Request
+lent s c =
+    record { session = s; clearance = c; work = replicate workNumbers 0; buffer = replicate resultBytes 0 }
+
+-- session W, but object 1, at level 1, holds 42 in its third field
+abbrev above : List ℕ
+above = set (set sessionW 51 4) 60 42
+
+-- session W, but object 0, at level 0, sets 8 where it set 9
+abbrev below : List ℕ
+below = set sessionW 104 8
+
+-- runs of the three for a reader cleared to level 0, the depth-first run of W emptied for him, and runs of two for a reader cleared to
+-- level 1
+abbrev ranW : Answer
+ranW = timetabled (lent sessionW 0) (0 ∷ []) (replicate 6 0 ++ replicate 6 1)
+
+abbrev ranAbove : Answer
+ranAbove = plain (lent above 0) (0 ∷ [])
+
+abbrev ranBelow : Answer
+ranBelow = plain (lent below 0) (0 ∷ [])
+
+abbrev deepW : Answer
+deepW = deep (lent (emptied 0 sessionW) 0) (0 ∷ [])
+
+abbrev fullW : Answer
+fullW = plain (lent sessionW 1) (0 ∷ 1 ∷ [])
+
+abbrev fullAbove : Answer
+fullAbove = plain (lent above 1) (1 ∷ 0 ∷ [])
+
+-- the records that W's reader at level 0 is shown
+abbrev shown : List ℕ
+shown =
+    (0x05 ∷ 0x00 ∷ 0x00 ∷ 0x01 ∷ 0x09 ∷ replicate 11 0)
+    ++ (0x06 ∷ 0x00 ∷ 0x00 ∷ 0x01 ∷ 0x00 ∷ 0x00 ∷ 0x00 ∷ 0x00 ∷ 0x01 ∷ 0x00 ∷ 0x02 ∷ 0x00 ∷ 0x05 ∷ replicate 3 0)
+    ++ (0x07 ∷ 0x00 ∷ 0x00 ∷ 0x01 ∷ 0x09 ∷ replicate 11 0)
+
+-- a byte of the first kind 5 records
+abbrev objectByte : ℕ → ℕ → Answer → ℕ
+objectByte o k a = byteOf (getD (ofKind 5 (bytesWritten a)) o []) k
+
+pub record Readers : Type 0 where
+  -- two sessions that differ above level 0: equal to a reader cleared to 0, and not to one cleared to 1
+  equal-below : EqualToReader ranW ranAbove
+  unequal-above : EqualToReader fullW fullAbove → ⊥
+  -- two that differ below: not equal
+  unequal : EqualToReader ranW ranBelow → ⊥
+  -- what demand 3 asks of its runs can be had
+  run : TimetabledRun sessionW 0 ranW
+  depth-first : DepthFirstRun (emptied 0 sessionW) 0 deepW
+
+-- what of it is computed
+record Computed : Type 0 where
+  bytesW : bytesWritten ranW ≡ shown
+  bytesAbove : bytesWritten ranAbove ≡ shown
+  -- the first byte of object 0's first field, and of object 1's third
+  byteW : objectByte 0 4 ranW ≡ 9
+  byteBelow : objectByte 0 4 ranBelow ≡ 8
+  byteFull : objectByte 1 12 fullW ≡ 0
+  byteFullAbove : objectByte 1 12 fullAbove ≡ 42
+  run-finished : ranW .number ≡ 0
+  run-groups : ordersShown (programOf sessionW) 0 (0 ∷ []) ≡ true
+  deep-finished : deepW .number ≡ 0
+  deep-groups : ordersShown (programOf (emptied 0 sessionW)) 0 (0 ∷ []) ≡ true
+
+computed : Computed
+unfolding all first reflexive antisymmetric transitive isOrder isLeast join hasJoins dominates namesPresent isOrdered every select risingFrom countsFrom tab joined recordAt recordsOf wordOf zeroAt stepOf ofKind masksOf methodRecords question1 kindsRise question2 question3 objectValid question6 operandsFit unusedBytes stepValid scriptValid scriptsValid rootValid firstNo verdictOf methodOf sessionW programOf seenBy fateOf sum isNilOr0 withRegister popped settled concluded started written called forked sent operated stepped inserted modify lastOr childOf endBefore arrived after newest newestTo viewOf readAt advanced begun moved delivered moveAt stepAt readIn question14 question15 stepRefusal runFrom runOf lowest plainFrom plainOrder current close effected finish runFork depthFirst objectRecord historyRecord replyRecord objectsShown historiesShown replyShown bytesOf ordersShown entryRefusal answerOf timetabled plain deep emptied blanked stays
+computed =
+    record {
+      bytesW = refl;
+      bytesAbove = refl;
+      byteW = refl;
+      byteBelow = refl;
+      byteFull = refl;
+      byteFullAbove = refl;
+      run-finished = refl;
+      run-groups = refl;
+      deep-finished = refl;
+      deep-groups = refl;
+    }
+
+same-bytes : (a b : List ℕ) → a ≡ b → SameBytes a b
+same-bytes a b e =
+    record { objects = ap (ofKind 5) e; histories = λ l. ap (historiesAt l) e; reply = ap (ofKind 7) e }
+
+pub readers : Readers
+readers =
+    record {
+      equal-below = same-bytes (bytesWritten ranW) (bytesWritten ranAbove) (computed .bytesW ∙ sym (computed .bytesAbove));
+      unequal-above = λ e. omega (arith, computed .byteFull, computed .byteFullAbove, ap (λ rs. byteOf (getD rs 1 []) 12) (e .objects));
+      unequal = λ e. omega (arith, computed .byteW, computed .byteBelow, ap (λ rs. byteOf (getD rs 0 []) 4) (e .objects));
+      run = record {
+        request = lent sessionW 0;
+        of = refl;
+        reader = refl;
+        order = 0 ∷ [];
+        groups = computed .run-groups;
+        list = replicate 6 0 ++ replicate 6 1;
+        answer = refl;
+        finished = computed .run-finished;
+      };
+      depth-first = record {
+        request = lent (emptied 0 sessionW) 0;
+        of = refl;
+        reader = refl;
+        order = 0 ∷ [];
+        groups = computed .deep-groups;
+        answer = refl;
+        finished = computed .deep-finished;
+      };
+    }
