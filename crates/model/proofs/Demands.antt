@@ -1,6 +1,6 @@
 -- The client's demands of runs, proved. Assumes nothing.
 use Prim.Native.Nat.{ℕ, _≤_, _<_}
-use mathlib.Core.Path.{_≡_, refl, sym, _∙_, ap, ap₂}
+use mathlib.Core.Path.{_≡_, refl, sym, _∙_, ap}
 use mathlib.Core.Bool.{true}
 use mathlib.Core.List.{List}
 use Rattle.session.specs.Parts.{levelCount}
@@ -21,13 +21,13 @@ use Rattle.model.specs.Result.{resultOf, resultOfDepthFirst, bytesOf, or
 use Rattle.model.specs.Entries.{Request, Answer, question10, entryRefusal, bytesFor, timetabled, plain, deep}
 use Rattle.model.specs.Reader.{Finished, bytesWritten, SameBytes, EqualToReader}
 use Rattle.model.specs.Demands.{OneEnd, PlainFinishes, Demand2, Demand2Plain, Isolation, TimetabledRun, DepthFirstRun, Demand3}
-use Rattle.model.proofs.Laws.Accepted.{sound, any-order}
-use Rattle.model.proofs.Laws.PlainRun.{accepted-plain}
-use Rattle.model.proofs.Laws.Root.{same-result}
-use Rattle.model.proofs.Laws.Isolation as laws
-use Rattle.model.proofs.Laws.Bytes.{same-sym, same-trans}
-use Rattle.model.proofs.Laws.Shown.{reader-sees}
-use Rattle.model.proofs.Laws.Answers.{Passes, passed, passes, FinishedRun, finished-run, run-finished, deep-finished, deep-passes, deep-bytes}
+use Rattle.model.proofs.Laws.Order.Accepted.{sound, any-order}
+use Rattle.model.proofs.Laws.Order.PlainRun.{accepted-plain}
+use Rattle.model.proofs.Laws.Deep.Root.{same-result}
+use Rattle.model.proofs.Laws.Reader.Isolation as laws
+use Rattle.model.proofs.Laws.Reader.Bytes.{same-sym, same-trans}
+use Rattle.model.proofs.Laws.Reader.Shown.{reader-sees}
+use Rattle.model.proofs.Laws.Reader.Answers.{Passes, passed, passes, finished-run, run-finished, deep-finished, deep-passes, deep-bytes}
 
 pub one-end : OneEnd
 one-end s a ls ks t w = any-order s a ls ks t w

@@ -1,0 +1,216 @@
+-- A script step of a manager that runs depth-first, and the same step of its level: nothing, a write, a fork that is dropped.
+-- Assumes nothing.
+use Prim.Native.Nat.{ℕ, suc, _+_, _≤_, _<_}
+use mathlib.Core.Path.{_≡_, refl, sym, _∙_, ap}
+use mathlib.Core.Bool.{true, false, cond, _&&_}
+use mathlib.Core.List.{List, [], _∷_}
+use native.Mathlib.Decide.{ℕ-discrete}
+use native.Mathlib.Omega.{arith}
+use borrow.Author.Tests.{ne-eqb}
+use lib.Dec.{eqb}
+use lib.ListN.{length, getD}
+use Rattle.lattice.proofs.Laws.Range.{not-both}
+use Rattle.session.specs.Program.{Program}
+use Rattle.session.specs.declared.Value.{Value}
+use Rattle.managers.specs.Manager.{isRunning, stepped}
+use Rattle.managers.specs.declared.Manager.{Manager}
+use Rattle.managers.specs.declared.Effect.{Effect}
+use Rattle.managers.specs.declared.Effect.the-variants as effect
+use Rattle.managers.specs.declared.Stepped.{Stepped}
+use Rattle.managers.proofs.Laws.Counts.{Counts, counts, grown, oneMore, stepped-counts}
+use Rattle.managers.proofs.Laws.Effects.{Sound, Fits, stepped-fits}
+use Rattle.managers.proofs.Laws.Endings.{running-few}
+use Rattle.managers.proofs.Laws.Within.{stepped-within}
+use Rattle.model.specs.Fork.{Fork, childStamp}
+use Rattle.model.specs.Level.{Version, after, newest}
+use Rattle.model.specs.Step.{State, levelAt, none, at, versionsAfter, arrivalOf, moveAt, stepAt}
+use Rattle.model.specs.DepthFirst.{Written, Tally, Progress, newTally, tallyAt, current, fieldNow}
+use Rattle.model.proofs.Laws.Each.{Each, each-map}
+use Rattle.model.proofs.Laws.Invariant.Orderly.{Orderly}
+use Rattle.model.proofs.Laws.Invariant.Keeps.{other-level}
+use Rattle.model.proofs.Laws.Invariant.WriteStamps.{after-versions}
+use Rattle.model.proofs.Laws.Invariant.Became.{level-stepped, level-quiet}
+use Rattle.model.proofs.Laws.Invariant.Stamped.{Steady, steady-keeps}
+use Rattle.model.proofs.Laws.Safe.Safe.{safe-managed}
+use Rattle.model.proofs.Laws.Deep.Resting.{resting}
+use Rattle.model.proofs.Laws.Deep.Working.{endOf, FieldsAgree, Around, Working, working-safe, working-move}
+use Rattle.model.proofs.Laws.Deep.Ready.{Leads, leads-one, leads-both, leads-none, fields-kept, around-next}
+
+-- a write stamp does not fall in a step, and a step counts its fork
+stamp-grown : (c : Counts) (e : Effect) → c .stamp ≤ oneMore (grown c e) .stamp
+stamp-grown c effect.Nothing = omega arith
+stamp-grown c (effect.Write o k v) = omega arith
+stamp-grown c (effect.Fork u message) = omega arith
+
+steps-grown : (c : Counts) (e : Effect) → oneMore (grown c e) .steps ≡ c .steps + 1
+steps-grown c effect.Nothing = refl
+steps-grown c (effect.Write o k v) = refl
+steps-grown c (effect.Fork u message) = refl
+
+level-grown : (c : Counts) (e : Effect) → oneMore (grown c e) .level ≡ c .level
+level-grown c effect.Nothing = refl
+level-grown c (effect.Write o k v) = refl
+level-grown c (effect.Fork u message) = refl
+
+-- versions lie at or below the write stamp
+versions-written : (m : Manager) (e : Effect) (vs : List Version) (b : ℕ) → m .stamp ≤ b → Each (λ w. w .stamp ≤ m .stamp) vs → Each (λ w. w .stamp ≤ b) (versionsAfter m e vs)
+unfolding Each
+versions-written m effect.Nothing vs b h e = each-map (λ w. w .stamp ≤ m .stamp) (λ w. w .stamp ≤ b) (λ w g. omega (arith, g)) vs e
+versions-written m (effect.Write o k v) vs b h e =
+    (h, each-map (λ w. w .stamp ≤ m .stamp) (λ w. w .stamp ≤ b) (λ w g. omega (arith, g)) vs e)
+versions-written m (effect.Fork u message) vs b h e =
+    each-map (λ w. w .stamp ≤ m .stamp) (λ w. w .stamp ≤ b) (λ w g. omega (arith, g)) vs e
+
+-- a manager's level takes nothing else of what was there before
+after-resting : (t t' : Tally) (vs vs' : List Version) (c : Fork) (m : Manager) → t ≡ t' → after (resting t vs) [] vs' c m ≡ after (resting t' vs') [] vs' c m
+unfolding after
+after-resting t t' vs vs' c m q = ap (λ t. after (resting t vs') [] vs' c m) q
+
+module _ (p : Program) (so : Sound p) (st : State) (g : Progress) (u : ℕ) (hu : u < p .levels) (c : Fork) (m : Manager) (k : ℕ) (w : Working p st g u c m (suc k)) (r : isRunning (m .ending) ≡ true) where
+  abbrev pub made : Stepped
+  made = stepped p (fieldNow p g) m
+
+  abbrev orderly : Orderly p st
+  orderly = w .around .steady .orderly
+
+  told : counts (made .manager) ≡ oneMore (grown (counts m) (made .effect))
+  told = stepped-counts p (fieldNow p g) m
+
+  pub own-next : levelAt (stepAt p u st) u ≡ after (resting (tallyAt g u) (w .versions)) [] (versionsAfter m (made .effect) (w .versions)) c (made .manager)
+  own-next = level-stepped p so st orderly u hu ∙ ap (λ m. m .own) (working-move p so st g u hu c m (suc k) w r)
+
+  pub sends-next : moveAt p u st .arrival ≡ arrivalOf u c m (made .effect)
+  sends-next = ap (λ m. m .arrival) (working-move p so st g u hu c m (suc k) w r)
+
+  pub steady-next : Steady p (stepAt p u st)
+  steady-next = steady-keeps p so st (w .around .steady) u hu (safe-managed (working-safe p so st g u hu c m (suc k) w r))
+
+  -- the manager works on where its level is as this step left it, whatever its descendants did above
+  pub working-next : (st' : State) (g' : Progress) → levelAt st' u ≡ levelAt (stepAt p u st) u → tallyAt g' u ≡ tallyAt g u → childStamp (c .stamp) (c .depth) (made .manager .forks + 1) ≤ endOf c → Around p st' g' u c (childStamp (c .stamp) (c .depth) (made .manager .forks + 1)) → Working p st' g' u c (made .manager) k
+  working-next st' g' q t room a =
+      let grows : m .stamp ≤ made .manager .stamp = rw (ap (λ c. c .stamp) told) (stamp-grown (counts m) (made .effect)) in
+      let steps : made .manager .steps ≡ m .steps + 1 = ap (λ c. c .steps) told ∙ steps-grown (counts m) (made .effect) in
+      record {
+        versions = versionsAfter m (made .effect) (w .versions);
+        is = q ∙ own-next ∙ after-resting (tallyAt g u) (tallyAt g' u) (w .versions) (versionsAfter m (made .effect) (w .versions)) c (made .manager) (sym t);
+        written = versions-written m (made .effect) (w .versions) (made .manager .stamp) grows (w .written);
+        early = rw (ap (λ t. t .ended) t) (w .early);
+        positive = omega (arith, grows, w .positive);
+        level = ap (λ c. c .level) told ∙ level-grown (counts m) (made .effect) ∙ w .level;
+        within = stepped-within p (fieldNow p g) u m so hu (w .level) r (w .within);
+        steps = omega (arith, steps, w .steps);
+        live = running-few p (fieldNow p g) m;
+        room = room;
+        around = a;
+      }
+
+-- safe steps to a state in which the manager of fork c is m, and may make k script steps more
+pub record Advances (p : Program) (st : State) (g g' : Progress) (u : ℕ) (c : Fork) (m : Manager) (k : ℕ) : Type 0 where
+  pub to : State
+  pub leads : Leads p u st g to g'
+  pub working : Working p to g' u c m k
+
+-- the fields after a write, in both runs
+abbrev pub wrote : ℕ → ℕ → Value → Progress → Progress
+wrote o k v g =
+    record { written = record { object = o; field = k; value = v } ∷ g .written; levels = g .levels }
+
+newest-wrote : (i j : Value) (o k s o' k' : ℕ) (v : Value) (vs : List Version) (ws : List Written) → newest i o' k' vs ≡ current j o' k' ws → newest i o' k' (record { stamp = s; object = o; field = k; value = v } ∷ vs) ≡ current j o' k' (record { object = o; field = k; value = v } ∷ ws)
+unfolding newest current
+newest-wrote i j o k s o' k' v vs ws e = ap (cond (eqb o o' && eqb k k') v) e
+
+current-other : (i : Value) (o k o' k' : ℕ) (v : Value) (ws : List Written) → (o ≡ o' → ⊥) → current i o' k' (record { object = o; field = k; value = v } ∷ ws) ≡ current i o' k' ws
+unfolding current
+current-other i o k o' k' v ws n = rw (ne-eqb o o' n) refl
+
+module _ (p : Program) (so : Sound p) (st : State) (g : Progress) (u : ℕ) (hu : u < p .levels) (c : Fork) (m : Manager) (k : ℕ) (w : Working p st g u c m (suc k)) (r : isRunning (m .ending) ≡ true) where
+  abbrev pub after-it : Stepped
+  after-it = stepped p (fieldNow p g) m
+
+  abbrev here : Orderly p st
+  here = w .around .steady .orderly
+
+  not-same : (j : ℕ) → p .dom u j ≡ false → j ≡ u → ⊥
+  not-same j d e = not-both (p .dom u j) (rw e (so .lattice .order .itself u hu)) d
+
+  pub leads-next : Leads p u st g (stepAt p u st) g
+  leads-next = leads-one p so u hu st g (w .around .steady) (working-safe p so st g u hu c m (suc k) w r)
+
+  -- the versions of the level, before and after
+  pub versions-before : levelAt st u .versions ≡ w .versions
+  versions-before =
+      ap (λ v. v .versions) (w .is) ∙ after-versions (resting (tallyAt g u) (w .versions)) [] (w .versions) c m
+
+  pub versions-next : levelAt (stepAt p u st) u .versions ≡ versionsAfter m (after-it .effect) (w .versions)
+  versions-next =
+      ap (λ v. v .versions) (own-next p so st g u hu c m k w r)
+      ∙ after-versions (resting (tallyAt g u) (w .versions)) [] (versionsAfter m (after-it .effect) (w .versions)) c (after-it .manager)
+
+  -- a step without a fork leaves the other levels
+  quiet-advances : moveAt p u st .arrival ≡ none → (g' : Progress) → g' .levels ≡ g .levels → FieldsAgree p (stepAt p u st) g' → after-it .manager .forks ≡ m .forks → Advances p st g g' u c (after-it .manager) k
+  quiet-advances q g' t f e =
+      record {
+        to = stepAt p u st;
+        leads = leads-both p u st (stepAt p u st) (stepAt p u st) g g g' leads-next (leads-none p u (stepAt p u st) g g' (λ j h d. tally j));
+        working = working-next p so st g u hu c m k w r (stepAt p u st) g' refl (tally u) (rw e (w .room))
+            (rw e (around-next p st (stepAt p u st) g g' u c _ _ (w .around)
+            (λ j h s. other j (λ q. other-level p u j s q))
+            (λ j h d. rw (other j (not-same j d), tally j) (w .around .rests j h d))
+            f (ap length t ∙ w .around .counted) (steady-next p so st g u hu c m k w r)));
+      }
+    where
+      tally : (j : ℕ) → tallyAt g' j ≡ tallyAt g j
+      tally j = ap (λ ts. getD ts j newTally) t
+
+      other : (j : ℕ) → (j ≡ u → ⊥) → levelAt (stepAt p u st) j ≡ levelAt st j
+      other j n = level-quiet p so st here u hu q j n
+
+  fits : Fits p m (after-it .effect)
+  fits = stepped-fits p (fieldNow p g) m so (rw (w .level) hu)
+
+  told-it : counts (after-it .manager) ≡ oneMore (grown (counts m) (after-it .effect))
+  told-it = stepped-counts p (fieldNow p g) m
+
+  -- a step that does nothing outside
+  pub nothing-advances : after-it .effect ≡ effect.Nothing → Advances p st g g u c (after-it .manager) k
+  nothing-advances e =
+      quiet-advances (sends-next p so st g u hu c m k w r ∙ ap (arrivalOf u c m) e) g refl
+      (fields-kept p st (stepAt p u st) g versions (w .around .fields))
+      (ap (λ c. c .forks) told-it ∙ ap (λ e. oneMore (grown (counts m) e) .forks) e)
+    where
+      versions : (j : ℕ) → levelAt (stepAt p u st) j .versions ≡ levelAt st j .versions
+      versions j = elim (ℕ-discrete j u) [
+        | yes q ↦ rw q (versions-next ∙ ap (λ e. versionsAfter m e (w .versions)) e ∙ sym versions-before)
+        | no n ↦ ap (λ v. v .versions) (level-quiet p so st here u hu (sends-next p so st g u hu c m k w r ∙ ap (arrivalOf u c m) e) j n)
+      ]
+
+  -- a write
+  pub write-advances : (o f : ℕ) (v : Value) → after-it .effect ≡ effect.Write o f v → Advances p st g (wrote o f v g) u c (after-it .manager) k
+  write-advances o f v e =
+      quiet-advances (sends-next p so st g u hu c m k w r ∙ ap (arrivalOf u c m) e) (wrote o f v g) refl fields
+      (ap (λ c. c .forks) told-it ∙ ap (λ e. oneMore (grown (counts m) e) .forks) e)
+    where
+      place : p .level o ≡ u
+      place = fitted (after-it .effect) e fits .0 ∙ w .level
+        where
+          fitted : (e : Effect) → e ≡ effect.Write o f v → Fits p m e → Fits p m (effect.Write o f v)
+          fitted e q t = rw q at t
+
+      written-at : levelAt (stepAt p u st) u .versions ≡ record { stamp = m .stamp; object = o; field = f; value = v } ∷ w .versions
+      written-at = versions-next ∙ ap (λ e. versionsAfter m e (w .versions)) e
+
+      fields : FieldsAgree p (stepAt p u st) (wrote o f v g)
+      fields o' k' = elim (ℕ-discrete (p .level o') u) [
+        | yes q ↦
+            ap (λ j. newest (p .field o' k') o' k' (levelAt (stepAt p u st) j .versions)) q
+            ∙ ap (newest (p .field o' k') o' k') written-at
+            ∙ newest-wrote (p .field o' k') (p .field o' k') o f (m .stamp) o' k' v (w .versions) (g .written) (
+            ap (newest (p .field o' k') o' k') (sym versions-before)
+            ∙ ap (λ j. newest (p .field o' k') o' k' (levelAt st j .versions)) (sym q)
+            ∙ w .around .fields o' k'
+            )
+        | no n ↦
+            ap (λ l. newest (p .field o' k') o' k' (l .versions)) (level-quiet p so st here u hu (sends-next p so st g u hu c m k w r ∙ ap (arrivalOf u c m) e) (p .level o') n)
+            ∙ w .around .fields o' k'
+            ∙ sym (current-other (p .field o' k') o f o' k' v (g .written) (λ q. n (ap (p .level) (sym q) ∙ place)))
+      ]

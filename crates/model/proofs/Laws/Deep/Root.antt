@@ -1,0 +1,183 @@
+-- The depth-first run of the root message is a list of safe steps that ends with all managers ended: so every list of scheduler steps
+-- that finishes leaves what the depth-first run leaves. Assumes nothing.
+use Prim.Native.Nat.{ℕ, zero, suc, _≤_, _<_}
+use mathlib.Core.Path.{_≡_, refl, sym, _∙_, ap}
+use mathlib.Core.Bool.{true, false}
+use mathlib.Core.List.{List, [], _∷_}
+use native.Mathlib.Decide.{ℕ-discrete, decLt}
+use native.Mathlib.Omega.{arith}
+use borrow.Author.Tests.{not-true}
+use lib.ListN.{getD, replicate, length-replicate, List·getD-eq-default}
+use Rattle.lattice.proofs.Laws.Range.{not-both, all-each, all-every}
+use Rattle.session.specs.Program.{Program}
+use Rattle.session.specs.declared.Message.{Message}
+use Rattle.session.proofs.Laws.Lists.{Truth, holds, fails, truth}
+use Rattle.managers.proofs.Laws.Effects.{Sound}
+use Rattle.model.specs.Lists.{inserted, lastOr}
+use Rattle.model.specs.Fork.{Fork, rootFork}
+use Rattle.model.specs.Level.{Level, newLevel, hasManager, arrived, newest}
+use Rattle.model.specs.Step.{State, levelAt, stepAt}
+use Rattle.model.specs.Schedule.{readIn, question15, finished, runOf}
+use Rattle.model.specs.DepthFirst.{Tally, Progress, newTally, tallyAt, current, depthFirst}
+use Rattle.model.specs.Result.{resultOf, resultOfDepthFirst}
+use Rattle.model.proofs.Laws.Confluence.{ran, Allowed, Over, confluent}
+use Rattle.model.proofs.Laws.Each.{Each}
+use Rattle.model.proofs.Laws.Invariant.Rank.{count-most}
+use Rattle.model.proofs.Laws.Invariant.Keeps.{other-level}
+use Rattle.model.proofs.Laws.Steps.Diamond.{MayStep}
+use Rattle.model.proofs.Laws.Order.Finish.{Finishes, finishes}
+use Rattle.model.proofs.Laws.Order.ReadIn.{at-root, elsewhere, read-in}
+use Rattle.model.proofs.Laws.Order.PlainRun.{read-in-tame}
+use Rattle.model.proofs.Laws.Invariant.WriteStamps.{writeStamp, forksOf}
+use Rattle.model.proofs.Laws.Invariant.Stamped.{Stamped, Steady}
+use Rattle.model.proofs.Laws.Safe.Safe.{Safe, safe-managed, may-safe}
+use Rattle.model.proofs.Laws.Safe.SafeCommute.{safe-commute}
+use Rattle.model.proofs.Laws.Deep.Resting.{awaiting, Past, Rests, rests-below}
+use Rattle.model.proofs.Laws.Deep.Working.{endOf, FieldsAgree}
+use Rattle.model.proofs.Laws.Deep.Ready.{Ready}
+use Rattle.model.proofs.Laws.Deep.DeepRun.{Runs, runs-forks}
+
+-- the same at every place, and beyond
+repeated : {A : Type 0} (n : ℕ) (a : A) (j : ℕ) → getD (replicate n a) j a ≡ a
+repeated zero a j = refl
+repeated (suc n) a zero = refl
+repeated (suc n) a (suc j) = repeated n a j
+
+root-waits : (x : Fork) → arrived x newLevel ≡ awaiting x newTally []
+unfolding arrived inserted
+root-waits x = refl
+
+module _ (p : Program) (so : Sound p) (few : p .levels ≤ 8) (root : Message) where
+  abbrev r : ℕ
+  r = p .level (root .object)
+
+  abbrev x : Fork
+  x = rootFork (p .levels) root
+
+  abbrev start : Progress
+  start = record { written = []; levels = replicate (p .levels) newTally }
+
+  no-tally : (j : ℕ) → tallyAt start j ≡ newTally
+  no-tally j = repeated (p .levels) newTally j
+
+  root-is : levelAt (readIn p root) r ≡ awaiting x newTally []
+  root-is = at-root p so few root ∙ root-waits x
+
+  other-is : (j : ℕ) → (r ≡ j → ⊥) → levelAt (readIn p root) j ≡ newLevel
+  other-is = elsewhere p so few root
+
+  -- nothing has happened
+  none-past : (lo : ℕ) → Past lo newTally []
+  none-past lo = record { early = unfold Each in tt; last = unfold lastOr in refl; written = unfold Each in tt }
+
+  -- what holds of a level where the root waits and of a new one holds of each
+  each-level : (P : Level → Type 0) → P (awaiting x newTally []) → P newLevel → (j : ℕ) → P (levelAt (readIn p root) j)
+  each-level P a b j = elim (ℕ-discrete r j) [
+    | yes e ↦ rw (sym e, root-is) a
+    | no n ↦ rw (other-is j n) b
+  ]
+
+  root-stamped : Stamped p (readIn p root)
+  root-stamped =
+      record {
+        ended = λ l h. each-level (λ v. Each (λ h. h .last < writeStamp v) (v .ended)) (unfold Each in tt) (unfold Each in tt) l;
+        carried = λ l j hl hj.
+            each-level (λ w. Each (λ y. getD (y .seen) j 0 < writeStamp w) (forksOf (levelAt (readIn p root) l))) (low l j) (low l j) j;
+      }
+    where
+      low : (l j : ℕ) → Each (λ y. getD (y .seen) j 0 < 1) (forksOf (levelAt (readIn p root) l))
+      low l j =
+          each-level (λ v. Each (λ y. getD (y .seen) j 0 < 1) (forksOf v)) (unfold Each in (rw (repeated {A = ℕ} (p .levels) 0 j) (omega arith), tt)) (unfold Each in tt) l
+
+  root-steady : Steady p (readIn p root)
+  root-steady = record { orderly = read-in p so few root; tame = read-in-tame p so few root; stamped = root-stamped }
+
+  root-fields : FieldsAgree p (readIn p root) start
+  unfolding newest current
+  root-fields o k = ap (newest (p .field o k) o k) (each-level (λ v. v .versions ≡ []) refl refl (p .level o))
+
+  root-rests : (j : ℕ) → (r ≡ j → ⊥) → Rests 0 (tallyAt start j) (levelAt (readIn p root) j)
+  root-rests j n = rw (no-tally j, other-is j n) (record { versions = []; is = refl; past = none-past 0 })
+
+  root-ready : Ready p (readIn p root) start r x
+  root-ready =
+      record {
+        versions = [];
+        is = rw (no-tally r) root-is;
+        past = rw (no-tally r) (none-past 0);
+        reaches = so .lattice .order .itself r (so .placed (root .object));
+        around = record {
+          below = λ j h s. rests-below (getD (x .seen) j 0) 0 (endOf x) j (tallyAt start j) (levelAt (readIn p root) j) (repeated {A = ℕ} (p .levels) 0 j) (root-rests j (λ q. other-level p r j s (sym q)));
+          rests = λ j h d. root-rests j (λ q. not-both (p .dom r j) (rw (sym q) (so .lattice .order .itself r (so .placed (root .object)))) d);
+          carries = λ j h d. repeated {A = ℕ} (p .levels) 0 j;
+          fields = root-fields;
+          width = length-replicate (p .levels) 0;
+          counted = length-replicate (p .levels) newTally;
+          steady = root-steady;
+        };
+      }
+
+  -- the list of safe steps of the depth-first run
+  pub deep-run : Runs p r x (readIn p root) start (depthFirst p root)
+  unfolding depthFirst
+  deep-run =
+      runs-forks p so (p .levels) r (so .placed (root .object)) (count-most (p .levels) (λ k. p .dom k r)) x (readIn p root) start root-ready
+
+  -- a level where nothing is left to do
+  rests-done : (v : Level) (lo : ℕ) (t : Tally) → Rests lo t v → hasManager v ≡ false
+  rests-done v lo t q = rw (q .is) refl
+
+  not-root : (j : ℕ) → p .dom j r ≡ false → r ≡ j → ⊥
+  not-root j d q = not-both (p .dom j r) (rw (sym q) (so .lattice .order .itself r (so .placed (root .object)))) d
+
+  untouched : (j : ℕ) → j < p .levels → p .dom j r ≡ false → levelAt (deep-run .to) j ≡ newLevel
+  untouched j h d = deep-run .leads .states j h d ∙ other-is j (not-root j d)
+
+  deep-over : question15 p (deep-run .to) ≡ true
+  unfolding question15
+  deep-over =
+      all-every (p .levels) _ λ j h. elim (truth (p .dom j r)) [
+        | holds d ↦ rw (rests-done (levelAt (deep-run .to) j) (endOf x) _ (deep-run .done .rests j h d)) refl
+        | fails d ↦ rw (ap hasManager (untouched j h d)) refl
+      ]
+
+  -- where all managers have ended no step is safe
+  none-safe : (st : State) → question15 p st ≡ true → Over (Safe p) st
+  unfolding question15
+  none-safe st e l s =
+      not-both (hasManager (levelAt st l)) (safe-managed s) (not-true (hasManager (levelAt st l)) (all-each (p .levels) _ e l (s .present)))
+
+  allowed-safe : (ls : List ℕ) (st : State) → Allowed (stepAt p) (MayStep p) ls st → Allowed (stepAt p) (Safe p) ls st
+  unfolding Allowed
+  allowed-safe [] st a = tt
+  allowed-safe (l ∷ ls) st a = (may-safe p st l (a .0), allowed-safe ls (stepAt p l st) (a .1))
+
+  -- every list of scheduler steps that finishes ends in the state of the depth-first run's
+  pub deep-end : (ls : List ℕ) (t : State) → Finishes p ls (readIn p root) t → t ≡ deep-run .to
+  deep-end ls t f =
+      sym (f .ends)
+      ∙ confluent State (stepAt p) (Safe p) (Steady p) (safe-commute p so) ls (deep-run .leads .list) (readIn p root) root-steady
+      (allowed-safe ls (readIn p root) (f .allowed)) (none-safe (ran (stepAt p) ls (readIn p root)) (rw (f .ends) (f .over)))
+      (deep-run .leads .allowed) (none-safe (ran (stepAt p) (deep-run .leads .list) (readIn p root)) (rw (deep-run .leads .ends) deep-over))
+      ∙ deep-run .leads .ends
+
+  -- the histories of a level, in both runs
+  deep-ended : (j : ℕ) → levelAt (deep-run .to) j .ended ≡ tallyAt (depthFirst p root) j .ended
+  deep-ended j = elim (decLt j (p .levels)) [
+    | no n ↦
+        ap (λ v. v .ended) (List·getD-eq-default (deep-run .to) newLevel (omega (arith, n, deep-run .done .steady .orderly .size)))
+        ∙ sym (ap (λ t. t .ended) (List·getD-eq-default (depthFirst p root .levels) newTally (omega (arith, n, deep-run .done .counted))))
+    | yes h ↦ within h (truth (p .dom j r))
+  ]
+    where
+      within : j < p .levels → Truth (p .dom j r) → levelAt (deep-run .to) j .ended ≡ tallyAt (depthFirst p root) j .ended
+      within h (holds d) = ap (λ v. v .ended) (deep-run .done .rests j h d .is)
+      within h (fails d) =
+          ap (λ v. v .ended) (untouched j h d) ∙ sym (ap (λ t. t .ended) (deep-run .leads .tallies j h d ∙ no-tally j))
+
+  -- a list of scheduler steps that finishes leaves the records of the depth-first run
+  pub same-result : (ls : List ℕ) (t : State) → runOf p root ls ≡ finished t → resultOf p t ≡ resultOfDepthFirst p (depthFirst p root)
+  unfolding runOf
+  same-result ls t e =
+      ap (resultOf p) (deep-end ls t (finishes 0 p ls (readIn p root) t e))
+      ∙ λ i. record { field = λ o k. deep-run .done .fields o k i; ended = λ j. deep-ended j i }

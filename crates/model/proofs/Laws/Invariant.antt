@@ -1,0 +1,14 @@
+-- What every state that a run reaches has: fork stamps form a forest, levels keep their limits, write stamps never fall.
+pub mod Stamps
+pub mod Rank
+pub mod Tree
+pub mod Forest
+pub mod Entries
+pub mod Change
+pub mod Orderly
+pub mod Keeps
+pub mod Measure
+pub mod Tame
+pub mod WriteStamps
+pub mod Became
+pub mod Stamped

@@ -1,0 +1,179 @@
+-- Every scheduler step keeps the invariant, and the session as read in has it. Assumes nothing.
+use Prim.Native.Nat.{ℕ, _+_, _≤_, _<_}
+use mathlib.Core.Path.{_≡_, refl, sym, _∙_, ap}
+use mathlib.Core.Bool.{true, not, cond}
+use mathlib.Core.List.{List, [], _∷_}
+use native.Mathlib.Decide.{ℕ-discrete}
+use native.Mathlib.Omega.{arith}
+use borrow.Author.Tests.{eq-eqb, ne-eqb, eqb-false, not-true}
+use lib.Dec.{eqb}
+use lib.ListN.{length}
+use Rattle.lattice.specs.Order.{strictly}
+use Rattle.lattice.proofs.Laws.Range.{and-right}
+use Rattle.session.specs.Program.{Program, seenBy}
+use Rattle.session.proofs.Laws.Lists.{holds, fails, truth}
+use Rattle.managers.specs.Manager.{isRunning, started, stepped}
+use Rattle.managers.specs.declared.Manager.{Manager}
+use Rattle.managers.specs.declared.Effect.{Effect}
+use Rattle.managers.specs.declared.Effect.the-variants as effect
+use Rattle.managers.proofs.Laws.Counts.{Counts, counts, grown, oneMore, started-counts, stepped-counts}
+use Rattle.managers.proofs.Laws.Effects.{Sound}
+use Rattle.model.specs.Lists.{modify}
+use Rattle.model.specs.Fork.{Fork, childOf}
+use Rattle.model.specs.Level.{Version, Activity, idle, busy, Level, arrived, after}
+use Rattle.model.specs.Step.{State, levelAt, viewOf, readAt, Arrival, none, at, Moved, begun, advanced, moved, moveAt, applied, delivered, stepAt}
+use Rattle.model.proofs.Laws.Steps.Moves.{AtLevel}
+use Rattle.model.proofs.Laws.Steps.Diamond.{seen-level}
+use Rattle.model.proofs.Laws.Lists.{modify-length}
+use Rattle.model.proofs.Laws.Each.{Each}
+use Rattle.model.proofs.Laws.Invariant.Rank.{rank, rank-positive}
+use Rattle.model.proofs.Laws.Invariant.Stamps.{child-after, child-within}
+use Rattle.model.proofs.Laws.Invariant.Tree.{Entry, forkedFrom, childIn, Fertile}
+use Rattle.model.proofs.Laws.Invariant.Forest.{Joins, Rest, whole}
+use Rattle.model.proofs.Laws.Steps.Locality.{Misses}
+use Rattle.model.proofs.Laws.Invariant.Entries.{entriesOf, runningEntry, waitingEntry, child-entry, arrived-joins}
+use Rattle.model.proofs.Laws.Invariant.Change.{Change, quiet, forks}
+use Rattle.model.proofs.Laws.Invariant.Orderly.{entriesIn, step-change, level-own, level-target, level-other, delivered-length, grown-rest, grown-fork, Orderly}
+
+-- a manager that runs on after a step is still one of its level
+after-at : (l : ℕ) (v : Level) (ws : List Fork) (versions : List Version) (x : Fork) (m : Manager) → m .level ≡ l → AtLevel l (after v ws versions x m .activity)
+unfolding after
+after-at l v ws versions x m q = elim (truth (isRunning (m .ending))) [
+  | holds e ↦ rw e q
+  | fails e ↦ rw e tt
+]
+
+grown-level : (c : Counts) (e : Effect) → oneMore (grown c e) .level ≡ c .level
+grown-level c effect.Nothing = refl
+grown-level c (effect.Write o k v) = refl
+grown-level c (effect.Fork u message) = refl
+
+begun-at : (p : Program) (l : ℕ) (v : Level) (ws : List Fork) → AtLevel l (v .activity) → AtLevel l (begun p l v ws .own .activity)
+unfolding begun
+begun-at p l v [] t = t
+begun-at p l v (x ∷ xs) t =
+    after-at l v xs (v .versions) x (started p l (v .next) (x .message)) (ap (λ c. c .level) (started-counts p l (v .next) (x .message)))
+
+moved-at : (p : Program) (st : State) (l : ℕ) (v : Level) (a : Activity) → AtLevel l (v .activity) → AtLevel l a → AtLevel l (moved p st l v a .own .activity)
+unfolding moved advanced
+moved-at p st l v idle t q = begun-at p l v (v .waiting) t
+moved-at p st l v (busy x m) t q =
+    let s = stepped p (readAt p st l x) m in
+    after-at l v (v .waiting) _ x (s .manager)
+    (ap (λ c. c .level) (stepped-counts p (readAt p st l x) m) ∙ grown-level (counts m) (s .effect) ∙ q)
+
+pub move-at : (p : Program) (l : ℕ) (st : State) → Sound p → l < p .levels → AtLevel l (levelAt st l .activity) → AtLevel l (moveAt p l st .own .activity)
+unfolding moveAt
+move-at p l st so h t =
+    let view = viewOf p l st in
+    let same = seen-level p l l st h (so .lattice .order .itself l h) in
+    let there : AtLevel l (levelAt view l .activity) = rw (ap (λ w. w .activity) same) t in
+    moved-at (seenBy l p) view l (levelAt view l) (levelAt view l .activity) there there
+
+-- a running manager that may still fork has room for its child
+pub fertile : (p : Program) (l : ℕ) (x : Fork) (k : ℕ) → Sound p → l < p .levels → x .depth + rank (p .levels) (p .dom) l ≤ 8 → k < 15 → Fertile (runningEntry l x k)
+fertile p l x k so h d f =
+    let shallow : x .depth ≤ 7 = omega (arith, d, rank-positive (p .levels) (p .dom) (so .lattice .order) l h) in
+    record { after = child-after (x .stamp) (x .depth) k; room = child-within (x .stamp) (x .depth) k shallow f }
+
+-- a level strictly above is another
+pub other-level : (p : Program) (u l : ℕ) → strictly (p .dom) u l ≡ true → l ≡ u → ⊥
+other-level p u l s q = eqb-false u l (not-true (eqb u l) (and-right (p .dom u l) (not (eqb u l)) s)) (sym q)
+
+arrived-at : (u : ℕ) (x : Fork) (v : Level) → AtLevel u (v .activity) → AtLevel u (arrived x v .activity)
+arrived-at u x v t = unfold arrived in t
+
+-- the step that done describes, at level l, in a state with the invariant
+module _ (p : Program) (so : Sound p) (l : ℕ) (h : l < p .levels) (st : State) (o : Orderly p st) (done : Moved) (own-at : AtLevel l (done .own .activity)) where
+  here : l < length st
+  here = rw (o .size) h
+
+  pub quiet-keeps : (b : Arrival) → b ≡ none → Rest (entriesIn st l) (entriesOf l (done .own)) → Orderly p (delivered b (modify l (λ _. done .own) st))
+  quiet-keeps b q r =
+      record {
+        size = delivered-length b _ ∙ modify-length l (λ _. done .own) st ∙ o .size;
+        placed = λ k hk. placed k hk (ℕ-discrete l k);
+        grown = grown-rest p (entriesIn st) _ (o .grown) (λ k. rest k (ℕ-discrete l k));
+      }
+    where
+      misses : (k : ℕ) → Misses k b
+      misses k = rw q tt
+
+      placed : (k : ℕ) → k < p .levels → Dec (l ≡ k) → AtLevel k (levelAt (delivered b (modify l (λ _. done .own) st)) k .activity)
+      placed k hk (yes e) = rw (sym e) (rw (ap (λ v. v .activity) (level-own b l (done .own) st (misses l) here)) own-at)
+      placed k hk (no n) = rw (ap (λ v. v .activity) (level-other b l k (done .own) st n (misses k))) (o .placed k hk)
+
+      rest : (k : ℕ) → Dec (l ≡ k) → Rest (entriesIn st k) (entriesIn (delivered b (modify l (λ _. done .own) st)) k)
+      rest k (yes e) = rw (sym e) (rw (ap (entriesOf l) (level-own b l (done .own) st (misses l) here)) r)
+      rest k (no n) = whole (ap (entriesOf k) (level-other b l k (done .own) st n (misses k)))
+
+  pub fork-keeps : (u : ℕ) (c : Fork) (a : Entry) (W : List Entry) → waitingEntry u c ≡ childIn u a → entriesIn st l ≡ a ∷ W → Rest (forkedFrom a ∷ W) (entriesOf l (done .own)) → u < p .levels → strictly (p .dom) u l ≡ true → Fertile a → Orderly p (delivered (at u c) (modify l (λ _. done .own) st))
+  fork-keeps u c a W q e r hu s f =
+      record {
+        size = delivered-length (at u c) _ ∙ modify-length l (λ _. done .own) st ∙ o .size;
+        placed = λ k hk. placed k hk (ℕ-discrete l k) (ℕ-discrete u k);
+        grown = grown-rest p between _
+            (grown-fork p (entriesIn st) between so (o .grown) l u h hu lu a W e s f between-l (rw between-u joins) (λ k n g. between-other k n ∙ others k n g))
+            (λ k. rest k (ℕ-discrete k l));
+      }
+    where
+      lu : l ≡ u → ⊥
+      lu = other-level p u l s
+
+      next : State
+      next = delivered (at u c) (modify l (λ _. done .own) st)
+
+      -- the state between the fork and the sender's end
+      between : ℕ → List Entry
+      between k = cond (eqb k l) (forkedFrom a ∷ W) (entriesIn next k)
+
+      own : levelAt next l ≡ done .own
+      own = level-own (at u c) l (done .own) st (λ t. lu (sym t)) here
+
+      target : levelAt next u ≡ arrived c (levelAt st u)
+      target = level-target u c l (done .own) st lu (rw (o .size) hu)
+
+      between-l : between l ≡ forkedFrom a ∷ W
+      between-l = rw (eq-eqb l l refl) refl
+
+      between-other : (k : ℕ) → (k ≡ l → ⊥) → between k ≡ entriesIn next k
+      between-other k n = rw (ne-eqb k l n) refl
+
+      between-u : between u ≡ entriesIn next u
+      between-u = between-other u (λ t. lu (sym t))
+
+      joins : Joins (childIn u a) (entriesIn st u) (entriesIn next u)
+      joins = rw (ap (entriesOf u) target, sym q) (arrived-joins u c (levelAt st u))
+
+      others : (k : ℕ) → (k ≡ l → ⊥) → (k ≡ u → ⊥) → entriesIn next k ≡ entriesIn st k
+      others k n g = ap (entriesOf k) (level-other (at u c) l k (done .own) st (λ t. n (sym t)) (λ t. g (sym t)))
+
+      rest : (k : ℕ) → Dec (k ≡ l) → Rest (between k) (entriesIn next k)
+      rest k (yes t) = rw (t, between-l, ap (entriesOf l) own) r
+      rest k (no n) = whole (sym (between-other k n))
+
+      placed : (k : ℕ) → k < p .levels → Dec (l ≡ k) → Dec (u ≡ k) → AtLevel k (levelAt next k .activity)
+      placed k hk (yes t) d = rw (sym t) (rw (ap (λ v. v .activity) own) own-at)
+      placed k hk (no n) (yes t) = rw (sym t) (rw (ap (λ v. v .activity) target) (arrived-at u c (levelAt st u) (o .placed u hu)))
+      placed k hk (no n) (no g) = rw (ap (λ v. v .activity) (level-other (at u c) l k (done .own) st n g)) (o .placed k hk)
+
+pub first-of : (P : Entry → Type 0) (a : Entry) (W E : List Entry) → E ≡ a ∷ W → Each P E → P a
+unfolding Each
+first-of P a W E e g = (rw e at g) .0
+
+-- every scheduler step keeps the invariant
+pub step-keeps : (p : Program) (l : ℕ) (st : State) → Sound p → l < p .levels → Orderly p st → Orderly p (stepAt p l st)
+unfolding stepAt
+step-keeps p l st so h o =
+    keeps (moveAt p l st) (move-at p l st so h (o .placed l h)) (step-change p l st so h (o .placed l h))
+  where
+    arriving : (b c : Arrival) (s : State) → b ≡ c → Orderly p (delivered c s) → Orderly p (delivered b s)
+    arriving b c s q r = rw q r
+
+    keeps : (done : Moved) → AtLevel l (done .own .activity) → Change p l (entriesIn st l) (entriesOf l (done .own)) (done .arrival) → Orderly p (applied l done st)
+    keeps done t (quiet q r) = quiet-keeps p so l h st o done t (done .arrival) q r
+    keeps done t (forks u x m message W q e r hu s f) =
+        let a = runningEntry l x (m .forks) in
+        let d = first-of (λ a. a .depth + rank (p .levels) (p .dom) l ≤ 8) a W (entriesIn st l) e (o .grown .shallow l h) in
+        arriving (done .arrival) (at u (childOf l x m message)) (modify l (λ _. done .own) st) q
+        (fork-keeps p so l h st o done t u (childOf l x m message) a W (child-entry l u x m message) e r hu s (fertile p l x (m .forks) so h d f))

@@ -1,0 +1,60 @@
+-- Whole lists of scheduler steps: any two that finish from one state end in the same state. Assumes nothing.
+use Prim.Native.Nat.{ℕ, suc}
+use mathlib.Core.Path.{_≡_, refl, sym, _∙_, ap}
+use mathlib.Core.Bool.{Bool, true, false}
+use mathlib.Core.List.{List, [], _∷_}
+use borrow.Author.Tests.{eqb-true, not-true}
+use lib.Dec.{eqb}
+use Rattle.lattice.proofs.Laws.Range.{all-each, not-both}
+use Rattle.session.specs.Program.{Program}
+use Rattle.session.proofs.Laws.Lists.{holds, fails, truth}
+use Rattle.managers.proofs.Laws.Effects.{Sound}
+use Rattle.model.specs.Level.{hasManager}
+use Rattle.model.specs.Step.{State, levelAt, stepAt}
+use Rattle.model.specs.Schedule.{question15, stepRefusal, Outcome, finished, refused, runFrom}
+use Rattle.model.proofs.Laws.Confluence.{ran, Allowed, Over, confluent}
+use Rattle.model.proofs.Laws.Steps.Diamond.{MayStep, may-step}
+use Rattle.model.proofs.Laws.Invariant.Orderly.{Orderly}
+use Rattle.model.proofs.Laws.Order.Commute.{steps-commute}
+
+abbrev stateOf : Outcome → State
+stateOf (finished st) = st
+stateOf (refused number place) = []
+
+abbrev isFinished : Outcome → Bool
+isFinished (finished st) = true
+isFinished (refused number place) = false
+
+-- a list that finishes: each step is allowed, and it ends in that state, with all managers ended
+pub record Finishes (p : Program) (ls : List ℕ) (st t : State) : Type 0 where
+  pub allowed : Allowed (stepAt p) (MayStep p) ls st
+  pub ends : ran (stepAt p) ls st ≡ t
+  pub over : question15 p t ≡ true
+
+pub finishes : (i : ℕ) (p : Program) (ls : List ℕ) (st t : State) → runFrom i p ls st ≡ finished t → Finishes p ls st t
+unfolding runFrom ran Allowed
+finishes i p [] st t e = elim (truth (question15 p st)) [
+  | holds q ↦
+      let same : st ≡ t = ap stateOf (rw q at e) in
+      record { allowed = tt; ends = same; over = rw (sym same) q }
+  | fails q ↦ absurd (not-both false (ap isFinished (rw q at e)) refl)
+]
+finishes i p (l ∷ ls) st t e = elim (truth (eqb (stepRefusal p st l) 0)) [
+  | holds q ↦
+      let rest = finishes (suc i) p ls (stepAt p l st) t (rw q at e) in
+      record { allowed = (may-step p st l (eqb-true (stepRefusal p st l) 0 q), rest .allowed); ends = rest .ends; over = rest .over }
+  | fails q ↦ absurd (not-both false (ap isFinished (rw q at e)) refl)
+]
+
+-- where all managers have ended no step is allowed
+pub none-may : (p : Program) (st : State) → question15 p st ≡ true → Over (MayStep p) st
+unfolding question15
+none-may p st e l m =
+    not-both (hasManager (levelAt st l)) (m .managed) (not-true (hasManager (levelAt st l)) (all-each (p .levels) _ e l (m .present)))
+
+-- any two lists that finish from a state with the invariant end in the same state
+pub same-end : (p : Program) → Sound p → (st : State) → Orderly p st → (ls ks : List ℕ) (t w : State) → Finishes p ls st t → Finishes p ks st w → t ≡ w
+same-end p so st o ls ks t w a b =
+    sym (a .ends)
+    ∙ confluent State (stepAt p) (MayStep p) (Orderly p) (steps-commute p so) ls ks st o (a .allowed) (none-may p (ran (stepAt p) ls st) (rw (a .ends) (a .over))) (b .allowed) (none-may p (ran (stepAt p) ks st) (rw (b .ends) (b .over)))
+    ∙ b .ends

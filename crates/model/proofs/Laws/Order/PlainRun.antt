@@ -1,0 +1,57 @@
+-- The plain run of an accepted session is never refused. Assumes nothing.
+use Prim.Native.Nat.{ℕ, zero, suc, _*_, _≤_}
+use mathlib.Core.Path.{_≡_, refl, sym}
+use mathlib.Core.List.{List}
+use native.Mathlib.Decide.{ℕ-discrete}
+use native.Mathlib.Omega.{arith}
+use lib.ListN.{replicate}
+use Rattle.session.specs.Questions.{verdictOf}
+use Rattle.session.specs.Meaning.{rootOf}
+use Rattle.session.specs.Program.{Program, programOf}
+use Rattle.session.specs.declared.Message.{Message}
+use Rattle.session.specs.declared.Verdict.the-variants.{Accepted}
+use Rattle.session.proofs.Laws.Verdict.{accepted}
+use Rattle.session.proofs.Laws.Numbering.{few-levels}
+use Rattle.managers.proofs.Laws.Effects.{Sound}
+use Rattle.model.specs.Limits.{maxSchedule}
+use Rattle.model.specs.Fork.{rootFork}
+use Rattle.model.specs.Level.{newLevel}
+use Rattle.model.specs.Step.{State}
+use Rattle.model.specs.Schedule.{readIn, finished, runOf, plainOrder}
+use Rattle.model.proofs.Laws.Invariant.Measure.{Tame, arrived-tame}
+use Rattle.model.proofs.Laws.Invariant.Tame.{total, total-arrived, AllTame}
+use Rattle.model.proofs.Laws.Order.Plain.{plain-finishes}
+use Rattle.model.proofs.Laws.Order.ReadIn.{at-root, elsewhere, read-in}
+use Rattle.model.proofs.Laws.Order.Accepted.{sound}
+
+new-tame : Tame newLevel
+new-tame = record { room = omega arith; live = tt }
+
+-- each level has room for 32 managers of 257 scheduler steps
+total-new : (n : ℕ) → total (replicate n newLevel) ≡ n * 8224
+unfolding total
+total-new zero = refl
+total-new (suc n) = omega (arith, total-new n)
+
+module _ (p : Program) (so : Sound p) (few : p .levels ≤ 8) (root : Message) where
+  pub read-in-tame : AllTame (readIn p root)
+  read-in-tame k = elim (ℕ-discrete (p .level (root .object)) k) [
+    | yes e ↦ rw (sym e, at-root p so few root) (arrived-tame (rootFork (p .levels) root) newLevel new-tame)
+    | no n ↦ rw (elsewhere p so few root k n) new-tame
+  ]
+
+  read-in-total : total (readIn p root) ≤ maxSchedule
+  unfolding readIn
+  read-in-total =
+      rw (total-arrived (p .level (root .object)) (rootFork (p .levels) root) (replicate (p .levels) newLevel), total-new (p .levels)) (omega (arith, few))
+
+  -- the plain order is a list that finishes
+  pub plain-run : (t : State) × (runOf p root (plainOrder p root) ≡ finished t)
+  unfolding runOf plainOrder
+  plain-run =
+      plain-finishes p so maxSchedule 0 (readIn p root) (read-in p so few root) read-in-tame read-in-total
+
+-- so an accepted session has one
+pub accepted-plain : (s : List ℕ) → verdictOf s ≡ Accepted → (t : State) × (runOf (programOf s) (rootOf s) (plainOrder (programOf s) (rootOf s)) ≡ finished t)
+accepted-plain s a =
+    plain-run (programOf s) (sound s a) (unfold programOf in few-levels s (accepted s a .three)) (rootOf s)

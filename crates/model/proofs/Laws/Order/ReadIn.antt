@@ -1,0 +1,105 @@
+-- The session as read in has the invariant, so any two whole lists of scheduler steps that finish end in the same state. Assumes nothing.
+use Prim.Native.Nat.{ℕ, zero, suc, _+_, _≤_}
+use mathlib.Core.Path.{_≡_, refl, sym, _∙_, ap}
+use mathlib.Core.List.{List, [], _∷_}
+use native.Mathlib.Decide.{ℕ-discrete}
+use native.Mathlib.Omega.{arith}
+use lib.ListN.{replicate, length-replicate}
+use Rattle.session.specs.Program.{Program}
+use Rattle.session.specs.declared.Message.{Message}
+use Rattle.managers.proofs.Laws.Effects.{Sound}
+use Rattle.model.specs.Lists.{inserted}
+use Rattle.model.specs.Fork.{Fork, rootFork}
+use Rattle.model.specs.Level.{newLevel, arrived}
+use Rattle.model.specs.Step.{State, levelAt}
+use Rattle.model.specs.Schedule.{readIn, finished, runOf}
+use Rattle.model.proofs.Laws.Lists.{modify-length, modify-at, modify-other}
+use Rattle.model.proofs.Laws.Each.{Each, Pairwise}
+use Rattle.model.proofs.Laws.Invariant.Rank.{rank, count-most}
+use Rattle.model.proofs.Laws.Invariant.Tree.{Entry, Related}
+use Rattle.model.proofs.Laws.Steps.Moves.{AtLevel}
+use Rattle.model.proofs.Laws.Invariant.Entries.{entriesOf, waitingEntry}
+use Rattle.model.proofs.Laws.Invariant.Orderly.{entriesIn, Orderly}
+use Rattle.model.proofs.Laws.Order.Finish.{finishes, same-end}
+
+-- no level but the root's has a manager
+new-level : (n k : ℕ) → levelAt (replicate n newLevel) k ≡ newLevel
+new-level zero k = refl
+new-level (suc n) zero = refl
+new-level (suc n) (suc k) = new-level n k
+
+-- the root's level has the root's fork
+arrived-new : (l : ℕ) (x : Fork) → entriesOf l (arrived x newLevel) ≡ waitingEntry l x ∷ []
+unfolding arrived inserted
+arrived-new l x = refl
+
+module _ (p : Program) (so : Sound p) (few : p .levels ≤ 8) (root : Message) where
+  abbrev pub r : ℕ
+  r = p .level (root .object)
+
+  abbrev pub x : Fork
+  x = rootFork (p .levels) root
+
+  pub at-root : levelAt (readIn p root) r ≡ arrived x newLevel
+  unfolding readIn
+  at-root =
+      modify-at newLevel r (arrived x) (replicate (p .levels) newLevel) (rw (length-replicate (p .levels) newLevel) (so .placed (root .object)))
+      ∙ ap (arrived x) (new-level (p .levels) r)
+
+  pub elsewhere : (k : ℕ) → (r ≡ k → ⊥) → levelAt (readIn p root) k ≡ newLevel
+  unfolding readIn
+  elsewhere k n = modify-other newLevel r k (arrived x) (replicate (p .levels) newLevel) n ∙ new-level (p .levels) k
+
+  root-entry : entriesIn (readIn p root) r ≡ waitingEntry r x ∷ []
+  root-entry = ap (entriesOf r) at-root ∙ arrived-new r x
+
+  no-entry : (k : ℕ) → (r ≡ k → ⊥) → entriesIn (readIn p root) k ≡ []
+  no-entry k n = ap (entriesOf k) (elsewhere k n)
+
+  abbrev F : ℕ → List Entry
+  F = entriesIn (readIn p root)
+
+  home : (k : ℕ) → Dec (r ≡ k) → Each (λ a. a .level ≡ k) (F k)
+  unfolding Each
+  home k (yes e) = rw (sym e, root-entry) (refl, tt)
+  home k (no n) = rw (no-entry k n) tt
+
+  same : (k : ℕ) → Dec (r ≡ k) → Pairwise (Related (p .dom)) (F k)
+  unfolding Each Pairwise
+  same k (yes e) = rw (sym e, root-entry) (tt, tt)
+  same k (no n) = rw (no-entry k n) tt
+
+  across : (j k : ℕ) → (j ≡ k → ⊥) → Dec (r ≡ j) → Each (λ a. Each (Related (p .dom) a) (F k)) (F j)
+  unfolding Each
+  across j k d (no n) = rw (no-entry j n) tt
+  across j k d (yes e) = rw (sym e, root-entry) (rw (no-entry k (λ q. d (sym e ∙ q))) tt, tt)
+
+  shallow : (k : ℕ) → Dec (r ≡ k) → Each (λ a. a .depth + rank (p .levels) (p .dom) k ≤ 8) (F k)
+  unfolding Each
+  shallow k (yes e) = rw (sym e, root-entry) (omega (arith, few, count-most (p .levels) (λ j. p .dom j r)), tt)
+  shallow k (no n) = rw (no-entry k n) tt
+
+  placed : (k : ℕ) → Dec (r ≡ k) → AtLevel k (levelAt (readIn p root) k .activity)
+  placed k (yes e) = rw (sym e) (rw (ap (λ v. v .activity) at-root) (unfold arrived in tt))
+  placed k (no n) = rw (ap (λ v. v .activity) (elsewhere k n)) tt
+
+  pub read-in : Orderly p (readIn p root)
+  read-in =
+      record {
+        size = unfold readIn in modify-length r (arrived x) (replicate (p .levels) newLevel) ∙ length-replicate (p .levels) newLevel;
+        placed = λ k h. placed k (ℕ-discrete r k);
+        grown = record {
+          forest = record {
+            home = λ k h. home k (ℕ-discrete r k);
+            same = λ k h. same k (ℕ-discrete r k);
+            across = λ j k hj hk d. across j k d (ℕ-discrete r j);
+          };
+          shallow = λ k h. shallow k (ℕ-discrete r k);
+        };
+      }
+
+  -- any two whole lists of scheduler steps that finish end in the same state
+  pub one-result : (ls ks : List ℕ) (t w : State) → runOf p root ls ≡ finished t → runOf p root ks ≡ finished w → t ≡ w
+  unfolding runOf
+  one-result ls ks t w a b =
+      same-end p so (readIn p root) read-in ls ks t w (finishes 0 p ls (readIn p root) t a) (finishes 0 p ks (readIn p root) w b)

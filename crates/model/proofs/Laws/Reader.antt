@@ -1,0 +1,5 @@
+-- What a reader sees: isolation of levels, and the bytes of answers.
+pub mod Isolation
+pub mod Bytes
+pub mod Shown
+pub mod Answers
