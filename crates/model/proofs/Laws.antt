@@ -8,3 +8,4 @@ pub mod Order
 pub mod Safe
 pub mod Deep
 pub mod Reader
+pub mod Code

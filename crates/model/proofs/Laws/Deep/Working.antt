@@ -30,7 +30,7 @@ use Rattle.model.proofs.Laws.Invariant.Entries.{entriesOf}
 use Rattle.model.proofs.Laws.Invariant.WriteStamps.{forksOf}
 use Rattle.model.proofs.Laws.Invariant.Stamped.{Steady}
 use Rattle.model.proofs.Laws.Safe.Safe.{Later, ancestor, Safe}
-use Rattle.model.proofs.Laws.Safe.Reads.{boundAt, read-own, read-below}
+use Rattle.model.proofs.Laws.Safe.Reads.{boundAt, seen-field, seen-own, seen-below}
 use Rattle.model.proofs.Laws.Deep.Resting.{resting, Rests, Below, newest-within}
 
 -- the end of the interval of stamps of fork c
@@ -90,19 +90,6 @@ moved-working : (p : Program) (st : State) (l : ℕ) (t : Tally) (vs : List Vers
 unfolding moved advanced after
 moved-working p st l t vs c m s q =
     ap (λ s. record { own = after (resting t vs) [] (versionsAfter m (s .effect) vs) c (s .manager); arrival = arrivalOf l c m (s .effect) }) q
-
--- a read through what level u sees, of an object that it dominates
-seen-field : (u : ℕ) (p : Program) (o k : ℕ) → p .dom u (p .level o) ≡ true → seenBy u p .field o k ≡ p .field o k
-unfolding seenBy
-seen-field u p o k d = rw d refl
-
-seen-own : (u : ℕ) (p : Program) (st : State) (c : Fork) (o k : ℕ) → p .level o ≡ u → readAt (seenBy u p) st u c o k ≡ newest (seenBy u p .field o k) o k (levelAt st (p .level o) .versions)
-unfolding seenBy
-seen-own u p st c o k e = read-own (seenBy u p) st u c o k e
-
-seen-below : (u : ℕ) (p : Program) (st : State) (c : Fork) (o k : ℕ) → (p .level o ≡ u → ⊥) → readAt (seenBy u p) st u c o k ≡ newestTo (boundAt c (p .level o) (levelAt st (p .level o))) (seenBy u p .field o k) o k (levelAt st (p .level o) .versions)
-unfolding seenBy
-seen-below u p st c o k n = read-below (seenBy u p) st u c o k n
 
 -- what the manager of fork c at level u reads of the objects that u dominates is current
 module _ (p : Program) (so : Sound p) (st : State) (g : Progress) (u : ℕ) (c : Fork) (lo : ℕ) (a : Around p st g u c lo) where

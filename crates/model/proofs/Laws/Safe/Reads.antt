@@ -10,7 +10,7 @@ use borrow.Author.Tests.{eq-eqb, ne-eqb, eqb-true, le-ltb, lt-leb}
 use lib.Dec.{eqb, leb, ltb}
 use lib.ListN.{getD}
 use Rattle.session.specs.Lists.{select}
-use Rattle.session.specs.Program.{Program}
+use Rattle.session.specs.Program.{Program, seenBy}
 use Rattle.session.specs.declared.Value.{Value}
 use Rattle.session.proofs.Laws.Lists.{Truth, holds, fails, truth, select-no}
 use Rattle.model.specs.Lists.{inserted, lastOr}
@@ -49,6 +49,19 @@ read-own p st l x o k e = rw (eq-eqb (p .level o) l e) refl
 pub read-below : (p : Program) (st : State) (l : ℕ) (x : Fork) (o k : ℕ) → (p .level o ≡ l → ⊥) → readAt p st l x o k ≡ newestTo (boundAt x (p .level o) (levelAt st (p .level o))) (p .field o k) o k (levelAt st (p .level o) .versions)
 unfolding readAt
 read-below p st l x o k n = rw (ne-eqb (p .level o) l n) refl
+
+-- a read through what level l sees, of an object that it dominates
+pub seen-field : (l : ℕ) (p : Program) (o k : ℕ) → p .dom l (p .level o) ≡ true → seenBy l p .field o k ≡ p .field o k
+unfolding seenBy
+seen-field l p o k d = rw d refl
+
+pub seen-own : (l : ℕ) (p : Program) (st : State) (c : Fork) (o k : ℕ) → p .level o ≡ l → readAt (seenBy l p) st l c o k ≡ newest (seenBy l p .field o k) o k (levelAt st (p .level o) .versions)
+unfolding seenBy
+seen-own l p st c o k e = read-own (seenBy l p) st l c o k e
+
+pub seen-below : (l : ℕ) (p : Program) (st : State) (c : Fork) (o k : ℕ) → (p .level o ≡ l → ⊥) → readAt (seenBy l p) st l c o k ≡ newestTo (boundAt c (p .level o) (levelAt st (p .level o))) (seenBy l p .field o k) o k (levelAt st (p .level o) .versions)
+unfolding seenBy
+seen-below l p st c o k n = read-below (seenBy l p) st l c o k n
 
 -- two states that look the same read the same
 pub read-same : (p : Program) (st st' : State) (l : ℕ) (x : Fork) → ((o : ℕ) → LooksSame l (p .level o) x (levelAt st (p .level o)) (levelAt st' (p .level o))) → readAt p st l x ≡ readAt p st' l x

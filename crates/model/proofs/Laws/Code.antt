@@ -1,0 +1,2 @@
+-- What the code of the runs relies on.
+pub mod Direct
