@@ -1,2 +1,3 @@
 -- What the code of the runs relies on.
 pub mod Direct
+pub mod DepthFirst
