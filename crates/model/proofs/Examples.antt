@@ -28,7 +28,7 @@ use Rattle.model.specs.Step.{viewOf, readAt, advanced, begun, moved, del
 use Rattle.model.specs.Schedule.{readIn, question14, question15, stepRefusal, runFrom, runOf, lowest, plainFrom, plainOrder}
 use Rattle.model.specs.DepthFirst.{current, close, effected, finish, runFork, depthFirst}
 use Rattle.model.specs.Result.{objectRecord, historyRecord, replyRecord, objectsShown, historiesShown, replyShown, bytesOf, ordersShown}
-use Rattle.model.specs.Entries.{entryRefusal, answerOf, timetabled, plain, deep}
+use Rattle.model.specs.Entries.{entryRefusal, cleared, answerOf, timetabled, plain, deep}
 use Rattle.session.specs.Program.{Program}
 use Rattle.session.specs.declared.Value.{Value}
 use Rattle.session.specs.declared.Value.the-variants.{Nil, Number}
@@ -175,7 +175,7 @@ pub record Examples : Type 0 where
   not-shown : ordersShown fan 1 (0 ∷ 1 ∷ 2 ∷ []) ≡ false
 
 pub examples : Examples
-unfolding all first reflexive antisymmetric transitive isOrder isLeast join hasJoins dominates namesPresent isOrdered every select risingFrom countsFrom tab joined recordAt recordsOf wordOf zeroAt stepOf ofKind masksOf methodRecords question1 kindsRise question2 question3 objectValid question6 operandsFit unusedBytes stepValid scriptValid scriptsValid rootValid firstNo verdictOf methodOf sessionW programOf seenBy fateOf sum isNilOr0 withRegister popped settled concluded started written called forked sent operated stepped inserted modify lastOr childOf endBefore arrived after newest newestTo viewOf readAt advanced begun moved delivered moveAt stepAt readIn question14 question15 stepRefusal runFrom runOf lowest plainFrom plainOrder current close effected finish runFork depthFirst objectRecord historyRecord replyRecord objectsShown historiesShown replyShown bytesOf ordersShown entryRefusal answerOf timetabled plain deep
+unfolding all first reflexive antisymmetric transitive isOrder isLeast join hasJoins dominates namesPresent isOrdered every select risingFrom countsFrom tab joined recordAt recordsOf wordOf zeroAt stepOf ofKind masksOf methodRecords question1 kindsRise question2 question3 objectValid question6 operandsFit unusedBytes stepValid scriptValid scriptsValid rootValid firstNo verdictOf methodOf sessionW programOf seenBy fateOf sum isNilOr0 withRegister popped settled concluded started written called forked sent operated stepped inserted modify lastOr childOf endBefore arrived after newest newestTo viewOf readAt advanced begun moved delivered moveAt stepAt readIn question14 question15 stepRefusal runFrom runOf lowest plainFrom plainOrder current close effected finish runFork depthFirst objectRecord historyRecord replyRecord objectsShown historiesShown replyShown bytesOf ordersShown entryRefusal cleared answerOf timetabled plain deep
 examples =
     record {
       fan-arrived = refl;

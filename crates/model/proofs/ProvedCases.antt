@@ -27,7 +27,7 @@ use Rattle.model.specs.Step.{viewOf, readAt, advanced, begun, moved, del
 use Rattle.model.specs.Schedule.{readIn, question14, question15, stepRefusal, runFrom, runOf, lowest, plainFrom, plainOrder}
 use Rattle.model.specs.DepthFirst.{current, close, effected, finish, runFork, depthFirst}
 use Rattle.model.specs.Result.{objectRecord, historyRecord, replyRecord, objectsShown, historiesShown, replyShown, bytesOf, ordersShown}
-use Rattle.model.specs.Entries.{entryRefusal, answerOf, timetabled, plain, deep}
+use Rattle.model.specs.Entries.{entryRefusal, cleared, answerOf, timetabled, plain, deep}
 use Rattle.session.specs.Record.{Record}
 use Rattle.model.specs.Limits.{workNumbers, resultBytes}
 use Rattle.model.specs.Fork.{childStamp}
@@ -96,7 +96,7 @@ pub record ProvedCases : Type 0 where
   m12-order : inserted (λ x. x) 0x21000000 (0x20000000 ∷ 0x30000000 ∷ []) ≡ 0x20000000 ∷ 0x21000000 ∷ 0x30000000 ∷ []
 
 pub provedCases : ProvedCases
-unfolding table.verdictOf all first reflexive antisymmetric transitive isOrder isLeast join hasJoins dominates namesPresent isOrdered every select risingFrom countsFrom tab joined recordAt recordsOf wordOf zeroAt stepOf ofKind masksOf methodRecords question1 kindsRise question2 question3 objectValid question6 operandsFit unusedBytes stepValid scriptValid scriptsValid rootValid firstNo verdictOf methodOf sessionW programOf seenBy fateOf sum isNilOr0 withRegister popped settled concluded started written called forked sent operated stepped inserted modify lastOr childOf endBefore arrived after newest newestTo viewOf readAt advanced begun moved delivered moveAt stepAt readIn question14 question15 stepRefusal runFrom runOf lowest plainFrom plainOrder current close effected finish runFork depthFirst objectRecord historyRecord replyRecord objectsShown historiesShown replyShown bytesOf ordersShown entryRefusal answerOf timetabled plain deep
+unfolding table.verdictOf all first reflexive antisymmetric transitive isOrder isLeast join hasJoins dominates namesPresent isOrdered every select risingFrom countsFrom tab joined recordAt recordsOf wordOf zeroAt stepOf ofKind masksOf methodRecords question1 kindsRise question2 question3 objectValid question6 operandsFit unusedBytes stepValid scriptValid scriptsValid rootValid firstNo verdictOf methodOf sessionW programOf seenBy fateOf sum isNilOr0 withRegister popped settled concluded started written called forked sent operated stepped inserted modify lastOr childOf endBefore arrived after newest newestTo viewOf readAt advanced begun moved delivered moveAt stepAt readIn question14 question15 stepRefusal runFrom runOf lowest plainFrom plainOrder current close effected finish runFork depthFirst objectRecord historyRecord replyRecord objectsShown historiesShown replyShown bytesOf ordersShown entryRefusal cleared answerOf timetabled plain deep
 provedCases =
     record {
       m1 = refl;

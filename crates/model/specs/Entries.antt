@@ -53,7 +53,7 @@ untouched q number =
     record { number = number; place = 0; count = 0; work = q .work; buffer = q .buffer }
 
 -- "the work slice's first 8,192 numbers are 0. Beyond those .. nothing changes"
-abbrev pub cleared : List ℕ → List ℕ
+unfoldable pub cleared : List ℕ → List ℕ
 cleared work = replicate workNumbers 0 ++ drop workNumbers work
 
 -- "beyond the result written, nothing changes"
