@@ -1,3 +1,4 @@
 -- What the code of the runs relies on.
 pub mod Direct
 pub mod DepthFirst
+pub mod Bounds

@@ -2,7 +2,7 @@
 -- dominate its own. Assumes nothing.
 use Prim.Native.Nat.{ℕ, zero, suc, _<_}
 use mathlib.Core.Path.{_≡_, refl, sym, _∙_, ap}
-use mathlib.Core.Bool.{true, false, not, cond}
+use mathlib.Core.Bool.{true, false, not}
 use lib.Dec.{eqb, ltb}
 use lib.ListN.{length}
 use Rattle.lattice.specs.Order.{strictly}

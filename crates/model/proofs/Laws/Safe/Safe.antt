@@ -104,14 +104,14 @@ first-entry P j v y ys q f = by (v .activity) (v .waiting) q f
     by idle ws q f = waits ws q f
     by (busy x m) ws q f = (runningEntry j x (m .forks), (ap (λ z. z .stamp) (head-same x y ws ys q), unfold Each in f .0))
 
-at-fork : (u w : ℕ) (x y : Fork) → at u x ≡ at w y → x ≡ y
+pub at-fork : (u w : ℕ) (x y : Fork) → at u x ≡ at w y → x ≡ y
 at-fork u w x y q = ap (λ b. forkIn x b) q
   where
     forkIn : Fork → Arrival → Fork
     forkIn d none = d
     forkIn d (at u x) = x
 
-at-none : (b : Arrival) (u : ℕ) (x : Fork) → b ≡ at u x → b ≡ none → ⊥
+pub at-none : (b : Arrival) (u : ℕ) (x : Fork) → b ≡ at u x → b ≡ none → ⊥
 at-none b u x q e = not-both (isNone b) (ap isNone e) (ap isNone q)
   where
     isNone : Arrival → Bool
