@@ -2,3 +2,4 @@
 pub mod Direct
 pub mod DepthFirst
 pub mod Bounds
+pub mod Reachable

@@ -60,10 +60,10 @@ module _ (p : Program) (so : Sound p) (few : p .levels ≤ 8) (root : Message) w
   no-tally : (j : ℕ) → tallyAt start j ≡ newTally
   no-tally j = repeated (p .levels) newTally j
 
-  root-is : levelAt (readIn p root) r ≡ awaiting x newTally []
+  pub root-is : levelAt (readIn p root) r ≡ awaiting x newTally []
   root-is = at-root p so few root ∙ root-waits x
 
-  other-is : (j : ℕ) → (r ≡ j → ⊥) → levelAt (readIn p root) j ≡ newLevel
+  pub other-is : (j : ℕ) → (r ≡ j → ⊥) → levelAt (readIn p root) j ≡ newLevel
   other-is = elsewhere p so few root
 
   -- nothing has happened
@@ -71,7 +71,7 @@ module _ (p : Program) (so : Sound p) (few : p .levels ≤ 8) (root : Message) w
   none-past lo = record { early = unfold Each in tt; last = unfold lastOr in refl; written = unfold Each in tt }
 
   -- what holds of a level where the root waits and of a new one holds of each
-  each-level : (P : Level → Type 0) → P (awaiting x newTally []) → P newLevel → (j : ℕ) → P (levelAt (readIn p root) j)
+  pub each-level : (P : Level → Type 0) → P (awaiting x newTally []) → P newLevel → (j : ℕ) → P (levelAt (readIn p root) j)
   each-level P a b j = elim (ℕ-discrete r j) [
     | yes e ↦ rw (sym e, root-is) a
     | no n ↦ rw (other-is j n) b
@@ -89,7 +89,7 @@ module _ (p : Program) (so : Sound p) (few : p .levels ≤ 8) (root : Message) w
       low l j =
           each-level (λ v. Each (λ y. getD (y .seen) j 0 < 1) (forksOf v)) (unfold Each in (rw (repeated {A = ℕ} (p .levels) 0 j) (omega arith), tt)) (unfold Each in tt) l
 
-  root-steady : Steady p (readIn p root)
+  pub root-steady : Steady p (readIn p root)
   root-steady = record { orderly = read-in p so few root; tame = read-in-tame p so few root; stamped = root-stamped }
 
   root-fields : FieldsAgree p (readIn p root) start
