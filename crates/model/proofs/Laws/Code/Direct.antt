@@ -7,17 +7,18 @@ use mathlib.Core.List.{List, [], _∷_}
 use native.Mathlib.Decide.{ℕ-discrete}
 use Rattle.session.specs.Program.{Program, seenBy}
 use Rattle.session.proofs.Laws.Lists.{holds, fails, truth}
-use Rattle.managers.specs.Manager.{isRunning, stepped}
+use Rattle.managers.specs.Manager.{isRunning, started, stepped}
 use Rattle.managers.specs.declared.Manager.{Manager}
 use Rattle.managers.specs.declared.Effect.{Effect}
 use Rattle.managers.specs.declared.Effect.the-variants as effect
+use Rattle.managers.specs.declared.Stepped.{Stepped}
 use Rattle.managers.proofs.Laws.Effects.{Sound}
 use Rattle.managers.proofs.Laws.Within.{Within, started-within, started-seen, stepped-within, stepped-seen, Reaches, stepped-reaches}
 use Rattle.model.specs.Limits.{maxManagers}
-use Rattle.model.specs.Lists.{inserted}
+use Rattle.model.specs.Lists.{inserted, modify}
 use Rattle.model.specs.Fork.{Fork, childOf}
 use Rattle.model.specs.Level.{Version, Activity, idle, busy, Level, startedCount, arrived, after, newest, newestTo}
-use Rattle.model.specs.Step.{State, levelAt, viewOf, readAt, Arrival, none, at, versionsAfter, arrivalOf, begun, advanced, moved, moveAt, stepAt}
+use Rattle.model.specs.Step.{State, levelAt, viewOf, readAt, Arrival, none, at, versionsAfter, arrivalOf, begun, advanced, moved, moveAt, applied, delivered, stepAt}
 use Rattle.model.proofs.Laws.Each.{Each, each-take, each-inserted}
 use Rattle.model.proofs.Laws.Steps.Diamond.{seen-level}
 use Rattle.model.proofs.Laws.Steps.Moves.{AtLevel, move-is}
@@ -138,3 +139,29 @@ step-contained p so st o i l h k hk = by (levelAt (stepAt p l st) k) (became p s
     by v (got c e s q) =
         rw q (arrived-contained p k c (levelAt st k) (sent (moved p st l (levelAt st l) (levelAt st l .activity) .arrival) c (sym (ap (λ m. m .arrival) made) ∙ e) (moved-sent p so st l h (levelAt st l) (levelAt st l .activity) (o .placed l h))) (i k hk))
     by v (stayed n q) = rw q (i k hk)
+
+begins : (p : Program) (st : State) (l : ℕ) (v : Level) (x : Fork) (xs : List Fork) → v .waiting ≡ x ∷ xs → applied l (moved p st l v idle) st ≡ modify l (λ _. after v xs (v .versions) x (started p l (v .next) (x .message))) st
+unfolding moved begun delivered
+begins p st l v x xs e = ap (λ ws. applied l (begun p l v ws) st) e
+
+advances : (p : Program) (st : State) (l : ℕ) (v : Level) (x : Fork) (m : Manager) (s : Stepped) → stepped p (readAt p st l x) m ≡ s → applied l (moved p st l v (busy x m)) st ≡ delivered (arrivalOf l x m (s .effect)) (modify l (λ _. after v (v .waiting) (versionsAfter m (s .effect) (v .versions)) x (s .manager)) st)
+unfolding moved advanced
+advances p st l v x m s e =
+    ap (λ s. delivered (arrivalOf l x m (s .effect)) (modify l (λ _. after v (v .waiting) (versionsAfter m (s .effect) (v .versions)) x (s .manager)) st)) e
+
+-- what a scheduler step does to the state, by what the level is about to do
+module _ (p : Program) (so : Sound p) (st : State) (o : Orderly p st) (i : (l : ℕ) → l < p .levels → Contained p l (levelAt st l)) (l : ℕ) (h : l < p .levels) where
+  step-is : stepAt p l st ≡ applied l (moved p st l (levelAt st l) (levelAt st l .activity)) st
+  unfolding stepAt
+  step-is = ap (λ m. applied l m st) (move-direct p so st o i l h)
+
+  -- it starts the first fork that waits
+  pub step-start : (x : Fork) (xs : List Fork) → levelAt st l .activity ≡ idle → levelAt st l .waiting ≡ x ∷ xs → stepAt p l st ≡ modify l (λ _. after (levelAt st l) xs (levelAt st l .versions) x (started p l (levelAt st l .next) (x .message))) st
+  step-start x xs q e = step-is ∙ ap (λ a. applied l (moved p st l (levelAt st l) a) st) q ∙ starts
+    where
+      starts : applied l (moved p st l (levelAt st l) idle) st ≡ modify l (λ _. after (levelAt st l) xs (levelAt st l .versions) x (started p l (levelAt st l .next) (x .message))) st
+      starts = begins p st l (levelAt st l) x xs e
+
+  -- it makes one script step of the manager that runs
+  pub step-advance : (x : Fork) (m : Manager) (s : Stepped) → levelAt st l .activity ≡ busy x m → stepped p (readAt p st l x) m ≡ s → stepAt p l st ≡ delivered (arrivalOf l x m (s .effect)) (modify l (λ _. after (levelAt st l) (levelAt st l .waiting) (versionsAfter m (s .effect) (levelAt st l .versions)) x (s .manager)) st)
+  step-advance x m s q e = step-is ∙ ap (λ a. applied l (moved p st l (levelAt st l) a) st) q ∙ advances p st l (levelAt st l) x m s e
