@@ -1,0 +1,113 @@
+// The versions of fields that the managers of each level wrote, in the lent work slice.
+//
+// Each level has a log of its own. A write adds a version to its end, so a read that looks for the
+// newest one goes through it backward.
+use session::Value;
+ghost use mathlib.Core.Path.{_≡_};
+ghost use Prim.Native.Nat.{_+_, _≤_, _<_};
+ghost use lib.ListN.{length};
+ghost use Rattle.model.specs.Limits.{workNumbers};
+ghost use Rattle.model.specs.Level.{newestTo};
+ghost use Rattle.model.specs.Entries.{cleared};
+ghost use Rattle.versions.specs.Log.{logStart, keyOf, versionAt, logOf, Within};
+ghost use Rattle.versions.specs.Changes.{Appended};
+
+// How many numbers a level's log has: two for each version that fits.
+const LOG_NUMBERS: usize = 1024;
+
+// How many numbers the logs of all levels have.
+const WORK_NUMBERS: usize = 8192;
+
+// What one object more is worth in a version's first number.
+const OBJECT: u32 = 524288;
+
+// What one field more is worth there.
+const FIELD: u32 = 131072;
+
+// What a version's first number holds for its object and field.
+fn key_of(object: u8, field: u8) -> u32
+    ensures { λ r. ⌜ r ≡ keyOf object field ⌝ }
+{
+    OBJECT * object as u32 + FIELD * field as u32
+}
+
+// Adds a version to the log of a level, which has `count` versions.
+pub fn append(
+    work: &mut [u32],
+    level: usize,
+    count: usize,
+    stamp: u16,
+    object: u8,
+    field: u8,
+    value: Value,
+)
+    requires { ⌜ Within (now work) level (count + 1) field ⌝ }
+    ensures { λ _. ⌜ Appended (now (work .entry)) (now (work .exit)) level count (record { stamp = stamp; object = object; field = field; value = value }) ⌝ }
+{
+    let at = LOG_NUMBERS * level + 2 * count;
+    let packed = key_of(object, field) + 2 * stamp as u32;
+    match value {
+        Value::Nil => {
+            work[at] = packed;
+            work[at + 1] = 0;
+        }
+        Value::Number(number) => {
+            work[at] = packed + 1;
+            work[at + 1] = number;
+        }
+    }
+}
+
+// The value of the version at a place.
+fn value_at(work: &[u32], at: usize) -> Value
+    requires { ⌜ at + 1 < length (now work) ⌝ }
+    ensures { λ r. ⌜ r ≡ versionAt (now (work .entry)) at .value ⌝ }
+{
+    if work[at] % 2 == 1 {
+        Value::Number(work[at + 1])
+    } else {
+        Value::Nil
+    }
+}
+
+// The newest version of a field not above a write stamp, in the log of a level, which has `count`
+// versions; or the initial value.
+//
+// A version's first number lies at most 2 * bound + 1 above the field's key exactly where it is one
+// of the field and not above the bound. Below the key the difference wraps and is too large. So each
+// version passed costs one comparison.
+pub fn newest_to(
+    work: &[u32],
+    level: usize,
+    count: usize,
+    bound: u16,
+    object: u8,
+    field: u8,
+    initial: Value,
+) -> Value
+    requires { ⌜ Within (now work) level count field ⌝ }
+    ensures { λ r. ⌜ r ≡ newestTo bound initial object field (logOf (now (work .entry)) (logStart level) count) ⌝ }
+{
+    let start = LOG_NUMBERS * level;
+    let key = key_of(object, field);
+    let span = 2 * bound as u32 + 1;
+    let mut n = count;
+    while 0 < n {
+        n -= 1;
+        let packed = work[start + 2 * n];
+        if std::num::wrapping_sub_u32(packed, key) <= span {
+            return value_at(work, start + 2 * n);
+        }
+    }
+    initial
+}
+
+// Makes the numbers of all logs 0.
+pub fn clear(work: &mut [u32])
+    requires { ⌜ workNumbers ≤ length (now work) ⌝ }
+    ensures { λ _. ⌜ now (work .exit) ≡ cleared (now (work .entry)) ⌝ }
+{
+    for i in 0..WORK_NUMBERS {
+        work[i] = 0;
+    }
+}
