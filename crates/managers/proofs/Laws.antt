@@ -2,4 +2,11 @@
 pub mod Counts
 pub mod Effects
 pub mod Endings
+pub mod Outcome
+pub mod Send
+pub mod Settle
+pub mod Stack
 pub mod Within
+pub mod Accepted
+pub mod Valid
+pub mod Step

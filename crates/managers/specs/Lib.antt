@@ -3,3 +3,6 @@ pub mod Limits
 pub mod Value
 pub mod Frame
 pub mod Manager
+pub mod Asked
+pub mod Outcome
+pub mod Valid

@@ -38,7 +38,7 @@ isRunning OutOfSteps = false
 isRunning OutOfWrites = false
 
 -- the manager with another stack: so many frames, these, and this reply of the first
-abbrev withStack : Manager → ℕ → List Frame → Value → Manager
+abbrev pub withStack : Manager → ℕ → List Frame → Value → Manager
 withStack m h fs v =
     record {
       level = m .level;
@@ -54,7 +54,7 @@ withStack m h fs v =
     }
 
 -- the manager with other counts of steps, writes and forks, another write stamp and another ending
-abbrev withCounts : Manager → ℕ → ℕ → ℕ → ℕ → Ending → Manager
+abbrev pub withCounts : Manager → ℕ → ℕ → ℕ → ℕ → Ending → Manager
 withCounts m steps writes forks stamp ending =
     record {
       level = m .level;
@@ -198,7 +198,7 @@ operated p read m f (Send a b c) =
 operated p read m f (Quit a) = record { manager = popped (withTop m f) (register f a); effect = effect.Nothing }
 
 -- the step counted and concluded; "2 wins over 1", and after a seventeenth write nothing pops
-abbrev counted : Program → Manager → Manager
+abbrev pub counted : Program → Manager → Manager
 counted p m =
     let n = withCounts m (m .steps + 1) (m .writes) (m .forks) (m .stamp) (m .ending) in
     cond (isRunning (m .ending)) (concluded p n) n

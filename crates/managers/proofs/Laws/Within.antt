@@ -1,16 +1,11 @@
 -- A manager's frames are of objects that its level dominates, it takes nothing of any other object, and a message is forked at a level
 -- that dominates its object. Assumes nothing.
-use Prim.Native.Nat.{ℕ, zero, suc, _+_, _-_, _≤_, _<_}
-use mathlib.Core.Path.{_≡_, refl, _∙_, ap}
-use mathlib.Core.Bool.{Bool, true, false, cond}
-use mathlib.Core.List.{List}
-use native.Mathlib.Decide.{ℕ-discrete}
-use native.Mathlib.Omega.{arith}
-use borrow.Author.Tests.{ltb-true, ltb-false}
+use Prim.Native.Nat.{ℕ, zero, suc, _+_, _≤_, _<_}
+use mathlib.Core.Path.{_≡_, refl, ap}
+use mathlib.Core.Bool.{Bool, true}
+use borrow.Author.Tests.{ltb-true}
 use lib.Dec.{eqb, ltb}
-use lib.ListN.{length, getD, set, replicate, length-set}
-use lib.Seq.{getD-set-same, getD-set-other}
-use Rattle.lattice.proofs.Laws.Range.{not-both}
+use lib.ListN.{length, getD}
 use Rattle.session.specs.Program.{Program, seenBy}
 use Rattle.session.specs.declared.Value.{Value}
 use Rattle.session.specs.declared.Value.the-variants.{Nil}
@@ -18,19 +13,20 @@ use Rattle.session.specs.declared.Message.{Message}
 use Rattle.session.specs.declared.Step.{Step}
 use Rattle.session.specs.declared.Step.the-variants.{End, Set, Add, Jump, Read, Write, Send, Quit}
 use Rattle.session.proofs.Laws.Lists.{holds, fails, truth}
+use Rattle.filter.specs.Filter.{fateOf}
 use Rattle.filter.specs.declared.Fate.{Fate}
 use Rattle.filter.specs.declared.Fate.the-variants as fate
 use Rattle.filter.proofs.Laws.Fate.{Covers, fate-covers}
-use Rattle.managers.specs.Limits.{maxFrames, maxScriptSteps, maxWrites, maxForks}
-use Rattle.managers.specs.Value.{isNilOr0}
-use Rattle.managers.specs.Frame.{noFrame, register, withRegister, atStep}
-use Rattle.managers.specs.Manager.{isRunning, top, withTop, isEnd, nextStep, popped, settled, concluded, started, written, called, forked, sent, operated, stepped}
+use Rattle.managers.specs.Limits.{maxFrames, maxWrites, maxForks}
+use Rattle.managers.specs.Frame.{frameFor, noFrame, withRegister, atStep}
+use Rattle.managers.specs.Manager.{isRunning, top, isEnd, nextStep, popped, settled, concluded, started, written, called, forked, sent, operated, stepped}
 use Rattle.managers.specs.declared.Frame.{Frame}
-use Rattle.managers.specs.declared.Ending.the-variants.{Running, Finished, OutOfSteps}
 use Rattle.managers.specs.declared.Manager.{Manager}
 use Rattle.managers.specs.declared.Effect.{Effect}
 use Rattle.managers.specs.declared.Effect.the-variants as effect
 use Rattle.managers.proofs.Laws.Effects.{Sound}
+use Rattle.managers.proofs.Laws.Endings.{concluded-live, running-live}
+use Rattle.managers.proofs.Laws.Stack.{Stacked, Runs, Keeps, top-each, first-stack, popped-stack, concluded-stack, operated-stack, stepped-stack}
 
 -- each frame of the stack is of an object whose level l dominates, and a manager that runs has a frame
 pub record Within (p : Program) (l : ℕ) (m : Manager) : Type 0 where
@@ -39,21 +35,12 @@ pub record Within (p : Program) (l : ℕ) (m : Manager) : Type 0 where
   pub live : isRunning (m .ending) ≡ true → 0 < m .height
   pub dominated : (k : ℕ) → k < m .height → p .dom l (p .level (getD (m .frames) k noFrame .object)) ≡ true
 
--- the same of a stack alone, of so many frames
-record Stack (p : Program) (l h : ℕ) (fs : List Frame) : Type 0 where
-  room : length fs ≡ maxFrames
-  low : h ≤ maxFrames
-  dominated : (k : ℕ) → k < h → p .dom l (p .level (getD fs k noFrame .object)) ≡ true
-
-abbrev Stacked : Program → ℕ → Manager → Type 0
-Stacked p l m = Stack p l (m .height) (m .frames)
-
-stacked : {p : Program} {l : ℕ} {m : Manager} → Within p l m → Stacked p l m
-stacked w = record { room = w .room; low = w .low; dominated = w .dominated }
-
 -- level l dominates the object of a frame
 abbrev Below : Program → ℕ → Frame → Type 0
 Below p l f = p .dom l (p .level (f .object)) ≡ true
+
+stacked : {p : Program} {l : ℕ} {m : Manager} → Within p l m → Stacked (Below p l) m
+stacked w = record { room = w .room; low = w .low; each = w .dominated }
 
 -- whatever its registers hold
 register-below : (p : Program) (l : ℕ) (f : Frame) (k : ℕ) (v : Value) → Below p l f → Below p l (withRegister f k v)
@@ -63,177 +50,74 @@ register-below p l f (suc zero) v b = b
 register-below p l f (suc (suc zero)) v b = b
 register-below p l f (suc (suc (suc k))) v b = b
 
--- a frame put at place i: each place of the new stack is i or was one before
-put : (p : Program) (l h h' i : ℕ) (fs : List Frame) (f : Frame) → Stack p l h fs → h' ≤ maxFrames → i < maxFrames → ((k : ℕ) → k < h' → (k ≡ i → ⊥) → k < h) → Below p l f → Stack p l h' (set fs i f)
-put p l h h' i fs f s low hi old b =
-    record {
-      room = length-set fs i f ∙ s .room;
-      low = low;
-      dominated = λ k hk. at k hk (ℕ-discrete k i);
-    }
-  where
-    at : (k : ℕ) → k < h' → Dec (k ≡ i) → p .dom l (p .level (getD (set fs i f) k noFrame .object)) ≡ true
-    at k hk (yes e) = rw (e, getD-set-same fs i f noFrame (rw (s .room) hi)) b
-    at k hk (no ne) = rw (getD-set-other fs i k f noFrame ne) (s .dominated k (old k hk ne))
-
--- the top frame, and another in its place
-top-below : (p : Program) (l : ℕ) (m : Manager) → Stacked p l m → 0 < m .height → Below p l (top m)
-top-below p l m s h = s .dominated (m .height - 1) (omega arith)
-
-replaced-stack : (p : Program) (l : ℕ) (m : Manager) (f : Frame) → Stacked p l m → Below p l f → Stacked p l (withTop m f)
-replaced-stack p l m f s b =
-    put p l (m .height) (m .height) (m .height - 1) (m .frames) f s (s .low) (omega (arith, s .low)) (λ k hk ne. hk) b
-
--- pops keep the stack
-popped-stack : (p : Program) (l : ℕ) (m : Manager) (v : Value) → Stacked p l m → Stacked p l (popped m v)
-unfolding popped
-popped-stack p l m v s = elim (truth (ltb (m .height) 2)) [
-  | holds e ↦ rw e (record { room = s .room; low = omega arith; dominated = λ k hk. absurd (omega arith) })
-  | fails e ↦ rw e (
-      let h : 2 ≤ m .height = ltb-false (m .height) 2 e in
-      put p l (m .height) (m .height - 1) (m .height - 2) (m .frames) _ s (omega (arith, s .low)) (omega (arith, s .low))
-      (λ k hk ne. omega arith)
-      (register-below p l (getD (m .frames) (m .height - 2) noFrame) _ _ (s .dominated (m .height - 2) (omega arith))))
-]
-
-settled-stack : (k : ℕ) (p : Program) (l : ℕ) (m : Manager) → Stacked p l m → Stacked p l (settled k p m)
-unfolding settled
-settled-stack zero p l m s = s
-settled-stack (suc k) p l m s = elim (truth (ltb 0 (m .height))) [
-  | fails e ↦ rw e s
-  | holds e ↦ elim (truth (isEnd (nextStep p (top m)))) [
-    | holds q ↦ rw (e, q) (settled-stack k p l (popped m Nil) (popped-stack p l m Nil s))
-    | fails q ↦ rw (e, q) s
-  ]
-]
-
--- a manager that runs on has a frame
-running-where : (a b : Bool) → isRunning (cond a (cond b Running OutOfSteps) Finished) ≡ true → a ≡ true
-running-where true b e = refl
-running-where false b e = absurd (not-both false e refl)
-
-concluded-within : (p : Program) (l : ℕ) (m : Manager) → Stacked p l m → Within p l (concluded p m)
-unfolding concluded
+concluded-within : (p : Program) (l : ℕ) (m : Manager) → Stacked (Below p l) m → Within p l (concluded p m)
 concluded-within p l m s =
-    let n = settled maxFrames p m in
-    let t = settled-stack maxFrames p l m s in
-    record {
-      room = t .room;
-      low = t .low;
-      live = λ e. ltb-true 0 (n .height) (running-where (ltb 0 (n .height)) (ltb (n .steps) maxScriptSteps) e);
-      dominated = t .dominated;
-    }
-
--- the stack of a manager that starts
-first-stack : (p : Program) (l : ℕ) (f : Frame) → Below p l f → Stack p l 1 (set (replicate maxFrames noFrame) 0 f)
-first-stack p l f b =
-    record { room = refl; low = omega arith; dominated = only }
-  where
-    only : (k : ℕ) → k < 1 → p .dom l (p .level (getD (set (replicate maxFrames noFrame) 0 f) k noFrame .object)) ≡ true
-    only zero h = b
-    only (suc k) h = absurd (omega arith)
+    let t = concluded-stack (Below p l) (register-below p l) p m s in
+    record { room = t .room; low = t .low; live = concluded-live p m; dominated = t .each }
 
 -- a manager starts within a level that dominates its message's object
 pub started-within : (p : Program) (level stamp : ℕ) (message : Message) → p .dom level (p .level (message .object)) ≡ true → Within p level (started p level stamp message)
 unfolding started
-started-within p level stamp message b = concluded-within p level _ (first-stack p level _ b)
-
--- an operation keeps the stack
-written-stack : (p : Program) (l : ℕ) (m : Manager) (f : Frame) (k : ℕ) (v : Value) → Stacked p l m → Below p l f → Stacked p l (written p m f k v .manager)
-unfolding written
-written-stack p l m f k v s b =
-    let t = replaced-stack p l m f s b in
-    elim (truth (eqb (p .level (f .object)) (m .level))) [
-      | fails e ↦ rw e t
-      | holds e ↦ elim (truth (ltb (m .writes) maxWrites)) [
-        | holds q ↦ rw (e, q) t
-        | fails q ↦ rw (e, q) t
-      ]
-    ]
-
-called-stack : (p : Program) (l : ℕ) (m : Manager) (f : Frame) (a : ℕ) (callee : Frame) → Stacked p l m → Below p l f → Below p l callee → Stacked p l (called m f a callee .manager)
-unfolding called
-called-stack p l m f a callee s b c = elim (truth (ltb (m .height) maxFrames)) [
-  | fails e ↦ rw e (replaced-stack p l m (withRegister f a Nil) s (register-below p l f a Nil b))
-  | holds e ↦ rw e (
-      let h : m .height < maxFrames = ltb-true (m .height) maxFrames e in
-      put p l (m .height) (m .height + 1) (m .height) _ callee (replaced-stack p l m f s b) (omega arith) h
-      (λ k hk ne. omega arith) c)
-]
-
-forked-stack : (p : Program) (l : ℕ) (m : Manager) (f : Frame) (a u : ℕ) (message : Message) → Stacked p l m → Below p l f → Stacked p l (forked m f a u message .manager)
-unfolding forked
-forked-stack p l m f a u message s b =
-    let t = replaced-stack p l m (withRegister f a Nil) s (register-below p l f a Nil b) in
-    elim (truth (ltb (m .forks) maxForks)) [
-      | holds e ↦ rw e t
-      | fails e ↦ rw e t
-    ]
+started-within p level stamp message b = concluded-within p level _ (first-stack (Below p level) _ b)
 
 -- a frame is made only of an object that the manager's level dominates
-sent-stack : (p : Program) (l : ℕ) (m : Manager) (f : Frame) (a b c : ℕ) (t : Fate) → Sound p → l < p .levels → Stacked p l m → Below p l f → Covers (p .dom) l (p .level (f .object)) (p .level c) t → Stacked p l (sent m f a b c t .manager)
-unfolding sent
-sent-stack p l m f a b c fate.Call so h s d r =
-    called-stack p l m f a _ s d
-    (so .lattice .order .through l (p .level (f .object)) (p .level c) h (so .placed (f .object)) (so .placed c) d r)
-sent-stack p l m f a b c fate.Discard so h s d r = called-stack p l m f a _ s d r
-sent-stack p l m f a b c fate.Block so h s d r = replaced-stack p l m (withRegister f a Nil) s (register-below p l f a Nil d)
-sent-stack p l m f a b c (fate.Fork u) so h s d r = forked-stack p l m f a u _ s d
+runs-below : (p : Program) (l : ℕ) (f : Frame) (a b c : ℕ) (t : Fate) → Sound p → l < p .levels → Below p l f → Covers (p .dom) l (p .level (f .object)) (p .level c) t → Runs t ((r : Bool) (v : Value) → Below p l (frameFor c b a r v))
+runs-below p l f a b c fate.Call so h d x =
+    λ r v. so .lattice .order .through l (p .level (f .object)) (p .level c) h (so .placed (f .object)) (so .placed c) d x
+runs-below p l f a b c fate.Discard so h d x = λ r v. x
+runs-below p l f a b c fate.Block so h d x = tt
+runs-below p l f a b c (fate.Fork u) so h d x = tt
 
-operated-stack : (p : Program) (read : ℕ → ℕ → Value) (l : ℕ) (m : Manager) (f : Frame) (i : Step) → Sound p → l < p .levels → m .level ≡ l → Stacked p l m → Below p l f → Stacked p l (operated p read m f i .manager)
-unfolding operated
-operated-stack p read l m f End so h q s b = s
-operated-stack p read l m f (Set a n) so h q s b = replaced-stack p l m _ s (register-below p l f a _ b)
-operated-stack p read l m f (Add a c) so h q s b = replaced-stack p l m _ s (register-below p l f a _ b)
-operated-stack p read l m f (Jump a c) so h q s b = elim (truth (isNilOr0 (register f a))) [
-  | holds e ↦ rw e (replaced-stack p l m (atStep f c) s b)
-  | fails e ↦ rw e (replaced-stack p l m f s b)
-]
-operated-stack p read l m f (Read a c) so h q s b = replaced-stack p l m _ s (register-below p l f a _ b)
-operated-stack p read l m f (Write a c) so h q s b = written-stack p l m f c (register f a) s b
-operated-stack p read l m f (Send a n c) so h q s b =
-    sent-stack p l m f a n c _ so h s b
+keeps-below : (p : Program) (l : ℕ) (m : Manager) (f : Frame) (i : Step) → Sound p → l < p .levels → m .level ≡ l → Below p l f → Keeps (Below p l) p m f i
+keeps-below p l m f End so h q b = tt
+keeps-below p l m f (Set a n) so h q b = tt
+keeps-below p l m f (Add a c) so h q b = tt
+keeps-below p l m f (Jump a c) so h q b = b
+keeps-below p l m f (Read a c) so h q b = tt
+keeps-below p l m f (Write a c) so h q b = tt
+keeps-below p l m f (Send a n c) so h q b =
+    runs-below p l f a n c (fateOf (p .levels) (p .dom) (m .level) (p .level (f .object)) (p .level c)) so h b
     (rw q (fate-covers (p .levels) (p .dom) (so .lattice) l (p .level (f .object)) (p .level c) h (so .placed c)))
-operated-stack p read l m f (Quit a) so h q s b = popped-stack p l (withTop m f) _ (replaced-stack p l m f s b)
+keeps-below p l m f (Quit a) so h q b = tt
+
+-- the stack after the operation of a script step
+done-stack : (p : Program) (read : ℕ → ℕ → Value) (l : ℕ) (m : Manager) → Sound p → l < p .levels → m .level ≡ l → isRunning (m .ending) ≡ true → Within p l m → Stacked (Below p l) (operated p read m (atStep (top m) (top m .next + 1)) (nextStep p (top m)) .manager)
+done-stack p read l m so h q r w =
+    let g = atStep (top m) (top m .next + 1) in
+    let b = top-each (Below p l) m (stacked w) (w .live r) in
+    operated-stack (Below p l) (register-below p l) p read m g (nextStep p (top m)) (stacked w) (λ _. b) (keeps-below p l m g (nextStep p (top m)) so h q b)
 
 -- a script step keeps a manager within the level
 pub stepped-within : (p : Program) (read : ℕ → ℕ → Value) (l : ℕ) (m : Manager) → Sound p → l < p .levels → m .level ≡ l → isRunning (m .ending) ≡ true → Within p l m → Within p l (stepped p read m .manager)
-unfolding stepped
 stepped-within p read l m so h q r w =
-    let f = top m in
-    let g = atStep f (f .next + 1) in
-    let done = operated p read m g (nextStep p f) .manager in
-    let t = operated-stack p read l m g (nextStep p f) so h q (stacked w) (top-below p l m (stacked w) (w .live r)) in
-    elim (truth (isRunning (done .ending))) [
-      | holds e ↦ rw e (concluded-within p l _ t)
-      | fails e ↦ rw e (record { room = t .room; low = t .low; live = λ y. absurd (not-both (isRunning (done .ending)) y e); dominated = t .dominated })
-    ]
+    let t = stepped-stack (Below p l) (register-below p l) p read m (done-stack p read l m so h q r w) in
+    record { room = t .room; low = t .low; live = running-live p read m; dominated = t .each }
 
 -- of an object that level l dominates, l sees the method
 next-seen : (p : Program) (l : ℕ) (f : Frame) → Below p l f → nextStep (seenBy l p) f ≡ nextStep p f
 unfolding seenBy
 next-seen p l f b = rw b
 
-settled-seen : (k : ℕ) (p : Program) (l : ℕ) (m : Manager) → Stacked p l m → settled k (seenBy l p) m ≡ settled k p m
+settled-seen : (k : ℕ) (p : Program) (l : ℕ) (m : Manager) → Stacked (Below p l) m → settled k (seenBy l p) m ≡ settled k p m
 unfolding settled
 settled-seen zero p l m s = refl
 settled-seen (suc k) p l m s = elim (truth (ltb 0 (m .height))) [
   | fails e ↦ rw e refl
-  | holds e ↦ rw (next-seen p l (top m) (top-below p l m s (ltb-true 0 (m .height) e))) (
+  | holds e ↦ rw (next-seen p l (top m) (top-each (Below p l) m s (ltb-true 0 (m .height) e))) (
       elim (truth (isEnd (nextStep p (top m)))) [
-        | holds q ↦ rw (e, q) (settled-seen k p l (popped m Nil) (popped-stack p l m Nil s))
+        | holds q ↦ rw (e, q) (settled-seen k p l (popped m Nil) (popped-stack (Below p l) (register-below p l) m Nil s))
         | fails q ↦ rw (e, q) refl
       ])
 ]
 
-concluded-seen : (p : Program) (l : ℕ) (m : Manager) → Stacked p l m → concluded (seenBy l p) m ≡ concluded p m
+concluded-seen : (p : Program) (l : ℕ) (m : Manager) → Stacked (Below p l) m → concluded (seenBy l p) m ≡ concluded p m
 unfolding concluded
 concluded-seen p l m s = rw (settled-seen maxFrames p l m s)
 
 -- a manager that starts takes nothing of objects that its level does not dominate
 pub started-seen : (p : Program) (level stamp : ℕ) (message : Message) → p .dom level (p .level (message .object)) ≡ true → started (seenBy level p) level stamp message ≡ started p level stamp message
 unfolding started
-started-seen p level stamp message b = concluded-seen p level _ (first-stack p level _ b)
+started-seen p level stamp message b = concluded-seen p level _ (first-stack (Below p level) _ b)
 
 -- an operation takes of the program only levels
 operated-seen : (p : Program) (read read' : ℕ → ℕ → Value) (l : ℕ) (m : Manager) (f : Frame) (i : Step) → ((k : ℕ) → read (f .object) k ≡ read' (f .object) k) → operated (seenBy l p) read m f i ≡ operated p read' m f i
@@ -253,9 +137,9 @@ unfolding stepped
 stepped-seen p read read' l m so h q r w same =
     let f = top m in
     let g = atStep f (f .next + 1) in
-    let b = top-below p l m (stacked w) (w .live r) in
+    let b = top-each (Below p l) m (stacked w) (w .live r) in
     let done = operated p read' m g (nextStep p f) in
-    let t = operated-stack p read' l m g (nextStep p f) so h q (stacked w) b in
+    let t = done-stack p read' l m so h q r w in
     rw (next-seen p l f b, operated-seen p read read' l m g (nextStep p f) (λ k. same (f .object) k b)) (
     elim (truth (isRunning (done .manager .ending))) [
       | holds e ↦ rw e (ap (λ n. record { manager = n; effect = done .effect }) (concluded-seen p l _ t))

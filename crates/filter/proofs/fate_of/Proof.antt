@@ -1,0 +1,47 @@
+-- `filter::fate_of` meets its contract: the definition's case, by the answers of `lattice`. Assumes nothing.
+use mathlib.Core.Path.{sym, _∙_}
+use borrow.Author.Needs.{needs}
+use borrow.Author.Tests.{not-true, not-false, eq-eqb, ne-eqb}
+use Rattle.filter.specs.Filter.{fateOf}
+use Rattle.filter.proofs.fate_of.Statement.{statement}
+use Rattle.filter.proofs.fate_of.Tie as tie
+
+dominates-requires : tie.Need-dominates-requires
+dominates-requires c κs = search needs
+
+returns : tie.Need-returns
+unfolding fateOf
+returns c = rw (sym (c .before .dominates .ensures) ∙ c .if1 .taken)
+
+dominates-requires-2 : tie.Need-dominates-requires-2
+dominates-requires-2 c κs = search needs
+
+returns-2 : tie.Need-returns-2
+unfolding fateOf
+returns-2 c =
+    rw (sym (c .before .before .before .dominates .ensures) ∙ c .before .before .if1 .left, sym (c .before .dominates2 .ensures) ∙ not-true _ (c .if2 .taken))
+
+join-requires : tie.Need-join-requires
+join-requires c κs = search needs
+
+returns-3 : tie.Need-returns-3
+unfolding fateOf
+returns-3 c =
+    rw (sym (c .before .before .before .before .before .dominates .ensures) ∙ c .before .before .before .before .if1 .left, sym (c .before .before .before .dominates2 .ensures) ∙ not-false _ (c .before .before .if2 .left), sym (c .before .join .ensures), eq-eqb _ _ (c .if3 .taken))
+
+returns-4 : tie.Need-returns-4
+unfolding fateOf
+returns-4 c =
+    rw (sym (c .before .before .before .before .before .dominates .ensures) ∙ c .before .before .before .before .if1 .left, sym (c .before .before .before .dominates2 .ensures) ∙ not-false _ (c .before .before .if2 .left), sym (c .before .join .ensures), ne-eqb _ _ (c .if3 .left))
+
+pub fate-of-spec : {M : Type 1} → statement M
+fate-of-spec =
+    tie.close
+    (tie.spec
+    dominates-requires
+    returns
+    dominates-requires-2
+    returns-2
+    join-requires
+    returns-3
+    returns-4)
