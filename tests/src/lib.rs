@@ -1,6 +1,19 @@
-//! Tests of the library's session check against an independent reference.
+//! Tests of the library against an independent implementation of document 01.
 
+pub mod counts;
 pub mod ffi;
+pub mod guarded;
+pub mod library;
+pub mod limits;
+pub mod random;
+pub mod reader;
+pub mod record;
 pub mod reference;
+pub mod request;
 pub mod sessions;
+pub mod tally;
+pub mod timetables;
+pub mod trial;
+pub mod tuned;
 pub mod vectors;
+pub mod wall_chart;

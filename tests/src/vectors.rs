@@ -1,39 +1,145 @@
-//! The recorded sessions in vectors/check.txt. One line each:
-//! the session in hexadecimal ('-' for the empty one), number, place.
+//! The recorded calls in vectors/calls.txt, one a line after the session that
+//! they are about:
+//!
+//!     session RECORDS
+//!     shows RECORDS
+//!     check NUMBER PLACE
+//!     timetable CLEARANCE WORK RESULT LIST NUMBER PLACE COUNT
+//!     plain CLEARANCE WORK RESULT NUMBER PLACE COUNT
+//!     depth CLEARANCE RESULT NUMBER PLACE COUNT
+//!
+//! RECORDS are in hexadecimal with a blank between, without the zero bytes at a
+//! record's end; a rest that is no whole record has a plus sign before it, and
+//! nothing at all is a minus sign. `shows` has the result of the runs below it
+//! that are not refused. WORK and RESULT are the lengths of the lent buffers.
+//! LIST has levels with a comma between, 7x3 being three times 7.
 
+use crate::library::Answer;
+use crate::request::{Outcome, Request};
 use std::fs;
 
-/// A session with its recorded answer.
+/// A call with its recorded outcome.
 pub struct Vector {
     pub session: Vec<u8>,
-    pub number: u32,
-    pub place: u32,
+    pub request: Request,
+    pub expected: Outcome,
 }
 
 /// Reads all vectors. An error names the file or the line at fault.
 pub fn read() -> Result<Vec<Vector>, String> {
-    let path = concat!(env!("CARGO_MANIFEST_DIR"), "/vectors/check.txt");
+    let path = concat!(env!("CARGO_MANIFEST_DIR"), "/vectors/calls.txt");
     let text = fs::read_to_string(path).map_err(|error| format!("{path}: {error}"))?;
-    text.lines()
-        .enumerate()
-        .map(|(i, line)| parse(line).ok_or_else(|| format!("{path}: line {} is damaged", i + 1)))
-        .collect()
+    let mut session = Vec::new();
+    let mut shown = Vec::new();
+    let mut vectors = Vec::new();
+    for (i, line) in text.lines().enumerate() {
+        let (first, rest) = line.split_once(' ').unwrap_or((line, ""));
+        let parsed = match first {
+            "session" => bytes(rest).map(|bytes| session = bytes),
+            "shows" => bytes(rest).map(|bytes| shown = bytes),
+            _ => call(first, rest, &session, &shown).map(|vector| vectors.push(vector)),
+        };
+        parsed.ok_or_else(|| format!("{path}: line {} is damaged", i + 1))?;
+    }
+    Ok(vectors)
 }
 
-fn parse(line: &str) -> Option<Vector> {
-    let mut words = line.split(' ');
-    let vector = Vector {
-        session: from_hex(words.next()?)?,
-        number: words.next()?.parse().ok()?,
-        place: words.next()?.parse().ok()?,
+fn call(kind: &str, rest: &str, session: &[u8], shown: &[u8]) -> Option<Vector> {
+    let mut words: Vec<&str> = rest.split(' ').collect();
+    let list = if kind == "timetable" {
+        timetable(words.remove(3))?
+    } else {
+        Vec::new()
     };
-    words.next().is_none().then_some(vector)
+    let numbers: Vec<usize> = words
+        .iter()
+        .map(|word| word.parse().ok())
+        .collect::<Option<_>>()?;
+    let (request, [number, place, count]) = request(kind, list, &numbers)?;
+    let answer = Answer {
+        number: number as u32,
+        place,
+        count,
+    };
+    let is_finished = number == 0 && !matches!(request, Request::Check);
+    Some(Vector {
+        session: session.to_vec(),
+        request,
+        expected: Outcome {
+            answer,
+            written: if is_finished {
+                shown.to_vec()
+            } else {
+                Vec::new()
+            },
+        },
+    })
 }
 
-fn from_hex(text: &str) -> Option<Vec<u8>> {
+fn request(kind: &str, timetable: Vec<u8>, numbers: &[usize]) -> Option<(Request, [usize; 3])> {
+    match (kind, numbers) {
+        ("check", &[number, place]) => Some((Request::Check, [number, place, 0])),
+        ("timetable", &[clearance, work_length, result_length, ref answer @ ..]) => Some((
+            Request::Timetable {
+                timetable,
+                clearance: clearance as u32,
+                work_length,
+                result_length,
+            },
+            answer.try_into().ok()?,
+        )),
+        ("plain", &[clearance, work_length, result_length, ref answer @ ..]) => Some((
+            Request::Plain {
+                clearance: clearance as u32,
+                work_length,
+                result_length,
+            },
+            answer.try_into().ok()?,
+        )),
+        ("depth", &[clearance, result_length, ref answer @ ..]) => Some((
+            Request::DepthFirst {
+                clearance: clearance as u32,
+                result_length,
+            },
+            answer.try_into().ok()?,
+        )),
+        _ => None,
+    }
+}
+
+fn timetable(text: &str) -> Option<Vec<u8>> {
     if text == "-" {
         return Some(Vec::new());
     }
+    let mut list = Vec::new();
+    for run in text.split(',') {
+        let (level, times) = run.split_once('x').unwrap_or((run, "1"));
+        let length = list.len() + times.parse::<usize>().ok()?;
+        list.resize(length, level.parse().ok()?);
+    }
+    Some(list)
+}
+
+/// Records as they stand in the file.
+pub fn bytes(text: &str) -> Option<Vec<u8>> {
+    let mut bytes = Vec::new();
+    if text == "-" {
+        return Some(bytes);
+    }
+    for word in text.split(' ') {
+        match word.strip_prefix('+') {
+            Some(rest) => bytes.extend(from_hex(rest)?),
+            None => {
+                let mut record = from_hex(word)?;
+                record.resize(16, 0);
+                bytes.extend(record);
+            }
+        }
+    }
+    Some(bytes)
+}
+
+fn from_hex(text: &str) -> Option<Vec<u8>> {
     let (pairs, rest) = text.as_bytes().as_chunks::<2>();
     if !rest.is_empty() {
         return None;
@@ -45,10 +151,7 @@ fn from_hex(text: &str) -> Option<Vec<u8>> {
         .collect()
 }
 
-/// A session as it stands in the vector file.
-pub fn to_hex(session: &[u8]) -> String {
-    if session.is_empty() {
-        return "-".to_string();
-    }
-    session.iter().map(|byte| format!("{byte:02x}")).collect()
+/// Bytes in hexadecimal, for a message.
+pub fn to_hex(bytes: &[u8]) -> String {
+    bytes.iter().map(|byte| format!("{byte:02x}")).collect()
 }

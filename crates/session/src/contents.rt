@@ -30,6 +30,15 @@ pub fn level_table(session: &[u8], masks: &mut [u16]) -> usize
     levels
 }
 
+// How many objects there are.
+pub fn object_count(session: &[u8]) -> usize
+    requires { ⌜ verdictOf (now session) ≡ Verdict.Accepted ⌝ }
+    ensures { λ r. ⌜ r ≡ objectCount (now (session .entry)) ⌝ }
+{
+    let layout = kinds::count_kinds(session);
+    layout.objects
+}
+
 // The record at which the method of a key starts, or would start. `at` is no step's record after it,
 // and `end` is the root's record.
 fn method_start(session: &[u8], at: usize, end: usize, key: usize) -> usize

@@ -1,17 +1,12 @@
 -- What a write to a log changes, and what it leaves. Assumes nothing.
-use Prim.Native.Nat.{ℕ, _+_, _*_, _≤_, _<_}
+use Prim.Native.Nat.{ℕ, _+_, _*_, _≤_}
 use mathlib.Core.Path.{_≡_}
 use mathlib.Core.List.{List, _∷_}
-use lib.ListN.{length, getD, set, drop}
+use lib.ListN.{set, drop}
 use Rattle.model.specs.Limits.{workNumbers}
 use Rattle.model.specs.Level.{Version}
+use Rattle.rows.specs.Change.{Outside}
 use Rattle.versions.specs.Log.{maxVersions, logStart, firstOf, secondOf, logOf}
-
--- nothing but the numbers from place a up to e is changed
-pub record Outside (before after : List ℕ) (a e : ℕ) : Type 0 where
-  pub same-length : length after ≡ length before
-  pub below : (i : ℕ) → i < a → getD after i 0 ≡ getD before i 0
-  pub above : (i : ℕ) → e ≤ i → getD after i 0 ≡ getD before i 0
 
 -- two numbers stored at a place
 abbrev pub stored : List ℕ → ℕ → ℕ → ℕ → List ℕ

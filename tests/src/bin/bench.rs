@@ -1,41 +1,143 @@
-//! Measures the library's check next to the reference's, in rounds that
-//! alternate between the two. Argument: number of rounds (101).
+//! Measures the library next to the tuned variant, in rounds that alternate
+//! between the two: check, plain, timetabled and depth-first run of session W,
+//! of a typical one and of largest ones. Argument: number of rounds (501).
 
-use lupinpause_tests::{ffi, reference, sessions};
+use lupinpause_tests::ffi::Compiled;
+use lupinpause_tests::library::{Answer, Library};
+use lupinpause_tests::limits::{RESULT_LENGTH, WORK_LENGTH};
+use lupinpause_tests::random::Random;
+use lupinpause_tests::reference::{self, Session};
+use lupinpause_tests::tally::Tally;
+use lupinpause_tests::tuned::Tuned;
+use lupinpause_tests::{reader, sessions, timetables};
 use std::{env, hint::black_box, process::ExitCode, time::Instant};
 
-/// Wanted length of one measurement.
-const NANOSECONDS: f64 = 2e6;
+/// Wanted length of one measurement: short, so that few are disturbed by other
+/// work on the machine.
+const NANOSECONDS: f64 = 2e5;
+
+/// A session, a finishing list and the clearance of its top level.
+struct Case {
+    session: Vec<u8>,
+    timetable: Vec<u8>,
+    clearance: u32,
+}
+
+/// The buffers that both are lent.
+struct Buffers {
+    work: Vec<u32>,
+    result: Vec<u8>,
+}
+
+impl Buffers {
+    fn cleared() -> Self {
+        Buffers {
+            work: vec![0; WORK_LENGTH],
+            result: vec![0; RESULT_LENGTH],
+        }
+    }
+}
+
+type Entry = fn(&dyn Library, &Case, &mut Buffers) -> Answer;
+
+fn check(library: &dyn Library, case: &Case, _: &mut Buffers) -> Answer {
+    Answer::refused(library.check(&case.session), 0)
+}
+
+fn plain(library: &dyn Library, case: &Case, lent: &mut Buffers) -> Answer {
+    library.run_plain(
+        &case.session,
+        case.clearance,
+        &mut lent.work,
+        &mut lent.result,
+    )
+}
+
+fn timetabled(library: &dyn Library, case: &Case, lent: &mut Buffers) -> Answer {
+    library.run_timetable(
+        &case.session,
+        &case.timetable,
+        case.clearance,
+        &mut lent.work,
+        &mut lent.result,
+    )
+}
+
+fn depth_first(library: &dyn Library, case: &Case, lent: &mut Buffers) -> Answer {
+    library.run_depth_first(&case.session, case.clearance, &mut lent.result)
+}
 
 fn main() -> ExitCode {
-    let rounds = match env::args().nth(1).map_or(Ok(101), |text| text.parse()) {
+    let rounds = match env::args().nth(1).map_or(Ok(501), |text| text.parse()) {
         Ok(rounds) if rounds > 0 => rounds,
         _ => {
             eprintln!("the argument is the number of rounds, at least 1");
             return ExitCode::FAILURE;
         }
     };
+    println!("runs by {}", Compiled::RUNS);
     println!("{rounds} rounds; median ns a call; ratio: median (quartiles; least to largest)");
     for (name, session) in [
         ("session W", sessions::example_w()),
         ("typical", sessions::typical()),
-        ("largest", sessions::largest()),
+        ("largest, many forks", sessions::largest_by_forks()),
+        ("largest, many steps", sessions::largest_by_steps()),
     ] {
-        let answers = (ffi::check(&session), reference::check(&session));
-        if answers != (0, (0, 0)) {
-            eprintln!("{name}: not accepted, answers {answers:?}");
+        if let Err(message) = measure_session(name, session, rounds) {
+            eprintln!("{name}: {message}");
             return ExitCode::FAILURE;
         }
-        measure(name, &session, rounds);
     }
     ExitCode::SUCCESS
 }
 
-fn measure(name: &str, session: &[u8], rounds: usize) {
-    let library = |calls| time(ffi::check, session, calls);
-    let reference = |calls| time(|session| reference::check(session).0, session, calls);
+fn measure_session(name: &str, bytes: Vec<u8>, rounds: usize) -> Result<(), String> {
+    if reference::check(&bytes) != 0 {
+        return Err("not accepted".to_string());
+    }
+    let session = Session::read(&bytes);
+    let mut tally = Tally::default();
+    let outcome = reference::plain(&session, &mut tally);
+    let clearance = session.lattice.top().ok_or("no top level")?;
+    let shown = outcome.shown(&session, clearance);
+    let case = Case {
+        timetable: timetables::finishing(&mut Random::new(1), &session, &mut tally),
+        session: bytes,
+        clearance: clearance as u32,
+    };
+    println!(
+        "{name}: {} records, {} managers, {} script steps, {} scheduler steps",
+        case.session.len() / 16,
+        outcome.managers(),
+        outcome.script_steps(),
+        case.timetable.len(),
+    );
+    let entries: [(&str, Entry); 4] = [
+        ("check", check),
+        ("plain", plain),
+        ("timetabled", timetabled),
+        ("depth-first", depth_first),
+    ];
+    for (name, entry) in entries {
+        for library in [&Compiled as &dyn Library, &Tuned] {
+            let mut lent = Buffers::cleared();
+            let answer = entry(library, &case, &mut lent);
+            let expected = if name == "check" { &[] } else { &shown[..] };
+            if answer != Answer::finished(expected.len()) {
+                return Err(format!("{name}: {answer:?}"));
+            }
+            reader::compare(&lent.result[..answer.count], expected)?;
+        }
+        println!("  {name}: {}", measure(entry, &case, rounds));
+    }
+    Ok(())
+}
+
+fn measure(entry: Entry, case: &Case, rounds: usize) -> String {
+    let library = |calls| time(entry, &Compiled, case, calls);
+    let tuned = |calls| time(entry, &Tuned, case, calls);
     // Also warms up.
-    let slower = library(1000).max(reference(1000));
+    let slower = library(10).max(tuned(10));
     let calls = (NANOSECONDS / slower).ceil() as u32;
 
     let mut ours = Vec::new();
@@ -44,9 +146,9 @@ fn measure(name: &str, session: &[u8], rounds: usize) {
         // Neither is always the first.
         if round % 2 == 0 {
             ours.push(library(calls));
-            theirs.push(reference(calls));
+            theirs.push(tuned(calls));
         } else {
-            theirs.push(reference(calls));
+            theirs.push(tuned(calls));
             ours.push(library(calls));
         }
     }
@@ -54,10 +156,8 @@ fn measure(name: &str, session: &[u8], rounds: usize) {
     for values in [&mut ours, &mut theirs, &mut ratios] {
         values.sort_by(f64::total_cmp);
     }
-    println!(
-        "{name} ({} records): library {:.1}, reference {:.1}, \
-         ratio {:.3} ({:.3} to {:.3}; {:.3} to {:.3})",
-        session.len() / 16,
+    format!(
+        "library {:.1}, tuned variant {:.1}, ratio {:.3} ({:.3} to {:.3}; {:.3} to {:.3})",
         quantile(&ours, 0.5),
         quantile(&theirs, 0.5),
         quantile(&ratios, 0.5),
@@ -65,16 +165,17 @@ fn measure(name: &str, session: &[u8], rounds: usize) {
         quantile(&ratios, 0.75),
         quantile(&ratios, 0.0),
         quantile(&ratios, 1.0),
-    );
+    )
 }
 
-/// Mean nanoseconds of one call.
-fn time(check: fn(&[u8]) -> u32, session: &[u8], calls: u32) -> f64 {
-    // Opaque, so that neither function is inlined into the loop.
-    let check = black_box(check);
+/// Mean nanoseconds of one call, with buffers cleared before the first.
+fn time(entry: Entry, library: &dyn Library, case: &Case, calls: u32) -> f64 {
+    // Opaque, so that neither library is inlined into the loop.
+    let (entry, library) = (black_box(entry), black_box(library));
+    let mut lent = Buffers::cleared();
     let start = Instant::now();
     for _ in 0..calls {
-        black_box(check(black_box(session)));
+        black_box(entry(library, black_box(case), &mut lent));
     }
     start.elapsed().as_nanos() as f64 / f64::from(calls)
 }

@@ -1,12 +1,25 @@
-//! Compares the library's check with the reference, on the recorded vectors
-//! and on generated sessions. Arguments: number of sessions (20000), seed (1).
+//! Compares the library with the reference: on the recorded vectors, and on
+//! generated sessions, valid and damaged, with all three runs. Ends with a
+//! report of how often each answer and each limit occurred; if one never did,
+//! that is a failure, unless fewer sessions were asked for than by default.
+//! Arguments: number of sessions of each sort (20000), seed (1), first case (0).
 
-use lupinpause_tests::sessions::Generator;
-use lupinpause_tests::{ffi, reference, vectors};
-use std::{env, process::ExitCode};
+use lupinpause_tests::counts::Counts;
+use lupinpause_tests::ffi::Compiled;
+use lupinpause_tests::library::Library;
+use lupinpause_tests::reference::Reference;
+use lupinpause_tests::request::{perform, Fill};
+use lupinpause_tests::trial::Trial;
+use lupinpause_tests::tuned::Tuned;
+use lupinpause_tests::vectors::Vector;
+use lupinpause_tests::{vectors, wall_chart};
+use std::fmt::Display;
+use std::process::ExitCode;
+use std::sync::atomic::{AtomicU64, Ordering};
+use std::{env, thread, time::Instant};
 
-/// Questions 1 to 8 can be answered no; 0 is the answer of a valid session.
-const ANSWERS: usize = 9;
+/// So many sessions meet every limit.
+const ENOUGH: u64 = 20_000;
 
 fn main() -> ExitCode {
     match run() {
@@ -19,38 +32,24 @@ fn main() -> ExitCode {
 }
 
 fn run() -> Result<(), String> {
-    let count = argument(1, 20000)?;
+    let count = argument(1, ENOUGH)?;
     let seed = argument(2, 1)?;
-
-    let recorded = vectors::read()?;
-    if recorded.is_empty() {
-        return Err("no vectors".to_string());
-    }
-    for vector in &recorded {
-        compare(&vector.session, Some((vector.number, vector.place)))?;
-    }
+    let first = argument(3, 0)?;
+    println!("runs by {}", Compiled::RUNS);
+    fixed("vector", &numbered(vectors::read()?))?;
+    fixed("wall chart", &wall_chart::cases())?;
+    let start = Instant::now();
+    let counts = generated(first, count, seed)?;
+    print!("{}", counts.report());
     println!(
-        "vectors: {} agree with reference and library",
-        recorded.len()
+        "sessions: {count} valid and {count} damaged of seed {seed} agree, in {:.0} s",
+        start.elapsed().as_secs_f64()
     );
-
-    let mut generator = Generator::new(seed);
-    let mut answers = [0u64; ANSWERS];
-    for i in 0..count {
-        let number = if i % 4 == 0 {
-            compare(&generator.valid(), Some((0, 0)))?
-        } else {
-            compare(&generator.damaged(), None)?
-        };
-        answers[number as usize] += 1;
-    }
-    println!("sessions: {count} of seed {seed} agree between reference and library");
-    for (number, times) in answers.iter().enumerate() {
-        println!("answer {number}: {times}");
-    }
-    match answers.iter().position(|&times| times == 0) {
-        Some(number) => Err(format!("answer {number} never occurred")),
-        None => Ok(()),
+    let missing = counts.missing();
+    if missing.is_empty() || count < ENOUGH {
+        Ok(())
+    } else {
+        Err(format!("never occurred: {}", missing.join("; ")))
     }
 }
 
@@ -61,17 +60,71 @@ fn argument(position: usize, default: u64) -> Result<u64, String> {
     })
 }
 
-/// The common answer of reference and library. It must be `expected`, if given.
-fn compare(session: &[u8], expected: Option<(u32, u32)>) -> Result<u32, String> {
-    let ours = ffi::check(session);
-    let (number, place) = reference::check(session);
-    let (expected_number, expected_place) = expected.unwrap_or((number, 0));
-    if ours == number && (number, place) == (expected_number, expected_place) {
-        return Ok(number);
+fn numbered(vectors: Vec<Vector>) -> Vec<(String, Vector)> {
+    let names = (0..vectors.len()).map(|i| i.to_string());
+    names.zip(vectors).collect()
+}
+
+/// Cases with known answers, put to everyone.
+fn fixed(sort: &str, cases: &[(impl Display, Vector)]) -> Result<(), String> {
+    if cases.is_empty() {
+        return Err(format!("no {sort}"));
     }
-    Err(format!(
-        "difference: library {ours}, reference {number} place {place}, \
-         expected {expected_number} place {expected_place}, session\n{}",
-        vectors::to_hex(session)
-    ))
+    let fill = Fill {
+        bytes: &[0xa5; 6_000],
+        words: &[0xdead_beef; 10_000],
+    };
+    let libraries: [(&str, &dyn Library); 3] = [
+        ("reference", &Reference),
+        ("tuned variant", &Tuned),
+        ("library", &Compiled),
+    ];
+    for (name, library) in libraries {
+        for (case, vector) in cases {
+            perform(library, &vector.session, &vector.request, fill)
+                .and_then(|outcome| outcome.compare(&vector.expected))
+                .map_err(|message| format!("{sort} {case}, {name}: {message}"))?;
+        }
+    }
+    println!(
+        "{sort}: {} cases agree with reference, tuned variant and library",
+        cases.len()
+    );
+    Ok(())
+}
+
+/// `count` cases, shared between as many threads as the machine runs.
+fn generated(first: u64, count: u64, seed: u64) -> Result<Counts, String> {
+    let threads = thread::available_parallelism().map_or(1, usize::from);
+    let next = AtomicU64::new(first);
+    let end = first + count;
+    let work = || -> Result<Counts, (u64, String)> {
+        let mut trial = Trial::new(&Compiled, seed);
+        loop {
+            let case = next.fetch_add(1, Ordering::Relaxed);
+            if case >= end {
+                return Ok(trial.counts);
+            }
+            if let Err(message) = trial.case(case) {
+                // The other threads stop too.
+                next.store(end, Ordering::Relaxed);
+                return Err((case, message));
+            }
+        }
+    };
+    let mut counts = Counts::default();
+    let results: Vec<_> = thread::scope(|scope| {
+        let workers: Vec<_> = (0..threads).map(|_| scope.spawn(work)).collect();
+        workers.into_iter().map(|worker| worker.join()).collect()
+    });
+    for result in results {
+        match result {
+            Ok(Ok(more)) => counts.merge(&more),
+            Ok(Err((case, message))) => {
+                return Err(format!("case {case} of seed {seed}: {message}"));
+            }
+            Err(_) => return Err(format!("a thread panicked; seed {seed}")),
+        }
+    }
+    Ok(counts)
 }

@@ -10,9 +10,11 @@ use lib.Seq.{getD-set-same, getD-set-other}
 use Rattle.model.specs.Limits.{workNumbers}
 use Rattle.model.specs.Level.{Version}
 use Rattle.versions.specs.Log.{maxVersions, logStart, firstOf, secondOf, versionOf, versionAt, logOf, Within}
-use Rattle.versions.specs.Changes.{Outside, stored, Appended}
+use Rattle.rows.specs.Change.{Outside}
+use Rattle.rows.proofs.Laws.Outside.{outside-wider, outside-then}
+use Rattle.versions.specs.Changes.{stored, Appended}
 use Rattle.versions.proofs.Laws.Packing.{version-back}
-use Rattle.versions.proofs.Laws.Outside.{outside-then, outside-wider, outside-set, outside-rest}
+use Rattle.versions.proofs.Laws.Outside.{outside-set, outside-rest}
 
 pub log-none : (w : List ℕ) (start : ℕ) → logOf w start 0 ≡ []
 unfolding logOf
@@ -56,8 +58,8 @@ appended w level n v p q h s f g =
     let there : at < length w = omega arith in
     let next : at + 1 < length one = rw length-set (omega arith) in
     let out : Outside w two at (at + 2) =
-    outside-then (outside-wider at (at + 2) (omega arith) (omega arith) (outside-set w at p))
-    (outside-wider at (at + 2) (omega arith) (omega arith) (outside-set one (at + 1) q)) in
+    outside-then w one two at (at + 2) (outside-wider w one at (at + 1) at (at + 2) (omega arith) (omega arith) (outside-set w at p))
+    (outside-wider one two (at + 1) (at + 1 + 1) at (at + 2) (omega arith) (omega arith) (outside-set one (at + 1) q)) in
     let first : getD two at 0 ≡ p = getD-set-other one (at + 1) at q 0 (λ z. omega arith) ∙ getD-set-same w at p 0 there in
     let second : getD two (at + 1) 0 ≡ q = getD-set-same one (at + 1) q 0 next in
     let back : versionOf p q ≡ v = ap₂ versionOf f g ∙ version-back v s (omega arith) in

@@ -1,44 +1,19 @@
-//! The check of a session, written from questions 1 to 8 of document 01
-//! and from nothing else. Each function below renders one question.
+//! The check, each question in as few passes as it takes.
 
-/// A record is 16 bytes; byte 0 is its kind.
-type Record = [u8; 16];
+use crate::limits::*;
+use crate::record::{Record, JUMP, LEVEL, OBJECT, QUIT, ROOT, SEND, SET};
 
-// Kinds of records.
-const LEVEL: u8 = 1;
-const OBJECT: u8 = 2;
-const ROOT: u8 = 4;
+const REGISTER_MAX: u8 = REGISTERS as u8 - 1;
+const FIELD_MAX: u8 = FIELDS as u8 - 1;
+const NAME_MAX: u8 = NAMES as u8 - 1;
 
-// Operations of steps.
-const SET: u8 = 1;
-const JUMP: u8 = 3;
-const SEND: u8 = 6;
-const QUIT: u8 = 7;
-
-const LEVELS_MAX: usize = 8;
-const OBJECTS_MAX: usize = 32;
-const STEPS_MAX: usize = 256;
-const METHOD_STEPS_MAX: usize = 16;
-const RECORDS_MAX: usize = LEVELS_MAX + OBJECTS_MAX + STEPS_MAX + 1;
-const REGISTER_MAX: u8 = 3;
-const FIELD_MAX: u8 = 2;
-const NAME_MAX: u8 = 15;
-
-/// The number of the first question answered no, or 0, and the place, which
-/// is 0 for all these questions.
-pub fn check(session: &[u8]) -> (u32, u32) {
-    (number(session), 0)
-}
-
-fn number(session: &[u8]) -> u32 {
-    let Some(records) = whole_records(session) else {
-        return 1;
-    };
-    let Some(parts) = split_by_kind(records) else {
-        return 2;
-    };
+/// The records of an accepted session by kind, or the number of the first
+/// question answered no.
+pub fn parts(session: &[u8]) -> Result<Parts<'_>, u32> {
+    let records = whole_records(session).ok_or(1u32)?;
+    let parts = split_by_kind(records).ok_or(2u32)?;
     if !counts_and_numbers_fit(&parts) {
-        return 3;
+        return Err(3);
     }
     let mut masks = [0; LEVELS_MAX];
     for (mask, level) in masks.iter_mut().zip(parts.levels) {
@@ -46,21 +21,21 @@ fn number(session: &[u8]) -> u32 {
     }
     let masks = &masks[..parts.levels.len()];
     if !is_partial_order(masks) {
-        return 4;
+        return Err(4);
     }
     if !has_least_upper_bounds(masks) {
-        return 5;
+        return Err(5);
     }
     if !objects_fit(parts.objects, masks.len()) {
-        return 6;
+        return Err(6);
     }
     if !steps_fit(parts.steps, parts.objects.len()) {
-        return 7;
+        return Err(7);
     }
     if !root_fits(parts.root, parts.objects.len()) {
-        return 8;
+        return Err(8);
     }
-    0
+    Ok(parts)
 }
 
 /// Question 1: the session as 1 to 297 whole records.
@@ -70,11 +45,11 @@ fn whole_records(session: &[u8]) -> Option<&[Record]> {
 }
 
 /// The records of a session by kind.
-struct Parts<'a> {
-    levels: &'a [Record],
-    objects: &'a [Record],
-    steps: &'a [Record],
-    root: &'a Record,
+pub struct Parts<'a> {
+    pub levels: &'a [Record],
+    pub objects: &'a [Record],
+    pub steps: &'a [Record],
+    pub root: &'a Record,
 }
 
 /// Question 2: kinds 1 to 4, never falling, at least one level and one object,
@@ -108,7 +83,7 @@ fn counts_and_numbers_fit(parts: &Parts) -> bool {
     let numbered = |records: &[Record]| (0..).zip(records).all(|(i, record)| record[1] == i);
     parts.levels.len() <= LEVELS_MAX
         && parts.objects.len() <= OBJECTS_MAX
-        && parts.steps.len() <= STEPS_MAX
+        && parts.steps.len() <= STEP_RECORDS_MAX
         && numbered(parts.levels)
         && numbered(parts.objects)
         && parts.levels.iter().all(|level| level[3..] == [0; 13])
@@ -116,7 +91,7 @@ fn counts_and_numbers_fit(parts: &Parts) -> bool {
 
 /// Question 4: each mask names only present levels and its own, no two levels
 /// dominate each other, dominance is transitive. At most 8 masks.
-pub fn is_partial_order(masks: &[u8]) -> bool {
+fn is_partial_order(masks: &[u8]) -> bool {
     masks.iter().enumerate().all(|(i, &mask)| {
         let own = 1 << i;
         u32::from(mask) < 1 << masks.len()
@@ -131,7 +106,7 @@ pub fn is_partial_order(masks: &[u8]) -> bool {
 
 /// Question 5: every pair of levels has a least upper bound. The masks, at most
 /// 8, have passed question 4.
-pub fn has_least_upper_bounds(masks: &[u8]) -> bool {
+fn has_least_upper_bounds(masks: &[u8]) -> bool {
     // Bit k of above[i] is set when level k dominates level i.
     let mut above = [0u8; LEVELS_MAX];
     for (k, mask) in masks.iter().enumerate() {

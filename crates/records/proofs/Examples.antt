@@ -1,0 +1,50 @@
+-- Document 01's M1 and M2, from the words that a run of its session W leaves: computed by the definitions. Assumes nothing.
+use Prim.Native.Nat.{ℕ}
+use mathlib.Core.Path.{_≡_, refl}
+use mathlib.Core.List.{List, [], _∷_, _++_}
+use lib.ListN.{replicate}
+use Rattle.lattice.specs.Table.{dominates}
+use Rattle.session.specs.Lists.{tab, select, joined}
+use Rattle.session.specs.Record.{recordAt, recordsOf}
+use Rattle.session.specs.Parts.{ofKind, masksOf}
+use Rattle.session.specs.Program.{programOf}
+use Rattle.session.specs.SessionW.{sessionW}
+use Rattle.model.specs.Result.{objectRecord, historyRecord, replyRecord, objectsShown, historiesShown, replyShown, bytesOf}
+use Rattle.rows.specs.Rows.{rowAt, rowsAt}
+use Rattle.records.specs.Fields.{fieldAt}
+use Rattle.records.specs.Histories.{historyOfRow, historiesAt}
+use Rattle.records.specs.Writing.{resultIn, bytesIn}
+
+-- object 0 holds 9, NIL, NIL, and object 1 holds 5, 5, NIL
+abbrev fields : List ℕ
+fields = 1 ∷ 9 ∷ 0 ∷ 0 ∷ 0 ∷ 0 ∷ 1 ∷ 5 ∷ 1 ∷ 5 ∷ 0 ∷ 0 ∷ []
+
+-- one history at each level
+abbrev histories : List ℕ
+histories = 0 ∷ 0 ∷ 1 ∷ 1 ∷ 2 ∷ 5 ∷ 1 ∷ 9 ∷ replicate 248 0 ++ (0x10000000 ∷ 0 ∷ 2 ∷ 1 ∷ 1 ∷ 5 ∷ 0 ∷ 0 ∷ [])
+
+abbrev bytesFor : ℕ → List ℕ
+bytesFor c = bytesIn sessionW (resultIn fields histories (1 ∷ 1 ∷ [])) c 0
+
+abbrev object0 : List ℕ
+object0 = 5 ∷ 0 ∷ 0 ∷ 1 ∷ 9 ∷ replicate 11 0
+
+abbrev history0 : List ℕ
+history0 = 6 ∷ 0 ∷ 0 ∷ 1 ∷ 0 ∷ 0 ∷ 0 ∷ 0 ∷ 1 ∷ 0 ∷ 2 ∷ 0 ∷ 5 ∷ 0 ∷ 0 ∷ 0 ∷ []
+
+abbrev reply : List ℕ
+reply = 7 ∷ 0 ∷ 0 ∷ 1 ∷ 9 ∷ replicate 11 0
+
+abbrev object1 : List ℕ
+object1 = 5 ∷ 1 ∷ 1 ∷ 3 ∷ 5 ∷ 0 ∷ 0 ∷ 0 ∷ 5 ∷ replicate 7 0
+
+abbrev history1 : List ℕ
+history1 = 6 ∷ 1 ∷ 0 ∷ 2 ∷ 0 ∷ 0 ∷ 0 ∷ 0x10 ∷ 1 ∷ 0 ∷ 1 ∷ 0 ∷ 5 ∷ 0 ∷ 0 ∷ 0 ∷ []
+
+pub record Examples : Type 0 where
+  m1 : bytesFor 0 ≡ object0 ++ history0 ++ reply
+  m2 : bytesFor 1 ≡ object0 ++ object1 ++ history0 ++ history1 ++ reply
+
+pub examples : Examples
+unfolding dominates tab select joined recordAt recordsOf ofKind masksOf programOf sessionW objectRecord historyRecord replyRecord objectsShown historiesShown replyShown bytesOf rowAt rowsAt fieldAt historyOfRow historiesAt
+examples = record { m1 = refl; m2 = refl }

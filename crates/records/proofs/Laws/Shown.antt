@@ -1,0 +1,123 @@
+-- What is shown of one object, one level and the reply: placed, and its length. Assumes nothing.
+use Prim.Native.Nat.{ℕ, zero, suc, _+_, _*_, _≤_, _<_}
+use mathlib.Core.Path.{_≡_, refl, sym, _∙_, ap}
+use mathlib.Core.Bool.{true, false}
+use mathlib.Core.List.{List, [], _∷_, map}
+use native.Mathlib.Nat.{add-zero, mul-suc}
+use native.Mathlib.Omega.{arith}
+use lib.ListN.{length, getD, length-append}
+use Rattle.lattice.specs.Order.{Dominance}
+use Rattle.lattice.specs.Table.{dominates}
+use Rattle.session.specs.Lists.{tab, joined}
+use Rattle.session.specs.Parts.{masksOf}
+use Rattle.session.specs.Meaning.{levelOf}
+use Rattle.session.specs.Program.{Program, programOf}
+use Rattle.session.specs.declared.Value.{Value}
+use Rattle.session.specs.declared.Value.the-variants.{Nil}
+use Rattle.session.proofs.Laws.Lists.{holds, fails, truth}
+use Rattle.model.specs.Limits.{maxManagers}
+use Rattle.model.specs.History.{History}
+use Rattle.model.specs.Result.{objectRecord, historyRecord, replyRecord, replyOf}
+use Rattle.rows.specs.Rows.{rowAt, rowsAt}
+use Rattle.records.specs.Limits.{rowWords}
+use Rattle.records.specs.Fields.{valueOf}
+use Rattle.records.specs.Histories.{historyOfRow, levelPlace, historiesAt}
+use Rattle.records.specs.Writing.{shownObject, shownLevel, shownReply, Placed}
+use Rattle.records.proofs.Laws.Placed.{placed-none}
+
+-- an object: its record where the clearance dominates its level, and else nothing
+module _ (s masks : List ℕ) (field : ℕ → ℕ → Value) (c o level at next : ℕ) (b b' : List ℕ) (m : masks ≡ masksOf s) (l : level ≡ levelOf s o) where
+  pub object-shown : (made : List ℕ) → dominates masks c level ≡ true → made ≡ objectRecord o level (field o) → Placed made at b b' next
+      → Placed (shownObject (programOf s) field c o) at b b' next
+  unfolding shownObject programOf
+  object-shown made d e p =
+      let d' : dominates (masksOf s) c (levelOf s o) ≡ true = rw (m, l) at d in
+      let e' : made ≡ objectRecord o (levelOf s o) (field o) = rw l at e in
+      rw (d', sym e') p
+
+  pub object-hidden : dominates masks c level ≡ false → at ≤ length b → Placed (shownObject (programOf s) field c o) at b b at
+  unfolding shownObject programOf
+  object-hidden d h =
+      let d' : dominates (masksOf s) c (levelOf s o) ≡ false = rw (m, l) at d in
+      rw d' (placed-none at b h)
+
+-- a level and the reply
+module _ (dom : Dominance) (ended : ℕ → List History) (c l at next : ℕ) (b b' : List ℕ) where
+  pub level-shown : dom c l ≡ true → Placed (joined (map (historyRecord l) (ended l))) at b b' next → Placed (shownLevel dom ended c l) at b b' next
+  unfolding shownLevel
+  level-shown d p = rw d p
+
+  pub level-hidden : dom c l ≡ false → at ≤ length b → Placed (shownLevel dom ended c l) at b b at
+  unfolding shownLevel
+  level-hidden d h = rw d (placed-none at b h)
+
+  pub reply-shown : (made : List ℕ) (v : Value) → dom c l ≡ true → made ≡ replyRecord l v → v ≡ replyOf (ended l) → Placed made at b b' next
+      → Placed (shownReply dom ended c l) at b b' next
+  unfolding shownReply
+  reply-shown made v d e r p =
+      let e' : made ≡ replyRecord l (replyOf (ended l)) = rw r at e in
+      rw (d, sym e') p
+
+  pub reply-hidden : dom c l ≡ false → at ≤ length b → Placed (shownReply dom ended c l) at b b at
+  unfolding shownReply
+  reply-hidden d h = rw d (placed-none at b h)
+
+-- a map of a `tab`
+pub map-tab : {A B : Type 0} (f : A → B) (n : ℕ) (g : ℕ → A) → map f (tab n g) ≡ tab n (λ i. f (g i))
+unfolding tab
+map-tab f zero g = refl
+map-tab f (suc n) g = ap (λ t. f (g zero) ∷ t) (map-tab f n (λ i. g (suc i)))
+
+-- the histories of a level, row by row
+abbrev pub historyBytes : List ℕ → ℕ → ℕ → List ℕ
+historyBytes ws l i = historyRecord l (historyOfRow (rowAt ws (levelPlace l + rowWords * i) rowWords))
+
+pub histories-rows : (ws : List ℕ) (l n : ℕ) → map (historyRecord l) (historiesAt ws l n) ≡ tab n (historyBytes ws l)
+unfolding historiesAt rowsAt
+histories-rows ws l n =
+    ap (map (historyRecord l)) (map-tab historyOfRow n (λ i. rowAt ws (levelPlace l + rowWords * i) rowWords))
+    ∙ map-tab (historyRecord l) n (λ i. historyOfRow (rowAt ws (levelPlace l + rowWords * i) rowWords))
+
+-- the reply of a level's first history
+pub reply-none : (ws : List ℕ) (l n : ℕ) → n ≡ 0 → Nil ≡ replyOf (historiesAt ws l n)
+unfolding historiesAt rowsAt tab
+reply-none ws l n e = rw e refl
+
+pub reply-first : (ws : List ℕ) (l n : ℕ) → (n ≡ 0 → ⊥) → valueOf (getD ws (levelPlace l + 6) 0) (getD ws (levelPlace l + 7) 0) ≡ replyOf (historiesAt ws l n)
+unfolding historiesAt historyOfRow rowsAt rowAt tab
+reply-first ws l zero h = absurd (h refl)
+reply-first ws l (suc n) h = rw (add-zero (levelPlace l)) refl
+
+-- how long each is
+pub object-length : (p : Program) (field : ℕ → ℕ → Value) (c o : ℕ) → length (shownObject p field c o) ≤ 16
+unfolding shownObject objectRecord
+object-length p field c o = elim (truth (p .dom c (p .level o))) [
+  | holds e ↦ rw e (omega arith)
+  | fails e ↦ rw e (omega arith)
+]
+
+pub reply-length : (dom : Dominance) (ended : ℕ → List History) (c l : ℕ) → length (shownReply dom ended c l) ≤ 16
+unfolding shownReply replyRecord
+reply-length dom ended c l = elim (truth (dom c l)) [
+  | holds e ↦ rw e (omega arith)
+  | fails e ↦ rw e (omega arith)
+]
+
+records-length : (l : ℕ) (hs : List History) → length (joined (map (historyRecord l) hs)) ≡ 16 * length hs
+unfolding joined historyRecord
+records-length l [] = refl
+records-length l (h ∷ hs) = length-append (historyRecord l h) (joined (map (historyRecord l) hs)) ∙ omega (arith, records-length l hs)
+
+pub level-length : (dom : Dominance) (ended : ℕ → List History) (c l : ℕ) → length (ended l) ≤ maxManagers → length (shownLevel dom ended c l) ≤ 512
+unfolding shownLevel
+level-length dom ended c l h = elim (truth (dom c l)) [
+  | holds e ↦ rw e (omega (arith, records-length l (ended l)))
+  | fails e ↦ rw e (omega arith)
+]
+
+-- groups of at most k bytes each
+pub groups-length : (k n : ℕ) (g : ℕ → List ℕ) → ((i : ℕ) → i < n → length (g i) ≤ k) → length (joined (tab n g)) ≤ k * n
+unfolding tab joined
+groups-length k zero g h = omega arith
+groups-length k (suc n) g h =
+    omega (arith, length-append (g zero) (joined (tab n (λ i. g (suc i)))), h zero (omega arith), mul-suc k n, groups-length k n (λ i. g (suc i)) (λ i l. h (suc i) (omega arith)))

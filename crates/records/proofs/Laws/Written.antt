@@ -1,0 +1,125 @@
+-- The bytes of a result as what is shown of each object, each level and the reply, and how many there are. Assumes nothing.
+use Prim.Native.Nat.{ℕ, zero, suc, _+_, _≤_, _<_}
+use mathlib.Core.Path.{_≡_, refl, _∙_, ap, ap₂}
+use mathlib.Core.Bool.{Bool, cond}
+use mathlib.Core.List.{List, [], _∷_, _++_, map, append-nil}
+use native.Mathlib.Omega.{arith}
+use lib.ListN.{length, length-append}
+use Rattle.lattice.specs.Table.{dominates}
+use Rattle.session.specs.Limits.{maxLevels, maxObjects}
+use Rattle.session.specs.Lists.{tab, joined, select}
+use Rattle.session.specs.Parts.{levelCount, objectCount, masksOf}
+use Rattle.session.specs.Program.{Program, programOf}
+use Rattle.session.proofs.Laws.Lists.{holds, fails, truth}
+use Rattle.session.proofs.Laws.Contents.{masks-length, level-limit, object-limit}
+use Rattle.model.specs.Limits.{maxManagers, resultBytes}
+use Rattle.model.specs.Result.{Result, objectRecord, historyRecord, replyRecord, replyOf, objectsShown, historiesShown, replyShown, bytesOf, byNumber}
+use Rattle.records.specs.Fields.{fieldAt, FieldsReady}
+use Rattle.records.specs.Histories.{endedIn, HistoriesReady}
+use Rattle.records.specs.Writing.{resultIn, bytesIn, shownObject, shownLevel, shownReply, Placed, Written}
+use Rattle.records.proofs.Laws.Histories.{ended-few}
+use Rattle.records.proofs.Laws.Placed.{placed-then, placed-written, joined-append}
+use Rattle.records.proofs.Laws.Shown.{object-length, level-length, reply-length, groups-length}
+
+-- what is made of the numbers that pass, joined
+chosen : (P : ℕ → Bool) (f : ℕ → List ℕ) (n : ℕ) (h : ℕ → ℕ) → joined (map f (select P (tab n h))) ≡ joined (tab n (λ i. cond (P (h i)) (f (h i)) []))
+unfolding joined select tab
+chosen P f zero h = refl
+chosen P f (suc n) h = elim (truth (P (h zero))) [
+  | holds e ↦ rw e (ap (λ t. f (h zero) ++ t) (chosen P f n (λ i. h (suc i))))
+  | fails e ↦ rw e (chosen P f n (λ i. h (suc i)))
+]
+
+-- groups of records joined: all at once or group by group
+joined-groups : (g : ℕ → List (List ℕ)) (xs : List ℕ) → joined (joined (map g xs)) ≡ joined (map (λ x. joined (g x)) xs)
+unfolding joined
+joined-groups g [] = refl
+joined-groups g (x ∷ xs) = joined-append (g x) (joined (map g xs)) ∙ ap (λ t. joined (g x) ++ t) (joined-groups g xs)
+
+module _ (p : Program) (r : Result) (c : ℕ) where
+  objects-bytes : joined (objectsShown p r c) ≡ joined (tab (p .objects) (shownObject p (r .field) c))
+  unfolding objectsShown shownObject
+  objects-bytes = chosen (λ o. p .dom c (p .level o)) (λ o. objectRecord o (p .level o) (r .field o)) (p .objects) (λ o. o)
+
+  histories-bytes : joined (historiesShown r (byNumber p c)) ≡ joined (tab (p .levels) (shownLevel (p .dom) (r .ended) c))
+  unfolding historiesShown shownLevel
+  histories-bytes =
+      joined-groups (λ l. map (historyRecord l) (r .ended l)) (byNumber p c)
+      ∙ chosen (p .dom c) (λ l. joined (map (historyRecord l) (r .ended l))) (p .levels) (λ l. l)
+
+  reply-bytes : (rootLevel : ℕ) → joined (replyShown p r c rootLevel) ≡ shownReply (p .dom) (r .ended) c rootLevel
+  unfolding joined replyShown shownReply
+  reply-bytes rootLevel = elim (truth (p .dom c rootLevel)) [
+    | holds e ↦ rw e (append-nil (replyRecord rootLevel (replyOf (r .ended rootLevel))))
+    | fails e ↦ rw e refl
+  ]
+
+  -- the bytes, the level groups by rising number
+  pub bytes-are : (rootLevel : ℕ) → bytesOf p rootLevel r c (byNumber p c)
+      ≡ joined (tab (p .objects) (shownObject p (r .field) c)) ++ joined (tab (p .levels) (shownLevel (p .dom) (r .ended) c)) ++ shownReply (p .dom) (r .ended) c rootLevel
+  unfolding bytesOf
+  bytes-are rootLevel =
+      joined-append (objectsShown p r c ++ historiesShown r (byNumber p c)) (replyShown p r c rootLevel)
+      ∙ ap₂ _++_ (joined-append (objectsShown p r c) (historiesShown r (byNumber p c)) ∙ ap₂ _++_ objects-bytes histories-bytes) (reply-bytes rootLevel)
+
+  -- "at most 8 levels, 32 objects", and 32 managers a level: they fit question 11's buffer
+  pub bytes-fit : (rootLevel : ℕ) → p .levels ≤ maxLevels → p .objects ≤ maxObjects → ((l : ℕ) → l < p .levels → length (r .ended l) ≤ maxManagers)
+      → length (bytesOf p rootLevel r c (byNumber p c)) ≤ resultBytes
+  bytes-fit rootLevel hl ho h =
+      let objects = joined (tab (p .objects) (shownObject p (r .field) c)) in
+      let histories = joined (tab (p .levels) (shownLevel (p .dom) (r .ended) c)) in
+      let reply = shownReply (p .dom) (r .ended) c rootLevel in
+      omega (
+        arith,
+        ap length (bytes-are rootLevel),
+        length-append (objects ++ histories) reply,
+        length-append objects histories,
+        groups-length 16 (p .objects) (shownObject p (r .field) c) (λ o l. object-length p (r .field) c o),
+        groups-length 512 (p .levels) (shownLevel (p .dom) (r .ended) c) (λ l m. level-length (p .dom) (r .ended) c l (h l m)),
+        reply-length (p .dom) (r .ended) c rootLevel,
+      )
+
+-- a run's words, of an accepted session
+module _ (s masks fields histories counts : List ℕ) (c : ℕ) (f : FieldsReady s masks fields) (h : HistoriesReady histories counts) where
+  -- as many masks as levels, and at most 8
+  pub table-length : length masks ≡ levelCount s
+  table-length = ap length (f .table) ∙ masks-length s (f .accepted)
+
+  pub table-few : length masks ≤ maxLevels
+  table-few = omega (arith, table-length, level-limit s (f .accepted))
+
+  -- how many bytes the objects and the levels take at most
+  pub objects-few : length (joined (tab (objectCount s) (shownObject (programOf s) (fieldAt fields) c))) ≤ 512
+  objects-few =
+      omega (
+        arith,
+        object-limit s (f .accepted),
+        groups-length 16 (objectCount s) (shownObject (programOf s) (fieldAt fields) c) (λ o l. object-length (programOf s) (fieldAt fields) c o),
+      )
+
+  pub levels-few : length (joined (tab (length masks) (shownLevel (dominates masks) (endedIn histories counts) c))) ≤ 4096
+  levels-few =
+      omega (
+        arith,
+        table-few,
+        groups-length 512 (length masks) (shownLevel (dominates masks) (endedIn histories counts) c)
+            (λ l m. level-length (dominates masks) (endedIn histories counts) c l (ended-few histories counts h l (omega (arith, table-few)))),
+      )
+
+  -- objects, levels and reply, placed one behind the other, are the whole result
+  pub all-written : (rootLevel m n k : ℕ) (b b1 b2 b3 : List ℕ)
+      → Placed (joined (tab (objectCount s) (shownObject (programOf s) (fieldAt fields) c))) 0 b b1 m
+      → Placed (joined (tab (length masks) (shownLevel (dominates masks) (endedIn histories counts) c))) m b1 b2 n
+      → Placed (shownReply (dominates masks) (endedIn histories counts) c rootLevel) n b2 b3 k
+      → Written (bytesIn s (resultIn fields histories counts) c rootLevel) b b3 k
+  unfolding programOf
+  all-written rootLevel m n k b b1 b2 b3 po pl pr =
+      let ended = endedIn histories counts in
+      let objects = joined (tab (objectCount s) (shownObject (programOf s) (fieldAt fields) c)) in
+      let levels = joined (tab (levelCount s) (shownLevel (dominates (masksOf s)) ended c)) in
+      let reply = shownReply (dominates (masksOf s)) ended c rootLevel in
+      let pl' : Placed levels m b1 b2 n = rw (table-length, f .table) at pl in
+      let pr' : Placed reply n b2 b3 k = rw (f .table) at pr in
+      let all : Placed (objects ++ levels ++ reply) 0 b b3 k =
+      placed-then b b2 (objects ++ levels) 0 n (placed-then b b1 objects 0 m po b2 levels n pl') b3 reply k pr' in
+      rw (bytes-are (programOf s) (resultIn fields histories counts) c rootLevel) (placed-written (objects ++ levels ++ reply) b b3 k all)

@@ -1,0 +1,51 @@
+-- The fields of a run, kept in words. Assumes nothing.
+use Prim.Native.Nat.{ℕ, _+_, _*_, _≤_, _<_}
+use mathlib.Core.Path.{_≡_}
+use mathlib.Core.Bool.{cond}
+use mathlib.Core.List.{List}
+use lib.Dec.{eqb}
+use lib.ListN.{length, getD}
+use Rattle.session.specs.Limits.{maxObjects, fields}
+use Rattle.session.specs.Parts.{objectCount, masksOf}
+use Rattle.session.specs.Questions.{verdictOf}
+use Rattle.session.specs.Meaning.{fieldOf}
+use Rattle.session.specs.declared.Verdict.the-variants.{Accepted}
+use Rattle.session.specs.declared.Value.{Value}
+use Rattle.session.specs.declared.Value.the-variants.{Nil, Number}
+use Rattle.rows.specs.Change.{Outside}
+use Rattle.records.specs.Limits.{fieldWords}
+
+-- a value in two words: "tag (1 number, 0 NIL)", and the number
+abbrev pub valueOf : ℕ → ℕ → Value
+valueOf tag n = cond (eqb tag 1) (Number n) Nil
+
+-- where the two words of a field stand
+abbrev pub fieldPlace : ℕ → ℕ → ℕ
+fieldPlace o k = 2 * (fields * o + k)
+
+-- what field k of object o holds
+unfoldable pub fieldAt : List ℕ → ℕ → ℕ → Value
+fieldAt ws o k = valueOf (getD ws (fieldPlace o k) 0) (getD ws (fieldPlace o k + 1) 0)
+
+-- there are words for the fields of an accepted session, with its level table
+pub record FieldsReady (s masks ws : List ℕ) : Type 0 where
+  pub accepted : verdictOf s ≡ Accepted
+  pub table : masks ≡ masksOf s
+  pub room : fieldWords ≤ length ws
+
+-- the words of field k of object o are there
+pub record FieldThere (ws : List ℕ) (o k : ℕ) : Type 0 where
+  pub room : fieldWords ≤ length ws
+  pub object : o < maxObjects
+  pub field : k < fields
+
+-- one field holds v, and no other word is touched
+pub record FieldSet (ws ws' : List ℕ) (o k : ℕ) (v : Value) : Type 0 where
+  pub set : fieldAt ws' o k ≡ v
+  pub others : (o' k' : ℕ) → k' < fields → (o' ≡ o → k' ≡ k → ⊥) → fieldAt ws' o' k' ≡ fieldAt ws o' k'
+  pub outside : Outside ws ws' (fieldPlace o k) (fieldPlace o k + 2)
+
+-- "Initial fields": each present object's, and no word behind them is touched
+pub record Filled (s ws ws' : List ℕ) : Type 0 where
+  pub fields-are : (o k : ℕ) → o < objectCount s → k < fields → fieldAt ws' o k ≡ fieldOf s o k
+  pub outside : Outside ws ws' 0 (fieldPlace (objectCount s) 0)

@@ -1,0 +1,87 @@
+-- The histories of a run, kept in words: eight for each, by level and fork stamp. Assumes nothing.
+use Prim.Native.Nat.{ℕ, _+_, _*_, _%_, _^_, _≤_, _<_}
+use mathlib.Core.Path.{_≡_}
+use mathlib.Core.Bool.{true, false, cond}
+use mathlib.Core.List.{List, map}
+use lib.Dec.{eqb}
+use lib.ListN.{length, getD}
+use Rattle.session.specs.Limits.{maxLevels}
+use Rattle.session.specs.Lists.{risingFrom}
+use Rattle.managers.specs.Manager.{isRunning}
+use Rattle.managers.specs.declared.Ending.{Ending}
+use Rattle.managers.specs.declared.Ending.the-variants.{Finished, OutOfSteps, OutOfWrites}
+use Rattle.model.specs.Limits.{maxManagers}
+use Rattle.model.specs.Lists.{inserted}
+use Rattle.model.specs.History.{History}
+use Rattle.rows.specs.Rows.{rowsAt}
+use Rattle.rows.specs.Change.{Outside}
+use Rattle.records.specs.Limits.{rowWords, levelWords, historyWords}
+use Rattle.records.specs.Fields.{valueOf}
+use Rattle.records.specs.declared.Ended.{Ended}
+
+-- "Endings: 0 stack empty; 1 the 256th step left frames; 2 a seventeenth write"
+abbrev pub endingOf : ℕ → Ending
+endingOf n = cond (eqb n 0) Finished (cond (eqb n 1) OutOfSteps OutOfWrites)
+
+-- the history in a row: its fork stamp, which is the row's key, ending, writes (a byte), first and last write stamp, script steps and reply
+unfoldable pub historyOfRow : List ℕ → History
+historyOfRow row =
+    record {
+      ending = endingOf (getD row 1 0);
+      writes = getD row 2 0 % 2 ^ 8;
+      stamp = getD row 0 0;
+      first = getD row 3 0;
+      last = getD row 4 0;
+      steps = getD row 5 0;
+      reply = valueOf (getD row 6 0) (getD row 7 0);
+    }
+
+-- where the histories of level l stand
+abbrev pub levelPlace : ℕ → ℕ
+levelPlace l = levelWords * l
+
+-- the first n histories of level l
+unfoldable pub historiesAt : List ℕ → ℕ → ℕ → List History
+historiesAt ws l n = map historyOfRow (rowsAt ws (levelPlace l) rowWords n)
+
+-- those of each level, as many as are counted
+abbrev pub endedIn : List ℕ → List ℕ → ℕ → List History
+endedIn ws counts l = historiesAt ws l (getD counts l 0)
+
+-- "in stamp order"
+abbrev pub InOrder : List History → Type 0
+InOrder hs = risingFrom (λ h. h .stamp) 0 hs ≡ true
+
+-- the history of a manager that has ended
+abbrev pub historyOf : Ended → History
+historyOf e =
+    record {
+      ending = e .ending;
+      writes = e .writes;
+      stamp = e .stamp;
+      first = e .first;
+      last = e .last;
+      steps = e .steps;
+      reply = e .reply;
+    }
+
+-- there are words for the histories of each level, and a number for each of how many it has
+pub record HistoriesReady (ws counts : List ℕ) : Type 0 where
+  pub room : historyWords ≤ length ws
+  pub levels : maxLevels ≤ length counts
+  pub counted : (l : ℕ) → l < maxLevels → getD counts l 0 ≤ maxManagers
+
+-- level l has `count` histories in order, and room for one more; the manager has ended
+pub record HistoryRoom (ws : List ℕ) (l count : ℕ) (e : Ended) : Type 0 where
+  pub room : historyWords ≤ length ws
+  pub level : l < maxLevels
+  pub more : count < maxManagers
+  pub rises : InOrder (historiesAt ws l count)
+  pub ended : isRunning (e .ending) ≡ false
+
+-- level l has one history more, in stamp order; no other level's are touched
+pub record Added (ws ws' : List ℕ) (l count : ℕ) (e : Ended) : Type 0 where
+  pub histories : historiesAt ws' l (count + 1) ≡ inserted (λ h. h .stamp) (historyOf e) (historiesAt ws l count)
+  pub rises : InOrder (historiesAt ws' l (count + 1))
+  pub others : (l' n : ℕ) → (l' ≡ l → ⊥) → n ≤ maxManagers → historiesAt ws' l' n ≡ historiesAt ws l' n
+  pub outside : Outside ws ws' (levelPlace l) (levelPlace l + rowWords * (count + 1))

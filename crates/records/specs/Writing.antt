@@ -1,0 +1,53 @@
+-- The records of a run, written to a buffer. Assumes nothing.
+use Prim.Native.Nat.{ℕ, _+_, _≤_, _<_}
+use mathlib.Core.Path.{_≡_}
+use mathlib.Core.Bool.{cond}
+use mathlib.Core.List.{List, [], _++_, map}
+use lib.ListN.{length, take, drop}
+use Rattle.lattice.specs.Order.{Dominance}
+use Rattle.session.specs.Lists.{joined}
+use Rattle.session.specs.Parts.{levelCount}
+use Rattle.session.specs.Program.{Program, programOf}
+use Rattle.session.specs.declared.Value.{Value}
+use Rattle.model.specs.Limits.{resultBytes}
+use Rattle.model.specs.History.{History}
+use Rattle.model.specs.Result.{Result, objectRecord, historyRecord, replyRecord, replyOf, bytesOf, byNumber}
+use Rattle.model.specs.Entries.{writtenOver}
+use Rattle.records.specs.Fields.{fieldAt, FieldsReady}
+use Rattle.records.specs.Histories.{endedIn, HistoriesReady}
+
+-- what the words of a run say
+abbrev pub resultIn : List ℕ → List ℕ → List ℕ → Result
+resultIn fields histories counts = record { field = fieldAt fields; ended = endedIn histories counts }
+
+-- the bytes of its records for clearance c, the level groups by rising number
+abbrev pub bytesIn : List ℕ → Result → ℕ → ℕ → List ℕ
+bytesIn s r c rootLevel = bytesOf (programOf s) rootLevel r c (byNumber (programOf s) c)
+
+-- the words of a run of session s are there, the root's level is present, and there is room for the records
+pub record Ready (s masks fields histories counts : List ℕ) (rootLevel : ℕ) (buffer : List ℕ) : Type 0 where
+  pub fields-ready : FieldsReady s masks fields
+  pub histories-ready : HistoriesReady histories counts
+  pub root : rootLevel < levelCount s
+  pub room : resultBytes ≤ length buffer
+
+-- "For levels the clearance dominates": an object's record, a level's histories and the reply, or nothing
+unfoldable pub shownObject : Program → (ℕ → ℕ → Value) → ℕ → ℕ → List ℕ
+shownObject p field c o = cond (p .dom c (p .level o)) (objectRecord o (p .level o) (field o)) []
+
+unfoldable pub shownLevel : Dominance → (ℕ → List History) → ℕ → ℕ → List ℕ
+shownLevel dom ended c l = cond (dom c l) (joined (map (historyRecord l) (ended l))) []
+
+unfoldable pub shownReply : Dominance → (ℕ → List History) → ℕ → ℕ → List ℕ
+shownReply dom ended c l = cond (dom c l) (replyRecord l (replyOf (ended l))) []
+
+-- bytes stand in a buffer from `at` up to `next`, and nothing else is touched
+pub record Placed (bytes : List ℕ) (at : ℕ) (before after : List ℕ) (next : ℕ) : Type 0 where
+  pub buffer : after ≡ take at before ++ bytes ++ drop next before
+  pub ends : next ≡ at + length bytes
+  pub fits : next ≤ length before
+
+-- "the count of result bytes written"; "beyond the result written, nothing changes"
+pub record Written (bytes before after : List ℕ) (count : ℕ) : Type 0 where
+  pub number : count ≡ length bytes
+  pub buffer : after ≡ writtenOver bytes before

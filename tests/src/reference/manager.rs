@@ -1,0 +1,367 @@
+//! A message manager and its script steps, the same in every run. What differs
+//! from run to run is the `World`: where fields are kept and what a fork does.
+
+use super::filter::{filter, Delivery};
+use super::session::Session;
+use crate::limits::*;
+use crate::record::{History, Operation, Value};
+use crate::tally::Event;
+
+/// What a run provides for its managers.
+pub trait World {
+    fn read(&mut self, reader: &Manager, object: u8, field: u8) -> Value;
+    fn write(&mut self, writer: &Manager, object: u8, field: u8, value: Value);
+    /// A fork that is made; the world keeps or drops it.
+    fn fork(&mut self, fork: Fork);
+    fn saw(&mut self, event: Event);
+}
+
+/// A manager to be: the message and what the fork carries.
+pub struct Fork {
+    pub level: usize,
+    pub stamp: u32,
+    /// How many forks deep: 0 for the root.
+    pub depth: u32,
+    /// The ancestors' levels, with the write stamp of each one's fork on the way.
+    pub ancestors: Vec<(usize, u32)>,
+    pub object: u8,
+    pub name: u8,
+    pub parameter: Value,
+}
+
+impl Fork {
+    pub fn root(session: &Session) -> Fork {
+        Fork {
+            level: session.root_level(),
+            stamp: 0,
+            depth: 0,
+            ancestors: Vec::new(),
+            object: session.root_object,
+            name: session.root_name,
+            parameter: session.root_parameter,
+        }
+    }
+}
+
+struct Frame {
+    object: u8,
+    name: u8,
+    /// The step to be made next, counted from 0.
+    next: usize,
+    registers: [Value; REGISTERS],
+    /// The sender's register that gets the reply, if any.
+    reply_to: Option<u8>,
+}
+
+pub struct Manager {
+    pub level: usize,
+    pub fork_stamp: u32,
+    pub ancestors: Vec<(usize, u32)>,
+    depth: u32,
+    frames: Vec<Frame>,
+    steps: u32,
+    writes: u32,
+    forks: u32,
+    first_write_stamp: u32,
+    pub write_stamp: u32,
+    ending: Option<u8>,
+    reply: Value,
+}
+
+impl Manager {
+    /// Makes the first frame. An empty first method ends in the start.
+    pub fn start(fork: Fork, write_stamp: u32, session: &Session, world: &mut impl World) -> Self {
+        let mut manager = Manager {
+            level: fork.level,
+            fork_stamp: fork.stamp,
+            ancestors: fork.ancestors,
+            depth: fork.depth,
+            frames: Vec::new(),
+            steps: 0,
+            writes: 0,
+            forks: 0,
+            first_write_stamp: write_stamp,
+            write_stamp,
+            ending: None,
+            reply: None,
+        };
+        if write_stamp > 1 {
+            world.saw(Event::NextManager);
+        }
+        if fork.depth == 7 {
+            world.saw(Event::SevenDeep);
+        }
+        if fork.depth >= 2 && session.lattice.top() == Some(fork.level) {
+            world.saw(Event::NestedToTop);
+        }
+        manager.push(fork.object, fork.name, fork.parameter, None, world);
+        manager.pop_finished(0, session, world);
+        if manager.frames.is_empty() {
+            world.saw(Event::EmptyManager);
+            manager.ending = Some(0);
+        }
+        manager
+    }
+
+    pub fn has_ended(&self) -> bool {
+        self.ending.is_some()
+    }
+
+    /// One script step.
+    pub fn step(&mut self, session: &Session, world: &mut impl World) {
+        let frame = self
+            .frames
+            .last_mut()
+            .expect("a running manager has frames");
+        let script = session.script(frame.object, frame.name);
+        let operation = script[frame.next];
+        frame.next += 1;
+        self.steps += 1;
+        let mut pops = 0;
+        match operation {
+            Operation::Set { a, n } => *self.register(a) = Some(n),
+            Operation::Add { a, b } => self.add(a, b, world),
+            Operation::Jump { a, target } => {
+                if self.register(a).unwrap_or(0) == 0 {
+                    self.jump(usize::from(target), script.len(), world);
+                }
+            }
+            Operation::Read { a, field } => {
+                let value = world.read(self, self.object(), field);
+                *self.register(a) = value;
+            }
+            Operation::Write { a, field } => {
+                if !self.write(a, field, script.len(), session, world) {
+                    return;
+                }
+            }
+            Operation::Send { a, name, object } => self.send(a, name, object, session, world),
+            Operation::Quit { a } => {
+                let reply = *self.register(a);
+                self.pop(reply, world);
+                pops = 1;
+            }
+        }
+        self.pop_finished(pops, session, world);
+        self.end_if_over(world);
+    }
+
+    fn end_if_over(&mut self, world: &mut impl World) {
+        let is_last = self.steps == STEPS_MAX;
+        if self.frames.is_empty() {
+            self.ending = Some(0);
+            if is_last {
+                world.saw(Event::LastStepEmpties);
+            }
+        } else if is_last {
+            self.ending = Some(1);
+            world.saw(Event::LastStepLeaves);
+        }
+        if self.has_ended() && self.writes == WRITES_MAX {
+            world.saw(Event::SixteenWrites);
+        }
+    }
+
+    fn top(&mut self) -> &mut Frame {
+        self.frames
+            .last_mut()
+            .expect("a running manager has frames")
+    }
+
+    fn register(&mut self, a: u8) -> &mut Value {
+        &mut self.top().registers[usize::from(a)]
+    }
+
+    fn object(&self) -> u8 {
+        self.frames
+            .last()
+            .expect("a running manager has frames")
+            .object
+    }
+
+    fn add(&mut self, a: u8, b: u8, world: &mut impl World) {
+        let (x, y) = (*self.register(a), *self.register(b));
+        if x.zip(y).is_some_and(|(x, y)| x.checked_add(y).is_none()) {
+            world.saw(Event::AddWraps);
+        }
+        *self.register(a) = x.zip(y).map(|(x, y)| x.wrapping_add(y));
+    }
+
+    fn jump(&mut self, target: usize, length: usize, world: &mut impl World) {
+        if target == length {
+            world.saw(Event::JumpToEnd);
+        }
+        self.top().next = target;
+    }
+
+    /// False for a seventeenth write, which ends the manager.
+    fn write(
+        &mut self,
+        a: u8,
+        field: u8,
+        length: usize,
+        session: &Session,
+        world: &mut impl World,
+    ) -> bool {
+        let object = self.object();
+        if session.level_of(object) != self.level {
+            world.saw(Event::WriteBelow);
+            return true;
+        }
+        if self.writes == WRITES_MAX {
+            world.saw(Event::SeventeenthWrite);
+            if self.steps == STEPS_MAX {
+                world.saw(Event::SeventeenthAtLastStep);
+            }
+            if self.frames.len() == 1 && self.top().next == length {
+                world.saw(Event::SeventeenthAtEnd);
+            }
+            self.ending = Some(2);
+            return false;
+        }
+        self.writes += 1;
+        let value = *self.register(a);
+        if value.is_none() {
+            world.saw(Event::WriteNil);
+        }
+        world.write(self, object, field, value);
+        true
+    }
+
+    fn send(&mut self, a: u8, name: u8, object: u8, session: &Session, world: &mut impl World) {
+        let from = session.level_of(self.object());
+        let to = session.level_of(object);
+        let parameter = *self.register(a);
+        match filter(&session.lattice, self.level, from, to) {
+            Delivery::Frame => {
+                if from != to {
+                    world.saw(Event::DownwardSend);
+                }
+                self.push(object, name, parameter, Some(a), world);
+            }
+            Delivery::FrameWithoutReply => {
+                world.saw(Event::UpwardInside);
+                *self.register(a) = None;
+                self.push(object, name, parameter, None, world);
+            }
+            Delivery::Fork(level) => {
+                if level != to {
+                    world.saw(Event::JoinAboveBoth);
+                }
+                *self.register(a) = None;
+                self.fork(level, (object, name), parameter, world);
+            }
+            Delivery::Nothing => {
+                world.saw(Event::IncomparableSend);
+                *self.register(a) = None;
+            }
+        }
+    }
+
+    /// A new frame, unless it is the ninth.
+    fn push(
+        &mut self,
+        object: u8,
+        name: u8,
+        parameter: Value,
+        reply_to: Option<u8>,
+        world: &mut impl World,
+    ) {
+        if self.frames.len() == FRAMES_MAX {
+            match reply_to {
+                Some(a) => *self.register(a) = None,
+                None => world.saw(Event::NinthFrameUpward),
+            }
+            world.saw(Event::NinthFrame);
+            return;
+        }
+        self.frames.push(Frame {
+            object,
+            name,
+            next: 0,
+            registers: [parameter, None, None, None],
+            reply_to,
+        });
+        if self.frames.len() == FRAMES_MAX {
+            world.saw(Event::EighthFrame);
+        }
+    }
+
+    fn fork(
+        &mut self,
+        level: usize,
+        (object, name): (u8, u8),
+        parameter: Value,
+        world: &mut impl World,
+    ) {
+        if self.forks == FORKS_MAX {
+            world.saw(Event::SixteenthFork);
+            return;
+        }
+        self.forks += 1;
+        if self.forks == FORKS_MAX {
+            world.saw(Event::FifteenthFork);
+        }
+        let mut ancestors = self.ancestors.clone();
+        ancestors.push((self.level, self.write_stamp));
+        self.write_stamp += 1;
+        world.fork(Fork {
+            level,
+            stamp: self.fork_stamp + self.forks * 16u32.pow(7 - self.depth),
+            depth: self.depth + 1,
+            ancestors,
+            object,
+            name,
+            parameter,
+        });
+    }
+
+    /// The top frame replies and goes.
+    fn pop(&mut self, reply: Value, world: &mut impl World) {
+        let frame = self.frames.pop().expect("a running manager has frames");
+        match (self.frames.last_mut(), frame.reply_to) {
+            (None, _) => self.reply = reply,
+            (Some(sender), Some(a)) => sender.registers[usize::from(a)] = reply,
+            (Some(_), None) if reply.is_some() => world.saw(Event::ReplyThrownAway),
+            (Some(_), None) => {}
+        }
+    }
+
+    /// Pops top frames at their script's end. `pops` were made before in the step.
+    fn pop_finished(&mut self, pops: usize, session: &Session, world: &mut impl World) {
+        let mut count = pops;
+        while let Some(frame) = self.frames.last() {
+            let length = session.script(frame.object, frame.name).len();
+            if frame.next < length {
+                break;
+            }
+            if length == 0 {
+                world.saw(Event::EmptyFrame);
+            }
+            self.pop(None, world);
+            count += 1;
+        }
+        if pops > 0 && count > pops {
+            world.saw(Event::PopAfterQuit);
+        }
+        match count {
+            0 | 1 => {}
+            2 => world.saw(Event::TwoPops),
+            _ => world.saw(Event::ManyPops),
+        }
+    }
+
+    /// What the result tells of the manager, and its reply, once it has ended.
+    pub fn end(&self) -> (History, Value) {
+        let history = History {
+            level: self.level as u8,
+            ending: self.ending.expect("only ended managers have a history"),
+            writes: self.writes as u8,
+            fork_stamp: self.fork_stamp,
+            first_write_stamp: self.first_write_stamp as u16,
+            last_write_stamp: self.write_stamp as u16,
+            steps: self.steps as u16,
+        };
+        (history, self.reply)
+    }
+}

@@ -1,0 +1,234 @@
+//! The level scheduler: managers that wait, run and end at each level, and the
+//! versions of the fields.
+
+use super::manager::{Fork, Manager, World};
+use super::outcome::Outcome;
+use super::session::Session;
+use crate::limits::*;
+use crate::record::{History, Value};
+use crate::tally::{Event, Tally};
+
+struct Version {
+    write_stamp: u32,
+    value: Value,
+}
+
+#[derive(Default)]
+struct Level {
+    /// In stamp order.
+    waiting: Vec<Fork>,
+    running: Option<Manager>,
+    ended: Vec<History>,
+    /// Forks that reached the level, kept or dropped.
+    reached: usize,
+}
+
+impl Level {
+    fn has_manager(&self) -> bool {
+        self.running.is_some() || !self.waiting.is_empty()
+    }
+
+    /// Managers kept: waiting, running and ended.
+    fn kept(&self) -> usize {
+        self.waiting.len() + usize::from(self.running.is_some()) + self.ended.len()
+    }
+}
+
+pub struct Scheduler<'a> {
+    session: &'a Session,
+    levels: Vec<Level>,
+    /// The versions of each object's fields, oldest first.
+    versions: Vec<[Vec<Version>; FIELDS]>,
+    reply: Value,
+    tally: &'a mut Tally,
+}
+
+impl<'a> Scheduler<'a> {
+    /// The session as read in: the root's manager waits, no other is there.
+    pub fn new(session: &'a Session, tally: &'a mut Tally) -> Self {
+        let initial = |value| {
+            vec![Version {
+                write_stamp: 0,
+                value,
+            }]
+        };
+        let mut levels: Vec<Level> = session.lattice.levels().map(|_| Level::default()).collect();
+        levels[session.root_level()]
+            .waiting
+            .push(Fork::root(session));
+        Scheduler {
+            session,
+            levels,
+            versions: session
+                .objects
+                .iter()
+                .map(|object| object.fields.map(initial))
+                .collect(),
+            reply: None,
+            tally,
+        }
+    }
+
+    /// The number of the question, 12 to 14, that refuses a step, if any.
+    pub fn refusal(&self, byte: u8) -> Option<u32> {
+        let lattice = &self.session.lattice;
+        let level = usize::from(byte);
+        if level >= self.levels.len() {
+            return Some(12);
+        }
+        if !self.levels[level].has_manager() {
+            return Some(13);
+        }
+        let mut below = lattice
+            .levels()
+            .filter(|&lower| lattice.strictly_dominates(level, lower));
+        below
+            .any(|lower| self.levels[lower].has_manager())
+            .then_some(14)
+    }
+
+    /// The levels that may step, by rising number.
+    pub fn allowed(&self) -> impl Iterator<Item = u8> + use<'_, 'a> {
+        (0..self.levels.len() as u8).filter(|&level| self.refusal(level).is_none())
+    }
+
+    pub fn all_ended(&self) -> bool {
+        !self.levels.iter().any(Level::has_manager)
+    }
+
+    /// A scheduler step at a level that may step.
+    pub fn step(&mut self, level: u8) {
+        let level = usize::from(level);
+        let manager = match self.levels[level].running.take() {
+            Some(mut manager) => {
+                manager.step(self.session, self);
+                manager
+            }
+            None => self.start(level),
+        };
+        if manager.has_ended() {
+            self.end(&manager);
+        } else {
+            self.levels[level].running = Some(manager);
+        }
+    }
+
+    /// Starts the waiting manager of smallest fork stamp.
+    fn start(&mut self, level: usize) -> Manager {
+        let last = self.levels[level].ended.last();
+        let write_stamp = last.map_or(1, |last| u32::from(last.last_write_stamp) + 1);
+        let fork = self.levels[level].waiting.remove(0);
+        Manager::start(fork, write_stamp, self.session, self)
+    }
+
+    fn end(&mut self, manager: &Manager) {
+        let (history, reply) = manager.end();
+        self.levels[manager.level].ended.push(history);
+        if manager.ancestors.is_empty() {
+            self.reply = reply;
+            if history.ending > 0 {
+                self.saw(Event::ReplyLost);
+            }
+        }
+    }
+
+    /// The newest write stamp that a reader may see at a level.
+    fn newest_seen(&self, reader: &Manager, level: usize) -> u32 {
+        if level == reader.level {
+            return u32::MAX;
+        }
+        let ancestor = reader.ancestors.iter().find(|(l, _)| *l == level);
+        if let Some((_, write_stamp)) = ancestor {
+            return *write_stamp;
+        }
+        let earlier = self.levels[level].ended.iter();
+        let last = earlier
+            .filter(|history| history.fork_stamp < reader.fork_stamp)
+            .max_by_key(|history| history.fork_stamp);
+        last.map_or(0, |history| u32::from(history.last_write_stamp))
+    }
+
+    /// What all managers, once ended, have left.
+    pub fn outcome(self) -> Outcome {
+        let tally = self.tally;
+        for level in &self.levels {
+            if level.reached == KEPT_MAX {
+                tally.saw(Event::ThirtyTwoForks);
+            }
+        }
+        let newest = |versions: Vec<Version>| versions.last().and_then(|version| version.value);
+        Outcome {
+            fields: self.versions.into_iter().map(|v| v.map(newest)).collect(),
+            histories: self.levels.into_iter().map(|level| level.ended).collect(),
+            reply: self.reply,
+        }
+    }
+}
+
+impl World for Scheduler<'_> {
+    fn read(&mut self, reader: &Manager, object: u8, field: u8) -> Value {
+        let level = self.session.level_of(object);
+        let seen = self.newest_seen(reader, level);
+        let versions = &self.versions[usize::from(object)][usize::from(field)];
+        let position = versions
+            .iter()
+            .rposition(|version| version.write_stamp <= seen)
+            .expect("version 0 is always there");
+        let value = versions[position].value;
+        if position + 1 < versions.len() {
+            let is_ancestor = reader.ancestors.iter().any(|(l, _)| *l == level);
+            if is_ancestor {
+                self.saw(Event::OlderAtAncestor);
+            } else {
+                self.saw(Event::OlderElsewhere);
+                if seen == 0 {
+                    self.saw(Event::InitialElsewhere);
+                }
+            }
+        }
+        value
+    }
+
+    fn write(&mut self, writer: &Manager, object: u8, field: u8, value: Value) {
+        let versions = &mut self.versions[usize::from(object)][usize::from(field)];
+        let version = Version {
+            write_stamp: writer.write_stamp,
+            value,
+        };
+        match versions.last_mut() {
+            Some(last) if last.write_stamp == version.write_stamp => {
+                *last = version;
+                self.saw(Event::WriteReplaced);
+            }
+            _ => versions.push(version),
+        }
+    }
+
+    fn fork(&mut self, fork: Fork) {
+        let stamp = fork.stamp;
+        let level = &mut self.levels[fork.level];
+        level.reached += 1;
+        let is_next = level.reached == KEPT_MAX + 1;
+        let place = level.waiting.partition_point(|other| other.stamp < stamp);
+        level.waiting.insert(place, fork);
+        // Forks that have started were smaller than any that still arrive, so
+        // the largest one is a waiting one.
+        let dropped = if level.kept() > KEPT_MAX {
+            level.waiting.pop()
+        } else {
+            None
+        };
+        if is_next {
+            self.saw(Event::ThirtyThirdFork);
+        }
+        match dropped {
+            Some(fork) if fork.stamp == stamp => self.saw(Event::ArrivingDropped),
+            Some(_) => self.saw(Event::WaitingDropped),
+            None => {}
+        }
+    }
+
+    fn saw(&mut self, event: Event) {
+        self.tally.saw(event);
+    }
+}

@@ -1,0 +1,162 @@
+//! Shapes around forks: how many a manager makes, how many a level keeps, how
+//! deep they nest, and at which levels they are made.
+
+use super::draft::Draft;
+use super::lattices;
+use super::scene::{counted, Scene, WORK_NAMES};
+use super::work::work_everywhere;
+use crate::limits::*;
+use crate::random::Random;
+use crate::record::Operation;
+
+/// A manager that makes 14 to 17 forks at levels above, some of them from
+/// another frame, with writes between them.
+pub fn many_forks(random: &mut Random) -> Draft {
+    let masks = match random.one_in(3) {
+        true => lattices::any(random),
+        false => lattices::branching(random),
+    };
+    let mut scene = Scene::new(random, masks);
+    work_everywhere(&mut scene, 3);
+    let level = scene.lowest_level();
+    let (object, other) = (scene.object_at(level), scene.object_at(level));
+    let total = scene.random.between(14, 17);
+    let elsewhere = scene.random.between(4, total - 2);
+    let script = sends_up(&mut scene, level, elsewhere);
+    let name = scene.add(other, script);
+    let mut script = vec![Operation::Send {
+        a: 0,
+        name,
+        object: other,
+    }];
+    script.extend(sends_up(&mut scene, level, total - elsewhere));
+    while script.len() < METHOD_STEPS_MAX && scene.random.one_in(2) {
+        let place = scene.random.below(script.len() + 1);
+        script.insert(place, scene.write());
+    }
+    scene.start_with(object, script);
+    scene.draft
+}
+
+fn sends_up(scene: &mut Scene, level: usize, count: usize) -> Vec<Operation> {
+    (0..count)
+        .filter_map(|_| scene.object_above(level))
+        .collect::<Vec<u8>>()
+        .into_iter()
+        .map(|object| scene.send_work(object))
+        .collect()
+}
+
+/// A level that 31 to 34 forks reach, or many more: from the root, and with
+/// smaller stamps but later from the root's forks at a level between.
+pub fn crowd(random: &mut Random) -> Draft {
+    let levels = random.between(3, LEVELS_MAX);
+    let masks = match random.one_in(3) {
+        true => lattices::chain(random, levels),
+        false => lattices::branching(random),
+    };
+    let mut scene = Scene::new(random, masks);
+    work_everywhere(&mut scene, 3);
+    let low = scene.lowest_level();
+    let top = scene.top_level();
+    let between = scene.object_where(|lattice, level| {
+        lattice.strictly_dominates(level, low) && lattice.strictly_dominates(top, level)
+    });
+    // Only in a lattice of two levels is there none between.
+    let middle = between.unwrap_or_else(|| scene.object_at(top));
+    let middle_level = scene.level_of(middle);
+    let high = scene.object_above(middle_level).unwrap_or(middle);
+    let total = scene.random.pick(&[31, 32, 32, 33, 33, 34, 45, 100]);
+    let managers = scene.random.between(3, 10);
+    let each = (total / managers).min(FORKS_MAX as usize);
+    let direct = (total - managers * each).min(FORKS_MAX as usize - managers);
+
+    let name = scene.random.byte_below(WORK_NAMES);
+    let to_high = send(name, high);
+    let script = repeated(&mut scene, each, to_high);
+    let to_middle = send(scene.add(middle, script), middle);
+    let mut script = vec![to_middle; managers];
+    script.extend(vec![to_high; direct]);
+    scene.random.shuffle(&mut script);
+    let object = scene.object_at(low);
+    scene.start_with(object, script);
+    scene.draft
+}
+
+fn send(name: u8, object: u8) -> Operation {
+    Operation::Send { a: 0, name, object }
+}
+
+/// An operation `count` times: one after the other, or in a loop.
+fn repeated(scene: &mut Scene, count: usize, operation: Operation) -> Vec<Operation> {
+    if scene.random.one_in(2) {
+        counted(count as u32, vec![operation])
+    } else {
+        vec![operation; count]
+    }
+}
+
+/// Each level's work sends to the next level, or to two: forks nested to the top.
+pub fn tower(random: &mut Random) -> Draft {
+    let levels = random.pick(&[4, 6, 8, 8, 8]);
+    let masks = lattices::chain(random, levels);
+    let mut scene = Scene::new(random, masks);
+    let mut order: Vec<usize> = scene.lattice.levels().collect();
+    order.sort_by_key(|&level| scene.draft.masks[level].count_ones());
+    let mut above: Option<(u8, u8)> = None;
+    for &level in order.iter().rev() {
+        let object = scene.object_at(level);
+        let mut script = scene.filler(2);
+        if let Some((object, name)) = above {
+            let a = scene.random.byte_below(REGISTERS);
+            for _ in 0..scene.random.pick(&[1, 1, 1, 2, 3]) {
+                script.push(Operation::Send { a, name, object });
+                script.push(scene.write());
+            }
+        }
+        if let Some(lower) = scene.object_below(level) {
+            let get = vec![scene.read(1), Operation::Quit { a: 1 }];
+            let name = scene.add(lower, get);
+            script.push(Operation::Send {
+                a: 0,
+                name,
+                object: lower,
+            });
+        }
+        script.push(scene.write());
+        let name = scene.add(object, script);
+        above = Some((object, name));
+    }
+    let (object, name) = above.expect("there are levels");
+    scene.start(object, name);
+    scene.draft
+}
+
+/// A frame below its manager's level that sends to levels incomparable with the
+/// manager's: the join lies above both.
+pub fn join_above(random: &mut Random) -> Draft {
+    let masks = lattices::branching(random);
+    let mut scene = Scene::new(random, masks);
+    work_everywhere(&mut scene, 4);
+    let low = scene.lowest_level();
+    let lower = scene.object_at(low);
+    let Some(upper) = scene.object_above(low) else {
+        return scene.draft;
+    };
+    let count = scene.random.between(1, 6);
+    let mut script = sends_up(&mut scene, low, count);
+    script.extend(scene.filler(2));
+    let name = scene.add(lower, script);
+    let mut script = scene.filler(2);
+    for _ in 0..scene.random.between(1, 3) {
+        script.push(Operation::Send {
+            a: 2,
+            name,
+            object: lower,
+        });
+        script.push(scene.write());
+    }
+    let name = scene.add(upper, script);
+    scene.start_here_or_below(upper, name);
+    scene.draft
+}

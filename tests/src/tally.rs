@@ -1,0 +1,121 @@
+//! Counts how often each limit and each special case of document 01 occurs, so
+//! that a test that never reaches one is noticed.
+
+macro_rules! events {
+    ($($name:ident $text:literal,)*) => {
+        /// A limit or special case of document 01, seen by the reference.
+        #[derive(Clone, Copy, Debug, PartialEq, Eq)]
+        pub enum Event { $($name,)* }
+
+        const NAMES: &[&str] = &[$($text,)*];
+    };
+}
+
+events! {
+    EightLevels "8 levels in a session",
+    ThirtyTwoObjects "32 objects in a session",
+    AllStepRecords "256 step records in a session",
+    EighthFrame "8 frames",
+    NinthFrame "9th frame, not made",
+    NinthFrameUpward "9th frame by a send upward, not made",
+    LastStepEmpties "256th step empties the stack",
+    LastStepLeaves "256th step leaves frames",
+    SixteenWrites "16 writes and no 17th",
+    SeventeenthWrite "17th write, not made",
+    SeventeenthAtLastStep "17th write as 256th step",
+    SeventeenthAtEnd "17th write at the end of the only frame's script",
+    FifteenthFork "15th fork of a manager",
+    SixteenthFork "16th fork of a manager, not made",
+    ThirtyTwoForks "32 forks at one level and no 33rd",
+    ThirtyThirdFork "33rd fork at one level",
+    ArrivingDropped "fork dropped on arrival",
+    WaitingDropped "waiting fork dropped for a smaller stamp",
+    SevenDeep "manager 7 forks deep",
+    NestedToTop "manager at the top level by two forks or more",
+    JoinAboveBoth "fork at a join above both levels",
+    UpwardInside "upward send inside a manager",
+    ReplyThrownAway "number replied to an upward send inside a manager",
+    IncomparableSend "incomparable send",
+    DownwardSend "downward send",
+    EmptyFrame "frame of an empty method",
+    EmptyManager "manager of an empty method",
+    TwoPops "2 pops in one step",
+    ManyPops "3 pops or more in one step",
+    PopAfterQuit "sender popped in the step of a QUIT above it",
+    JumpToEnd "jump to the script's end",
+    AddWraps "addition that wraps around",
+    WriteBelow "write below the manager's level",
+    WriteNil "write of NIL",
+    WriteReplaced "write that replaces one of the same stamp",
+    NextManager "manager that starts above an end stamp",
+    OlderAtAncestor "older version read at an ancestor's level",
+    OlderElsewhere "older version read at another level",
+    InitialElsewhere "version 0 read at another level with later ones",
+    ReplyLost "root ended with frames",
+    Choice "scheduler step with several levels allowed",
+}
+
+/// How often each event occurred.
+#[derive(Clone)]
+pub struct Tally {
+    counts: Vec<u64>,
+}
+
+impl Default for Tally {
+    fn default() -> Self {
+        Tally {
+            counts: vec![0; NAMES.len()],
+        }
+    }
+}
+
+impl Tally {
+    pub fn saw(&mut self, event: Event) {
+        self.counts[event as usize] += 1;
+    }
+}
+
+/// Occurrences of events, and of sessions with them.
+#[derive(Default)]
+pub struct Totals {
+    occurrences: Tally,
+    sessions: Tally,
+}
+
+impl Totals {
+    /// Adds what was seen with one session.
+    pub fn add(&mut self, seen: &Tally) {
+        for (i, &count) in seen.counts.iter().enumerate() {
+            self.occurrences.counts[i] += count;
+            self.sessions.counts[i] += u64::from(count > 0);
+        }
+    }
+
+    pub fn merge(&mut self, other: &Totals) {
+        for (tally, more) in [
+            (&mut self.occurrences, &other.occurrences),
+            (&mut self.sessions, &other.sessions),
+        ] {
+            for (count, extra) in tally.counts.iter_mut().zip(&more.counts) {
+                *count += extra;
+            }
+        }
+    }
+
+    /// One line for each event: sessions with it, occurrences, name.
+    pub fn report(&self) -> String {
+        let rows = self.sessions.counts.iter().zip(&self.occurrences.counts);
+        rows.zip(NAMES)
+            .map(|((sessions, times), name)| format!("{sessions:>8} {times:>10}  {name}\n"))
+            .collect()
+    }
+
+    /// The names of the events that never occurred.
+    pub fn missing(&self) -> Vec<&'static str> {
+        let counts = self.sessions.counts.iter().zip(NAMES);
+        counts
+            .filter(|(&count, _)| count == 0)
+            .map(|(_, &name)| name)
+            .collect()
+    }
+}

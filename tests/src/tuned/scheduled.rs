@@ -1,0 +1,226 @@
+//! The timetabled and the plain run.
+
+use super::histories::Histories;
+use super::manager::{Fork, Manager, World};
+use super::tables::Tables;
+use super::versions::{number, Versions, View};
+use crate::library::Answer;
+use crate::limits::*;
+use crate::record::Value;
+
+/// The forks kept at a level, in stamp order; the first of them have started.
+struct Queue {
+    forks: [Fork; KEPT_MAX],
+    count: usize,
+    started: usize,
+}
+
+struct Scheduler<'a> {
+    tables: &'a Tables<'a>,
+    queues: [Queue; LEVELS_MAX],
+    /// Levels with a manager that has not ended, one bit for each.
+    active: u8,
+    versions: Versions<'a>,
+    /// What the running manager of each level sees.
+    views: [View; LEVELS_MAX],
+    histories: Histories,
+    reply: Value,
+}
+
+pub fn run_timetable(
+    tables: &Tables,
+    timetable: &[u8],
+    clearance: u32,
+    work: &mut [u32],
+    result: &mut [u8],
+) -> Answer {
+    let mut scheduler = Scheduler::new(tables, work);
+    let mut running = [const { None }; LEVELS_MAX];
+    for (position, &level) in timetable.iter().enumerate() {
+        let number = scheduler.refusal(level);
+        if number != 0 {
+            return Answer::refused(number, position);
+        }
+        scheduler.step(level, &mut running[usize::from(level)]);
+    }
+    if scheduler.active != 0 {
+        return Answer::refused(15, 0);
+    }
+    scheduler.show(clearance, result)
+}
+
+pub fn run_plain(tables: &Tables, clearance: u32, work: &mut [u32], result: &mut [u8]) -> Answer {
+    let mut scheduler = Scheduler::new(tables, work);
+    // A level stays the lowest-numbered one that may step until its managers
+    // have ended: those that it forks are above it.
+    while let Some(level) = scheduler.lowest_allowed() {
+        while scheduler.active >> level & 1 == 1 {
+            scheduler.run_next(level);
+        }
+    }
+    scheduler.show(clearance, result)
+}
+
+impl<'a> Scheduler<'a> {
+    fn new(tables: &'a Tables<'a>, work: &'a mut [u32]) -> Self {
+        const EMPTY: Queue = Queue {
+            forks: [Fork::NONE; KEPT_MAX],
+            count: 0,
+            started: 0,
+        };
+        let mut scheduler = Scheduler {
+            tables,
+            queues: [EMPTY; LEVELS_MAX],
+            active: 0,
+            versions: Versions::new(work),
+            views: [View::INITIAL; LEVELS_MAX],
+            histories: Histories::new(),
+            reply: None,
+        };
+        scheduler.fork(tables.root_level(), Fork::root(tables));
+        scheduler
+    }
+
+    fn refusal(&self, level: u8) -> u32 {
+        if usize::from(level) >= self.tables.levels {
+            12
+        } else if self.active >> level & 1 == 0 {
+            13
+        } else if self.active & self.tables.strictly_dominated(level) != 0 {
+            14
+        } else {
+            0
+        }
+    }
+
+    fn lowest_allowed(&self) -> Option<u8> {
+        (0..self.tables.levels as u8).find(|&level| {
+            self.active >> level & 1 == 1
+                && self.active & self.tables.strictly_dominated(level) == 0
+        })
+    }
+
+    /// A scheduler step at a level that may step.
+    #[inline]
+    fn step(&mut self, level: u8, running: &mut Option<Manager>) {
+        match running {
+            Some(manager) => {
+                if let Some(ending) = manager.step(self.tables, self) {
+                    self.end(manager, ending);
+                    *running = None;
+                }
+            }
+            None => {
+                let manager = self.start(level);
+                if manager.is_empty() {
+                    self.end(&manager, 0);
+                } else {
+                    *running = Some(manager);
+                }
+            }
+        }
+    }
+
+    /// Runs the level's next manager from start to end.
+    fn run_next(&mut self, level: u8) {
+        let mut manager = self.start(level);
+        let mut ending = manager.is_empty().then_some(0);
+        while ending.is_none() {
+            ending = manager.step(self.tables, self);
+        }
+        self.end(&manager, ending.unwrap_or(0));
+    }
+
+    fn start(&mut self, level: u8) -> Manager {
+        let queue = &mut self.queues[usize::from(level)];
+        let fork = queue.forks[queue.started];
+        queue.started += 1;
+        let write_stamp = self.histories.next_write_stamp(level);
+        let seen = self.seen(level, &fork);
+        self.views[usize::from(level)].seen = seen;
+        let mut manager = Manager::new(level, &fork, write_stamp, self.tables);
+        manager.pop_finished();
+        manager
+    }
+
+    /// What the reads of a manager may see. All managers below its level have
+    /// ended, so it is the same for all its reads.
+    fn seen(&self, level: u8, fork: &Fork) -> [u16; LEVELS_MAX] {
+        let mut seen = fork.carried;
+        let mut below = self.tables.strictly_dominated(level);
+        while below != 0 {
+            let lower = below.trailing_zeros() as u8;
+            below &= below - 1;
+            let stamp = &mut seen[usize::from(lower)];
+            if *stamp == 0 {
+                let ended = self.histories.of(lower);
+                let earlier = ended.partition_point(|history| history.fork_stamp < fork.stamp);
+                if earlier > 0 {
+                    *stamp = ended[earlier - 1].last_write_stamp;
+                }
+            }
+        }
+        seen
+    }
+
+    fn end(&mut self, manager: &Manager, ending: u8) {
+        let level = manager.level;
+        let history = manager.history(ending);
+        self.histories.push(history);
+        if history.fork_stamp == 0 {
+            self.reply = manager.reply;
+        }
+        let queue = &self.queues[usize::from(level)];
+        if queue.started == queue.count {
+            self.active &= !(1 << level);
+        }
+    }
+
+    fn show(&self, clearance: u32, result: &mut [u8]) -> Answer {
+        let newest = |object: usize, field: usize| {
+            let number = object * FIELDS + field;
+            let position = self.versions.newest(number);
+            self.versions.value(self.tables, number, position)
+        };
+        self.histories
+            .show(self.tables, clearance, self.reply, newest, result)
+    }
+}
+
+impl World for Scheduler<'_> {
+    #[inline]
+    fn read(&mut self, reader: &Manager, object: u8, level: u8, field: u8) -> Value {
+        let number = number(object, field);
+        let position = if level == reader.level {
+            self.versions.newest(number)
+        } else {
+            self.views[usize::from(reader.level)].find(&self.versions, number, level)
+        };
+        self.versions.value(self.tables, number, position)
+    }
+
+    #[inline]
+    fn write(&mut self, writer: &Manager, object: u8, field: u8, value: Value) {
+        self.versions
+            .write(number(object, field), writer.write_stamp, value);
+    }
+
+    /// Keeps the 32 smallest.
+    fn fork(&mut self, level: u8, fork: Fork) {
+        let queue = &mut self.queues[usize::from(level)];
+        if queue.count == KEPT_MAX {
+            if fork.stamp > queue.forks[KEPT_MAX - 1].stamp {
+                return;
+            }
+            queue.count -= 1;
+        }
+        let mut place = queue.count;
+        while place > queue.started && queue.forks[place - 1].stamp > fork.stamp {
+            queue.forks[place] = queue.forks[place - 1];
+            place -= 1;
+        }
+        queue.forks[place] = fork;
+        queue.count += 1;
+        self.active |= 1 << level;
+    }
+}

@@ -1,0 +1,178 @@
+//! The cases M1 to M12 of document 01's wall chart, with the answers that stand
+//! there.
+
+use crate::library::Answer;
+use crate::limits::*;
+use crate::record::{self, History, Operation, Record};
+use crate::request::{Outcome, Request};
+use crate::sessions::{example_w, Draft};
+use crate::vectors::{bytes, Vector};
+
+/// The result for session W and clearance 0, as it is printed.
+const M1: &str = "05000001090000000000000000000000 \
+                  06000001000000000100020005000000 \
+                  07000001090000000000000000000000";
+
+pub fn cases() -> Vec<(&'static str, Vector)> {
+    let m1 = bytes(M1).expect("M1 is in hexadecimal");
+    let m3 = [vec![0; 6], vec![1; 6]].concat();
+    let m6 = [&m3[..], &[0]].concat();
+    let w = example_w;
+    vec![
+        ("M1", vector(w(), plain(0), finished(m1.clone()))),
+        ("M2", vector(w(), plain(1), finished(m2()))),
+        ("M2", vector(w(), depth_first(1), finished(m2()))),
+        ("M3", vector(w(), timetable(&m3, 0), finished(m1))),
+        ("M3", vector(w(), timetable(&m3, 1), finished(m2()))),
+        ("M4", vector(w(), timetable(&[1], 0), refused(13, 0))),
+        (
+            "M5",
+            vector(w(), timetable(&[0, 0, 0, 1], 0), refused(14, 3)),
+        ),
+        ("M6", vector(w(), timetable(&m6, 0), refused(13, 12))),
+        ("M7", vector(w(), timetable(&[0; 6], 0), refused(15, 0))),
+        ("M8", vector(Vec::new(), Request::Check, refused(1, 0))),
+        ("M9", m9()),
+        (
+            "M10",
+            vector(levels(&[0x01, 0x02]), Request::Check, refused(5, 0)),
+        ),
+        (
+            "M11",
+            vector(levels(&[0x03, 0x03]), Request::Check, refused(4, 0)),
+        ),
+        ("M12", m12()),
+    ]
+}
+
+fn vector(session: Vec<u8>, request: Request, expected: Outcome) -> Vector {
+    Vector {
+        session,
+        request,
+        expected,
+    }
+}
+
+fn finished(shown: Vec<u8>) -> Outcome {
+    Outcome::finished(shown)
+}
+
+fn refused(number: u32, place: usize) -> Outcome {
+    Outcome::refused(Answer::refused(number, place))
+}
+
+fn plain(clearance: u32) -> Request {
+    Request::Plain {
+        clearance,
+        work_length: WORK_LENGTH,
+        result_length: RESULT_LENGTH,
+    }
+}
+
+fn depth_first(clearance: u32) -> Request {
+    Request::DepthFirst {
+        clearance,
+        result_length: RESULT_LENGTH,
+    }
+}
+
+fn timetable(list: &[u8], clearance: u32) -> Request {
+    Request::Timetable {
+        timetable: list.to_vec(),
+        clearance,
+        work_length: WORK_LENGTH,
+        result_length: RESULT_LENGTH,
+    }
+}
+
+fn shown(number: u8, level: u8, fields: [record::Value; FIELDS]) -> Record {
+    record::object(record::SHOWN_OBJECT, number, level, fields)
+}
+
+/// A history with ending 0.
+fn history(level: u8, fork_stamp: u32, writes: u8, last: u16, steps: u16) -> Record {
+    let history = History {
+        level,
+        ending: 0,
+        writes,
+        fork_stamp,
+        first_write_stamp: 1,
+        last_write_stamp: last,
+        steps,
+    };
+    history.record()
+}
+
+fn m2() -> Vec<u8> {
+    [
+        shown(0, 0, [Some(9), None, None]),
+        shown(1, 1, [Some(5), Some(5), None]),
+        history(0, 0, 1, 2, 5),
+        history(1, 0x1000_0000, 2, 1, 5),
+        record::reply(0, Some(9)),
+    ]
+    .concat()
+}
+
+/// A session with these masks, an object at each level and no steps.
+fn draft(masks: &[u8]) -> Draft {
+    Draft {
+        masks: masks.to_vec(),
+        objects: (0..masks.len() as u8)
+            .map(|level| (level, [None; FIELDS]))
+            .collect(),
+        ..Draft::default()
+    }
+}
+
+fn levels(masks: &[u8]) -> Vec<u8> {
+    draft(masks).bytes()
+}
+
+fn send(object: u8) -> Operation {
+    Operation::Send {
+        a: 0,
+        name: 0,
+        object,
+    }
+}
+
+/// The bound of 1 and 2 is 3: a manager at level 1, from a frame at level 0,
+/// sends to an object at level 2.
+fn m9() -> Vector {
+    let mut draft = draft(&[0x01, 0x03, 0x05, 0x0f]);
+    draft.put(1, 0, vec![send(0)]);
+    draft.put(0, 0, vec![send(2)]);
+    draft.root_object = 1;
+    let objects = (0..4).map(|i| shown(i, i, [None; FIELDS]));
+    let mut records: Vec<Record> = objects.collect();
+    records.extend([
+        history(1, 0, 0, 2, 2),
+        history(3, 0x1000_0000, 0, 1, 0),
+        record::reply(1, None),
+    ]);
+    vector(draft.bytes(), plain(3), finished(records.concat()))
+}
+
+/// Stamp 21000000 lies after 20000000 and before 30000000: the root forks at
+/// levels 2, 1 and 2, the fork at level 1 one more at level 2.
+fn m12() -> Vector {
+    let mut draft = draft(&[0x01, 0x03, 0x07]);
+    draft.put(0, 0, vec![send(2), send(1), send(2)]);
+    draft.put(1, 0, vec![send(2)]);
+    let objects = (0..3).map(|i| shown(i, i, [None; FIELDS]));
+    let mut records: Vec<Record> = objects.collect();
+    records.extend([history(0, 0, 0, 4, 3), history(1, 0x2000_0000, 0, 2, 1)]);
+    for (i, stamp) in (1..).zip([0x1000_0000, 0x2100_0000, 0x3000_0000]) {
+        let history = History {
+            level: 2,
+            fork_stamp: stamp,
+            first_write_stamp: i,
+            last_write_stamp: i,
+            ..History::default()
+        };
+        records.push(history.record());
+    }
+    records.push(record::reply(0, None));
+    vector(draft.bytes(), plain(2), finished(records.concat()))
+}
