@@ -1,5 +1,6 @@
 -- The whole answers of the entries that run a session, for every input. Assumes nothing.
 use Prim.Native.Nat.{ℕ}
+use mathlib.Core.Path.{_≡_}
 use mathlib.Core.Bool.{Bool, true, cond}
 use mathlib.Core.List.{List, _++_}
 use lib.Dec.{eqb, leb, ltb}
@@ -11,7 +12,7 @@ use Rattle.session.specs.Program.{programOf}
 use Rattle.model.specs.Limits.{workNumbers, resultBytes}
 use Rattle.model.specs.Schedule.{Outcome, finished, refused, runOf, plainOrder}
 use Rattle.model.specs.DepthFirst.{depthFirst}
-use Rattle.model.specs.Result.{Result, resultOf, resultOfDepthFirst, bytesOf}
+use Rattle.model.specs.Result.{Result, resultOf, resultOfDepthFirst, bytesOf, ordersShown}
 
 -- a session, a clearance, and what the lent work slice and result buffer hold
 pub record Request : Type 0 where
@@ -95,3 +96,10 @@ deep q order =
     let number = entryRefusal true q in
     let ran = success q (q .work) (bytesFor q order (resultOfDepthFirst p (depthFirst p (rootOf (q .session))))) in
     cond (eqb number 0) ran (untouched q number)
+
+-- an entry's number, place and count, and what the lent slices hold afterwards, are those of a definition's answer, with the level groups in
+-- some order: "in whichever order, each shown level's histories stand together, once"
+pub record Answers (q : Request) (of : List ℕ → Answer) (number place count : ℕ) (work buffer : List ℕ) : Type 0 where
+  pub order : List ℕ
+  pub groups : number ≡ 0 → ordersShown (programOf (q .session)) (q .clearance) order ≡ true
+  pub answer : record { number = number; place = place; count = count; work = work; buffer = buffer } ≡ of order

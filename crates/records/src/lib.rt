@@ -9,6 +9,13 @@ use managers::Ending;
 use session::Value;
 ghost use Rattle.records.specs.Writing.{resultIn, bytesIn, Ready, Written};
 
+// What a run answers: its number, its place, and the count of result bytes written.
+pub struct Answer {
+    pub number: u32,
+    pub place: u32,
+    pub count: u32,
+}
+
 // What is kept of a manager that has ended.
 pub struct Ended {
     pub ending: Ending,

@@ -13,7 +13,7 @@ ghost use lib.ListN.{drop};
 ghost use Prim.Native.Nat.{_≤_};
 ghost use Rattle.lattice.specs.Table as table;
 ghost use Rattle.session.specs.Parts.{levelCount, masksOf};
-ghost use Rattle.session.specs.Questions.{kindsRise, question1, question2, asked, firstNo, verdictOf};
+ghost use Rattle.session.specs.Questions.{kindsRise, question1, question2, asked, firstNo, verdictOf, numberOfVerdict};
 ghost use Rattle.session.specs.Reading.{Counted};
 
 // A field, a register, a parameter or a reply: NIL or a number.
@@ -153,5 +153,22 @@ pub fn check(session: &[u8]) -> Verdict
         check_levels(session, levels, objects, steps)
     } else {
         Verdict::Kinds
+    }
+}
+
+// Document 01's number of a verdict.
+pub fn number_of(verdict: Verdict) -> u32
+    ensures { λ r. ⌜ r ≡ numberOfVerdict verdict ⌝ }
+{
+    match verdict {
+        Verdict::Accepted => 0,
+        Verdict::Length => 1,
+        Verdict::Kinds => 2,
+        Verdict::Numbering => 3,
+        Verdict::NotOrdered => 4,
+        Verdict::NoJoin => 5,
+        Verdict::Object => 6,
+        Verdict::Script => 7,
+        Verdict::Root => 8,
     }
 }

@@ -21,7 +21,7 @@ use Rattle.model.specs.Entries.{Request, question9, question10, question
 use Rattle.model.specs.Reader.{Finished, bytesWritten}
 use Rattle.model.proofs.Laws.Reader.Bytes.{written-bytes}
 
-number-accepted : (v : Verdict) → numberOfVerdict v ≡ 0 → v ≡ Accepted
+pub number-accepted : (v : Verdict) → numberOfVerdict v ≡ 0 → v ≡ Accepted
 number-accepted Accepted e = refl
 number-accepted Length e = absurd (omega (arith, e))
 number-accepted Kinds e = absurd (omega (arith, e))
@@ -141,7 +141,7 @@ module _ (q : Request) (order ls : List ℕ) where
 
 -- a finished depth-first run
 module _ (q : Request) (order : List ℕ) where
-  deep-is : entryRefusal true q ≡ 0 → deep q order ≡ success q (q .work) (bytesFor q order (resultOfDepthFirst (programOf (q .session)) (depthFirst (programOf (q .session)) (rootOf (q .session)))))
+  pub deep-is : entryRefusal true q ≡ 0 → deep q order ≡ success q (q .work) (bytesFor q order (resultOfDepthFirst (programOf (q .session)) (depthFirst (programOf (q .session)) (rootOf (q .session)))))
   unfolding deep
   deep-is e = rw (eq-eqb (entryRefusal true q) 0 e) refl
 

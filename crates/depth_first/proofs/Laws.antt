@@ -1,0 +1,8 @@
+-- Laws of the depth-first run.
+pub mod Kept
+pub mod Run
+pub mod Stamp
+pub mod Step
+pub mod Start
+pub mod Whole
+pub mod Answers

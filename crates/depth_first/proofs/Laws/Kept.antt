@@ -1,0 +1,194 @@
+-- What a write and the end of a manager do to the words of a run. Assumes nothing.
+use Prim.Native.Nat.{ℕ, _+_, _*_, _≤_, _<_}
+use mathlib.Core.Path.{_≡_, refl, sym, _∙_, ap}
+use mathlib.Core.List.{List, _∷_}
+use native.Mathlib.Decide.{ℕ-discrete}
+use native.Mathlib.Omega.{arith}
+use borrow.Author.Tests.{eq-eqb, ne-eqb}
+use lib.ListN.{length, getD, set, length-set}
+use lib.Seq.{getD-set-same, getD-set-other}
+use Rattle.session.specs.Limits.{maxLevels, fields}
+use Rattle.session.specs.Parts.{levelCount, objectCount}
+use Rattle.session.specs.Program.{Program, programOf}
+use Rattle.session.specs.declared.Value.{Value}
+use Rattle.managers.specs.Limits.{maxForks}
+use Rattle.managers.specs.declared.Manager.{Manager}
+use Rattle.model.specs.Limits.{maxManagers}
+use Rattle.model.specs.Lists.{inserted}
+use Rattle.model.specs.Fork as model
+use Rattle.model.specs.History as history
+use Rattle.model.specs.DepthFirst.{Written, Tally, Progress, newTally, tallyAt, current, fieldNow, close}
+use Rattle.model.proofs.Laws.Lists.{modify-length, modify-at, modify-other}
+use Rattle.model.proofs.Laws.Invariant.Measure.{inserted-length}
+use Rattle.records.specs.Fields.{fieldAt, FieldSet}
+use Rattle.records.specs.Histories.{historiesAt, historyOf, Added}
+use Rattle.records.specs.declared.Ended.{Ended}
+use Rattle.depth_first.specs.Kept.{Counted, Kept}
+
+-- the fields after a write
+abbrev pub wrote : ℕ → ℕ → Value → Progress → Progress
+wrote o k v g =
+    record { written = record { object = o; field = k; value = v } ∷ g .written; levels = g .levels }
+
+current-own : (i : Value) (o k : ℕ) (v : Value) (ws : List Written) → current i o k (record { object = o; field = k; value = v } ∷ ws) ≡ v
+unfolding current
+current-own i o k v ws = rw (eq-eqb o o refl, eq-eqb k k refl) refl
+
+current-other : (i : Value) (o k o' k' : ℕ) (v : Value) (ws : List Written) → (o' ≡ o → k' ≡ k → ⊥) → current i o' k' (record { object = o; field = k; value = v } ∷ ws) ≡ current i o' k' ws
+unfolding current
+current-other i o k o' k' v ws n = elim (ℕ-discrete o o') [
+  | no a ↦ rw (ne-eqb o o' a) refl
+  | yes a ↦ rw (eq-eqb o o' a, ne-eqb k k' (λ b. n (sym a) (sym b))) refl
+]
+
+pub kept-write : (s : List ℕ) (g : Progress) (c c' e t : List ℕ) (o k : ℕ) (v : Value) → Kept s g c e t → o < objectCount s → k < fields → FieldSet c c' o k v → Kept s (wrote o k v g) c' e t
+kept-write s g c c' e t o k v q ho hk f =
+    record {
+      fields-there = rw (f .outside .length-same) (q .fields-there);
+      histories-there = q .histories-there;
+      tallies-there = q .tallies-there;
+      counts-few = q .counts-few;
+      levels = q .levels;
+      field = λ o' k' a b. here o' k' a b (ℕ-discrete o' o) (ℕ-discrete k' k);
+      counted = λ l h. recount (q .counted l h);
+    }
+  where
+    recount : {l : ℕ} → Counted g e t l → Counted (wrote o k v g) e t l
+    recount z =
+        record { few = z .few; count = z .count; histories = z .histories; rises = z .rises; next = z .next; pace = z .pace }
+
+    other : (o' k' : ℕ) → o' < objectCount s → k' < fields → (o' ≡ o → k' ≡ k → ⊥) → fieldAt c' o' k' ≡ fieldNow (programOf s) (wrote o k v g) o' k'
+    other o' k' a b n =
+        f .others o' k' b n
+        ∙ q .field o' k' a b
+        ∙ sym (current-other (programOf s .field o' k') o k o' k' v (g .written) n)
+
+    here : (o' k' : ℕ) → o' < objectCount s → k' < fields → Dec (o' ≡ o) → Dec (k' ≡ k) → fieldAt c' o' k' ≡ fieldNow (programOf s) (wrote o k v g) o' k'
+    here o' k' a b (yes x) (yes y) = rw (x, y) (f .set ∙ sym (current-own (programOf s .field o k) o k v (g .written)))
+    here o' k' a b (no x) d = other o' k' a b (λ z _. x z)
+    here o' k' a b (yes x) (no y) = other o' k' a b (λ _ z. y z)
+
+-- the counts after a manager has ended
+abbrev pub tallied : ℕ → ℕ → ℕ → List ℕ → List ℕ
+tallied l count next t = set (set t l count) (maxLevels + l) next
+
+tallied-count : (l count next : ℕ) (t : List ℕ) (j : ℕ) → l < maxLevels → j < maxLevels → 2 * maxLevels ≤ length t → getD (tallied l count next t) j 0 ≡ getD (set t l count) j 0
+tallied-count l count next t j hl hj r = getD-set-other (set t l count) (maxLevels + l) j next 0 (λ e. omega (arith, e))
+
+tallied-next : (l count next : ℕ) (t : List ℕ) (j : ℕ) → l < maxLevels → (j ≡ l → ⊥) → getD (tallied l count next t) (maxLevels + j) 0 ≡ getD t (maxLevels + j) 0
+tallied-next l count next t j hl n =
+    getD-set-other (set t l count) (maxLevels + l) (maxLevels + j) next 0 (λ e. n (omega (arith, e)))
+    ∙ getD-set-other t l (maxLevels + j) count 0 (λ e. omega (arith, e))
+
+-- the counts of a level whose manager has ended
+abbrev closedTally : model.Fork → Manager → Tally → Tally
+closedTally x m t =
+    record { ended = inserted (λ h. h .stamp) (history.historyOf x m) (t .ended); next = m .stamp + 1 }
+
+close-own : (l : ℕ) (x : model.Fork) (m : Manager) (g : Progress) → l < length (g .levels) → tallyAt (close l x m g) l ≡ closedTally x m (tallyAt g l)
+unfolding close
+close-own l x m g h = modify-at newTally l (closedTally x m) (g .levels) h
+
+close-other : (l : ℕ) (x : model.Fork) (m : Manager) (g : Progress) (j : ℕ) → (l ≡ j → ⊥) → tallyAt (close l x m g) j ≡ tallyAt g j
+unfolding close
+close-other l x m g j n = modify-other newTally l j (closedTally x m) (g .levels) n
+
+close-levels : (l : ℕ) (x : model.Fork) (m : Manager) (g : Progress) → length (close l x m g .levels) ≡ length (g .levels)
+unfolding close
+close-levels l x m g = modify-length l (closedTally x m) (g .levels)
+
+close-fields : (p : Program) (l : ℕ) (x : model.Fork) (m : Manager) (g : Progress) (o k : ℕ) → fieldNow p (close l x m g) o k ≡ fieldNow p g o k
+unfolding close
+close-fields p l x m g o k = refl
+
+module _ (s : List ℕ) (g : Progress) (c e e' t : List ℕ) (q : Kept s g c e t) (few-levels : levelCount s ≤ maxLevels) (l : ℕ) (hl : l < levelCount s) (x : model.Fork) (m : Manager) (r : Ended) (is : historyOf r ≡ history.historyOf x m) (more : length (tallyAt g l .ended) < maxManagers) (a : Added e e' l (getD t l 0) r) (pace : m .stamp ≤ tallyAt g l .next + maxForks) where
+  abbrev n : ℕ
+  n = length (tallyAt g l .ended)
+
+  same-count : getD t l 0 ≡ n
+  same-count = q .counted l hl .count
+
+  t' : List ℕ
+  t' = tallied l (getD t l 0 + 1) (m .stamp + 1) t
+
+  -- what the level's histories are then
+  pub ended-own : tallyAt (close l x m g) l .ended ≡ inserted (λ h. h .stamp) (historyOf r) (tallyAt g l .ended)
+  ended-own =
+      ap (λ t. t .ended) (close-own l x m g (rw (q .levels) hl))
+      ∙ ap (λ h. inserted (λ h. h .stamp) h (tallyAt g l .ended)) (sym is)
+
+  grown : length (tallyAt (close l x m g) l .ended) ≡ n + 1
+  grown = ap length ended-own ∙ inserted-length (λ h. h .stamp) (historyOf r) (tallyAt g l .ended)
+
+  histories-own : historiesAt e' l (n + 1) ≡ tallyAt (close l x m g) l .ended
+  histories-own =
+      ap (λ k. historiesAt e' l (k + 1)) (sym same-count)
+      ∙ a .histories
+      ∙ ap (λ k. inserted (λ h. h .stamp) (historyOf r) (historiesAt e l k)) same-count
+      ∙ ap (inserted (λ h. h .stamp) (historyOf r)) (q .counted l hl .histories)
+      ∙ sym ended-own
+
+  next-own : tallyAt (close l x m g) l .next ≡ m .stamp + 1
+  next-own = ap (λ t. t .next) (close-own l x m g (rw (q .levels) hl))
+
+  long : maxLevels + l < length (set t l (getD t l 0 + 1))
+  long = rw (length-set t l (getD t l 0 + 1)) (omega (arith, q .tallies-there, hl, few-levels))
+
+  counted-own : Counted (close l x m g) e' (tallied l (getD t l 0 + 1) (m .stamp + 1) t) l
+  counted-own =
+      record {
+        few = omega (arith, grown, more);
+        count = tallied-count l (getD t l 0 + 1) (m .stamp + 1) t l (omega (arith, hl, few-levels)) (omega (arith, hl, few-levels)) (q .tallies-there)
+            ∙ getD-set-same t l (getD t l 0 + 1) 0 (omega (arith, q .tallies-there, hl, few-levels))
+            ∙ ap (λ k. k + 1) same-count
+            ∙ sym grown;
+        histories = ap (historiesAt e' l) grown ∙ histories-own;
+        rises = rw (sym histories-own, sym same-count) (a .rises);
+        next = getD-set-same (set t l (getD t l 0 + 1)) (maxLevels + l) (m .stamp + 1) 0 long ∙ sym next-own;
+        pace = omega (arith, next-own, grown, pace, q .counted l hl .pace);
+      }
+
+  counted-other : (j : ℕ) → j < levelCount s → (j ≡ l → ⊥) → Counted (close l x m g) e' (tallied l (getD t l 0 + 1) (m .stamp + 1) t) j
+  counted-other j hj d =
+      let o = q .counted j hj in
+      let same = close-other l x m g j (λ z. d (sym z)) in
+      record {
+        few = rw same (o .few);
+        count = tallied-count l (getD t l 0 + 1) (m .stamp + 1) t j (omega (arith, hl, few-levels)) (omega (arith, hj, few-levels)) (q .tallies-there)
+            ∙ getD-set-other t l j (getD t l 0 + 1) 0 d
+            ∙ o .count
+            ∙ sym (ap (λ t. length (t .ended)) same);
+        histories = rw same (a .others j (length (tallyAt g j .ended)) d (o .few) ∙ o .histories);
+        rises = rw same (o .rises);
+        next = tallied-next l (getD t l 0 + 1) (m .stamp + 1) t j (omega (arith, hl, few-levels)) d ∙ o .next ∙ sym (ap (λ t. t .next) same);
+        pace = rw same (o .pace);
+      }
+
+  -- no count is beyond the limit, not of a level that is not there either
+  count-own-few : getD (tallied l (getD t l 0 + 1) (m .stamp + 1) t) l 0 ≤ maxManagers
+  count-own-few =
+      rw (tallied-count l (getD t l 0 + 1) (m .stamp + 1) t l (omega (arith, hl, few-levels)) (omega (arith, hl, few-levels)) (q .tallies-there), getD-set-same t l (getD t l 0 + 1) 0 (omega (arith, q .tallies-there, hl, few-levels)))
+      (omega (arith, same-count, more))
+
+  count-other-few : (j : ℕ) → j < maxLevels → (j ≡ l → ⊥) → getD (tallied l (getD t l 0 + 1) (m .stamp + 1) t) j 0 ≤ maxManagers
+  count-other-few j hj d =
+      rw (tallied-count l (getD t l 0 + 1) (m .stamp + 1) t j (omega (arith, hl, few-levels)) hj (q .tallies-there), getD-set-other t l j (getD t l 0 + 1) 0 d)
+      (q .counts-few j hj)
+
+  pub kept-close : Kept s (close l x m g) c e' (tallied l (getD t l 0 + 1) (m .stamp + 1) t)
+  kept-close =
+      record {
+        fields-there = q .fields-there;
+        histories-there = rw (a .outside .length-same) (q .histories-there);
+        tallies-there = rw (length-set (set t l (getD t l 0 + 1)) (maxLevels + l) (m .stamp + 1), length-set t l (getD t l 0 + 1)) (q .tallies-there);
+        counts-few = λ j hj. elim (ℕ-discrete j l) [
+          | yes z ↦ rw z count-own-few
+          | no z ↦ count-other-few j hj z
+        ];
+        levels = close-levels l x m g ∙ q .levels;
+        field = λ o k a b. q .field o k a b ∙ sym (close-fields (programOf s) l x m g o k);
+        counted = λ j hj. elim (ℕ-discrete j l) [
+          | yes z ↦ rw z counted-own
+          | no z ↦ counted-other j hj z
+        ];
+      }

@@ -1,0 +1,102 @@
+-- What the words of a run say at its start. Assumes nothing.
+use Prim.Native.Nat.{ℕ, zero, suc, _+_, _^_, _≤_, _<_}
+use mathlib.Core.Path.{_≡_, refl, sym, _∙_, ap}
+use mathlib.Core.List.{List, [], _∷_, _++_, append-nil}
+use native.Mathlib.Omega.{arith}
+use lib.ListN.{length, getD, drop, replicate, length-replicate, getD-replicate}
+use lib.Seq.{drop-length}
+use Rattle.session.specs.Limits.{maxLevels, maxMethods}
+use Rattle.session.specs.Lists.{risingFrom}
+use Rattle.session.specs.Parts.{levelCount}
+use Rattle.session.specs.Meaning.{levelOf, fieldOf, rootObject, rootOf}
+use Rattle.session.specs.Questions.{verdictOf}
+use Rattle.session.specs.Program.{programOf}
+use Rattle.session.specs.Reading.{indexOf}
+use Rattle.session.specs.declared.Message.{Message}
+use Rattle.session.specs.declared.Verdict.the-variants.{Accepted}
+use Rattle.session.proofs.Laws.Accepted.{level-present, root-present}
+use Rattle.session.proofs.Laws.Contents.{level-limit}
+use Rattle.model.specs.DepthFirst.{newTally, tallyAt, current, fieldNow}
+use Rattle.records.specs.Limits.{fieldWords, historyWords}
+use Rattle.records.specs.Fields.{Filled}
+use Rattle.records.specs.Histories.{historiesAt, InOrder}
+use Rattle.records.proofs.Laws.Histories.{histories-none}
+use Rattle.depth_first.specs.Kept.{Counted, Kept}
+use Rattle.depth_first.specs.Runs.{startOf}
+
+-- no manager has ended, and the next write stamps are 1
+abbrev pub startTallies : List ℕ
+startTallies = 0 ∷ 0 ∷ 0 ∷ 0 ∷ 0 ∷ 0 ∷ 0 ∷ 0 ∷ 1 ∷ 1 ∷ 1 ∷ 1 ∷ 1 ∷ 1 ∷ 1 ∷ 1 ∷ []
+
+first-count : (l : ℕ) → l < maxLevels → getD startTallies l 0 ≡ 0
+first-count zero h = refl
+first-count (suc zero) h = refl
+first-count (suc (suc zero)) h = refl
+first-count (suc (suc (suc zero))) h = refl
+first-count (suc (suc (suc (suc zero)))) h = refl
+first-count (suc (suc (suc (suc (suc zero))))) h = refl
+first-count (suc (suc (suc (suc (suc (suc zero)))))) h = refl
+first-count (suc (suc (suc (suc (suc (suc (suc zero))))))) h = refl
+first-count (suc (suc (suc (suc (suc (suc (suc (suc l)))))))) h = absurd (omega (arith, h))
+
+first-next : (l : ℕ) → l < maxLevels → getD startTallies (maxLevels + l) 0 ≡ 1
+first-next zero h = refl
+first-next (suc zero) h = refl
+first-next (suc (suc zero)) h = refl
+first-next (suc (suc (suc zero))) h = refl
+first-next (suc (suc (suc (suc zero)))) h = refl
+first-next (suc (suc (suc (suc (suc zero))))) h = refl
+first-next (suc (suc (suc (suc (suc (suc zero)))))) h = refl
+first-next (suc (suc (suc (suc (suc (suc (suc zero))))))) h = refl
+first-next (suc (suc (suc (suc (suc (suc (suc (suc l)))))))) h = absurd (omega (arith, h))
+
+none-rises : InOrder []
+unfolding risingFrom
+none-rises = refl
+
+-- so many zeros are so long
+pub long : (n : ℕ) → n ≤ length {A = ℕ} (replicate n 0)
+long n = rw (length-replicate {A = ℕ} n 0) (omega arith)
+
+module _ (s : List ℕ) (a : verdictOf s ≡ Accepted) where
+  -- the level of the root's object is a byte
+  pub level-byte : (m : Message) (level : ℕ) → m ≡ rootOf s → level ≡ levelOf s (m .object) → level < 2 ^ 8
+  level-byte m level e i =
+      omega (arith, i, ap (λ m. levelOf s (m .object)) e, level-present s a (rootObject s) (root-present s a), level-limit s a)
+
+  -- the method index fills its words
+  pub index-made : (before index : List ℕ) → length before ≡ maxMethods + 1 → index ≡ indexOf s ++ drop (maxMethods + 1) before → index ≡ indexOf s
+  index-made before index l e =
+      e ∙ ap (λ n. indexOf s ++ drop n before) (sym l) ∙ ap (λ t. indexOf s ++ t) (drop-length before) ∙ append-nil (indexOf s)
+
+  pub start-tally : (l : ℕ) → l < levelCount s → tallyAt (startOf s) l ≡ newTally
+  start-tally l h = getD-replicate (levelCount s) l newTally newTally h
+
+  start-field : (o k : ℕ) → fieldNow (programOf s) (startOf s) o k ≡ fieldOf s o k
+  unfolding current programOf
+  start-field o k = refl
+
+  counted-start : (ended : List ℕ) (l : ℕ) → l < levelCount s → Counted (startOf s) ended startTallies l
+  counted-start ended l h =
+      let e = start-tally l h in
+      let small : l < maxLevels = omega (arith, h, level-limit s a) in
+      record {
+        few = rw e (omega arith);
+        count = first-count l small ∙ ap (λ t. length (t .ended)) (sym e);
+        histories = ap (λ t. historiesAt ended l (length (t .ended))) e ∙ histories-none ended l ∙ ap (λ t. t .ended) (sym e);
+        rises = rw e none-rises;
+        next = first-next l small ∙ ap (λ t. t .next) (sym e);
+        pace = rw e (omega arith);
+      }
+
+  pub kept-start : (before c ended : List ℕ) → Filled s before c → fieldWords ≤ length before → historyWords ≤ length ended → Kept s (startOf s) c ended startTallies
+  kept-start before c ended f there room =
+      record {
+        fields-there = rw (f .outside .length-same) there;
+        histories-there = room;
+        tallies-there = omega arith;
+        counts-few = λ l h. rw (first-count l h) (omega arith);
+        levels = length-replicate (levelCount s) newTally;
+        field = λ o k h j. f .fields-are o k h j ∙ sym (start-field o k);
+        counted = λ l h. counted-start ended l h;
+      }

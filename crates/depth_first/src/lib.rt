@@ -1,0 +1,126 @@
+// The depth-first run: a fork that is made and kept runs whole, before its sender continues.
+mod forks;
+
+use forks::Fork;
+use records::Answer;
+use records::fields;
+use session::contents;
+ghost use Prim.Native.Nat.{_≤_};
+ghost use mathlib.Core.Path.{_≡_};
+ghost use mathlib.Core.List.{[]};
+ghost use lib.ListN.{length};
+ghost use Rattle.session.specs.Parts.{masksOf};
+ghost use Rattle.session.specs.Questions.{verdictOf};
+ghost use Rattle.session.specs.declared.Verdict.the-variants.{Accepted};
+ghost use Rattle.model.specs.Limits.{resultBytes};
+ghost use Rattle.model.specs.Entries.{deep, Answers};
+ghost use Rattle.depth_first.specs.Kept.{Read, Says};
+ghost use Rattle.depth_first.specs.Runs.{RootFork, startOf, Shown, Refused};
+
+// The fork of the root message.
+fn root_fork(session: &[u8], masks: &[u16]) -> Fork
+    requires { ⌜ (verdictOf (now session) ≡ Accepted) × (now masks ≡ masksOf (now session)) ⌝ }
+    ensures { λ r. ⌜ RootFork (now (session .entry)) r ⌝ }
+{
+    let message = contents::root(session);
+    let level = contents::level_of(session, masks, message.object as usize);
+    Fork {
+        level: level as u8,
+        stamp: 0,
+        depth: 0,
+        message,
+    }
+}
+
+// Runs a session over words that say its start, writes the records that a clearance is shown, and
+// returns how many bytes they are.
+fn run_over(
+    session: &[u8],
+    masks: &[u16],
+    index: &[u16],
+    current: &mut [u32],
+    ended: &mut [u32],
+    tallies: &mut [usize],
+    clearance: usize,
+    result: &mut [u8],
+) -> usize
+    requires { ⌜ Read (now session) (now masks) (now index) ⌝ }
+    requires { ⌜ Says (now session) (startOf (now session)) (record { current = now current; ended = now ended; tallies = now tallies }) ⌝ }
+    requires { ⌜ resultBytes ≤ length (now result) ⌝ }
+    ensures { λ r. ⌜ Shown (now (session .entry)) clearance (now (result .entry)) (now (result .exit)) r ⌝ }
+{
+    let root = root_fork(session, masks);
+    let level = root.level as usize;
+    let left = masks.len();
+    forks::run_manager(session, masks, index, current, ended, tallies, left, root);
+    records::write(
+        session,
+        masks,
+        current,
+        ended,
+        tallies,
+        clearance,
+        level,
+        result,
+    )
+}
+
+// Runs an accepted session, writes the records that a clearance is shown, and returns how many bytes
+// they are.
+fn run(session: &[u8], masks: &[u16], clearance: usize, result: &mut [u8]) -> usize
+    requires { ⌜ (verdictOf (now session) ≡ Accepted) × (now masks ≡ masksOf (now session)) × (resultBytes ≤ length (now result)) ⌝ }
+    ensures { λ r. ⌜ Shown (now (session .entry)) clearance (now (result .entry)) (now (result .exit)) r ⌝ }
+{
+    let mut index = [0u16; 513];
+    contents::index_methods(session, &mut index);
+    let mut current = [0u32; 192];
+    fields::fill(session, masks, &mut current);
+    let mut ended = [0u32; 2048];
+    let mut tallies = [0usize, 0, 0, 0, 0, 0, 0, 0, 1, 1, 1, 1, 1, 1, 1, 1];
+    run_over(
+        session,
+        masks,
+        &index,
+        &mut current,
+        &mut ended,
+        &mut tallies,
+        clearance,
+        result,
+    )
+}
+
+// The answer of a call that a question ends.
+fn refused(number: u32) -> Answer
+    ensures { λ r. ⌜ Refused number r ⌝ }
+{
+    Answer {
+        number,
+        place: 0,
+        count: 0,
+    }
+}
+
+// Runs a session depth first and writes what a clearance is shown of it: questions 1 to 9 and 11 of any
+// bytes, of any length and content, and then the run.
+pub fn run_depth_first(session: &[u8], clearance: usize, result: &mut [u8]) -> Answer
+    ensures { λ r. ⌜ Answers (record { session = now (session .entry); clearance = clearance; work = []; buffer = now (result .entry) }) (deep (record { session = now (session .entry); clearance = clearance; work = []; buffer = now (result .entry) })) (r .number) (r .place) (r .count) [] (now (result .exit)) ⌝ }
+{
+    let number = session::number_of(session::check(session));
+    if number != 0 {
+        return refused(number);
+    }
+    let mut masks = [0u16; 8];
+    let levels = contents::level_table(session, &mut masks);
+    if clearance >= levels {
+        return refused(9);
+    }
+    if result.len() < 4624 {
+        return refused(11);
+    }
+    let count = run(session, &masks[..levels], clearance, result);
+    Answer {
+        number: 0,
+        place: 0,
+        count: count as u32,
+    }
+}
