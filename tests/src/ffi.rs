@@ -1,22 +1,31 @@
 //! The library under test, linked as the static library libexports.a.
 //!
-//! It exports the check so far. Until it exports the runs, the tuned variant
-//! stands in for them, so that everything around them is tried: to link them,
-//! declare them below and replace the bodies of the three run methods. Nothing
-//! outside this file knows where the runs come from.
+//! It exports the check and the depth-first run so far. Until it exports the
+//! other runs, the tuned variant stands in for them, so that everything around
+//! them is tried: to link them, declare them below and replace the bodies of
+//! their methods. Nothing outside this file knows where the runs come from.
 
 use crate::library::{Answer, Library};
 use crate::tuned::Tuned;
 
 extern "C" {
     fn lupinpause_check(session: *const u8, length: usize) -> u32;
+    fn lupinpause_run_depth_first(
+        session: *const u8,
+        length: usize,
+        clearance: usize,
+        result: *mut u8,
+        result_length: usize,
+        rest: *mut u32,
+        rest_length: usize,
+    ) -> u32;
 }
 
 pub struct Compiled;
 
 impl Compiled {
     /// Who answers the runs, for the reports.
-    pub const RUNS: &'static str = "the tuned variant in place of the library";
+    pub const RUNS: &'static str = "the library (depth-first) and the tuned variant in its place (timetabled, plain)";
 }
 
 /// Where a slice starts. An empty one may point nowhere: lend a value that
@@ -26,6 +35,15 @@ fn start<T>(slice: &[T], value: &'static T) -> *const T {
         value
     } else {
         slice.as_ptr()
+    }
+}
+
+/// The same of a slice that is written to.
+fn start_mut<T>(slice: &mut [T], value: &mut [T; 1]) -> *mut T {
+    if slice.is_empty() {
+        value.as_mut_ptr()
+    } else {
+        slice.as_mut_ptr()
     }
 }
 
@@ -59,6 +77,26 @@ impl Library for Compiled {
     }
 
     fn run_depth_first(&self, session: &[u8], clearance: u32, result: &mut [u8]) -> Answer {
-        Tuned.run_depth_first(session, clearance, result)
+        let mut rest = [0; 2];
+        let length = result.len();
+        // SAFETY: each pointer is to as many values as the length beside it
+        // says; they stay borrowed during the call, the session unchanged and
+        // the other two for this call alone.
+        let number = unsafe {
+            lupinpause_run_depth_first(
+                start(session, &0),
+                session.len(),
+                clearance as usize,
+                start_mut(result, &mut [0]),
+                length,
+                rest.as_mut_ptr(),
+                rest.len(),
+            )
+        };
+        Answer {
+            number,
+            place: rest[0] as usize,
+            count: rest[1] as usize,
+        }
     }
 }

@@ -1,0 +1,2 @@
+-- Laws of what the exported entries hand back.
+pub mod Told

@@ -1,0 +1,2 @@
+-- What the contracts of the exported entries cite.
+pub mod Calls
