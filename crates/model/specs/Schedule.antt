@@ -1,5 +1,6 @@
 -- Lists of scheduler steps: questions 12 to 15, the timetabled run (document 01: timetable) and the plain order. Assumes nothing.
 use Prim.Native.Nat.{ℕ, zero, suc}
+use mathlib.Core.Path.{_≡_}
 use mathlib.Core.Bool.{Bool, not, cond}
 use mathlib.Core.List.{List, [], _∷_}
 use lib.Dec.{eqb, ltb}
@@ -72,3 +73,8 @@ plainFrom (suc k) p st =
 
 unfoldable pub plainOrder : Program → Message → List ℕ
 plainOrder p root = plainFrom maxSchedule p (readIn p root)
+
+-- the steps of a list are allowed one after the other from state a, and lead to b
+unfoldable pub Leads : Program → State → List ℕ → State → Type 0
+Leads p a [] b = a ≡ b
+Leads p a (l ∷ ls) b = (stepRefusal p a l ≡ 0) × Leads p (stepAt p l a) ls b

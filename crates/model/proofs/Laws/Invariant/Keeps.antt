@@ -43,7 +43,7 @@ after-at l v ws versions x m q = elim (truth (isRunning (m .ending))) [
   | fails e ↦ rw e tt
 ]
 
-grown-level : (c : Counts) (e : Effect) → oneMore (grown c e) .level ≡ c .level
+pub grown-level : (c : Counts) (e : Effect) → oneMore (grown c e) .level ≡ c .level
 grown-level c effect.Nothing = refl
 grown-level c (effect.Write o k v) = refl
 grown-level c (effect.Fork u message) = refl
@@ -157,7 +157,8 @@ module _ (p : Program) (so : Sound p) (l : ℕ) (h : l < p .levels) (st : State)
       placed k hk (no n) (yes t) = rw (sym t) (rw (ap (λ v. v .activity) target) (arrived-at u c (levelAt st u) (o .placed u hu)))
       placed k hk (no n) (no g) = rw (ap (λ v. v .activity) (level-other (at u c) l k (done .own) st n g)) (o .placed k hk)
 
-pub first-of : (P : Entry → Type 0) (a : Entry) (W E : List Entry) → E ≡ a ∷ W → Each P E → P a
+-- what holds of each element holds of the first
+pub first-of : {A : Type 0} (P : A → Type 0) (a : A) (W E : List A) → E ≡ a ∷ W → Each P E → P a
 unfolding Each
 first-of P a W E e g = (rw e at g) .0
 

@@ -34,7 +34,7 @@ plain-over (suc fuel) p st q = elim (truth (ltb (lowest p st) (p .levels))) [
   | fails e ↦ rw e refl
 ]
 
-run-over : (i : ℕ) (p : Program) (ls : List ℕ) (st : State) → question15 p st ≡ true → ls ≡ [] → runFrom i p ls st ≡ finished st
+pub run-over : (i : ℕ) (p : Program) (ls : List ℕ) (st : State) → question15 p st ≡ true → ls ≡ [] → runFrom i p ls st ≡ finished st
 unfolding runFrom
 run-over i p ls st q e = rw (e, q) refl
 

@@ -99,7 +99,7 @@ newest-added b i o k (w ∷ ws) vs e = rw (missed (isOf o k w) (leb (w .stamp) b
     missed false c q = refl
 
 -- the last of some write stamps that all lie below b
-last-below : (b d x : ℕ) (hs : List History) → d < b → Each (λ h. h .last < b) hs → lastOr d (map (λ h. h .last) (select (λ h. ltb (h .stamp) x) hs)) < b
+pub last-below : (b d x : ℕ) (hs : List History) → d < b → Each (λ h. h .last < b) hs → lastOr d (map (λ h. h .last) (select (λ h. ltb (h .stamp) x) hs)) < b
 unfolding lastOr select Each
 last-below b d x [] h e = h
 last-below b d x (g ∷ gs) h e = elim (truth (ltb (g .stamp) x)) [

@@ -78,7 +78,7 @@ module _ (p : Program) (po : PartialOrder (p .levels) (p .dom)) where
       ∙ sym (step-is k (stepAt p l st))
 
 -- questions 12 to 14, taken apart and put together
-all-yes : (a b c : Bool) → cond {A = ℕ} a (cond b (cond c 0 14) 13) 12 ≡ 0 → (a ≡ true) × ((b ≡ true) × (c ≡ true))
+pub all-yes : (a b c : Bool) → cond {A = ℕ} a (cond b (cond c 0 14) 13) 12 ≡ 0 → (a ≡ true) × ((b ≡ true) × (c ≡ true))
 all-yes true true true e = (refl, (refl, refl))
 all-yes true true false e = absurd (omega (arith, e))
 all-yes true false c e = absurd (omega (arith, e))
