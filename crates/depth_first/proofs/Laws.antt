@@ -1,7 +1,6 @@
 -- Laws of the depth-first run.
 pub mod Kept
 pub mod Run
-pub mod Stamp
 pub mod Step
 pub mod Start
 pub mod Whole

@@ -13,13 +13,12 @@ use records::fields;
 use records::histories;
 use session::Message;
 use session::Value;
-ghost use Prim.Native.Nat.{_+_, _-_, _≤_, _<_, _^_};
+ghost use Prim.Native.Nat.{_<_};
 ghost use mathlib.Core.Path.{_≡_};
 ghost use lib.ListN.{getD};
 ghost use Rattle.managers.specs.Manager.{isRunning};
 ghost use Rattle.managers.specs.Asked.{Sees};
 ghost use Rattle.model.specs.Limits.{maxManagers};
-ghost use Rattle.model.specs.Fork as model;
 ghost use Rattle.records.specs.Fields.{fieldAt};
 ghost use Rattle.depth_first.specs.Kept.{Read, Keeps, Runnable, Steps, Asks, StepDone, ForkDone, RunDone, HistoryIs};
 
@@ -53,15 +52,6 @@ fn seen_by(current: &[u32], ask: Ask) -> Value
         Ask::Nothing => Value::Nil,
         Ask::Field { object, field } => fields::get(current, object as usize, field as usize),
     }
-}
-
-// The fork stamp of the next child of a manager that has made `forks`.
-fn child_stamp(stamp: u32, depth: u8, forks: u8) -> u32
-    requires { ⌜ (depth ≤ 7) × (forks < 15) × (stamp + 16 ^ (8 - depth) ≤ 2 ^ 32) ⌝ }
-    ensures { λ r. ⌜ r ≡ model.childStamp stamp depth (forks + 1) ⌝ }
-{
-    let place = 28 - 4 * (depth as u32);
-    stamp + ((forks as u32 + 1) << place)
 }
 
 // What is kept of a manager that has ended.
@@ -117,7 +107,7 @@ fn script_step(
         Effect::Fork { level, message } => {
             let child = Fork {
                 level,
-                stamp: child_stamp(fork.stamp, fork.depth, m.forks),
+                stamp: queues::child_stamp(fork.stamp, fork.depth, m.forks),
                 depth: fork.depth + 1,
                 message,
             };

@@ -3,7 +3,7 @@ mod bytes;
 pub mod fields;
 pub mod histories;
 mod shown;
-mod values;
+pub mod values;
 
 use managers::Ending;
 use session::Value;

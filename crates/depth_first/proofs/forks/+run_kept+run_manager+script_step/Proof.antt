@@ -19,7 +19,7 @@ use Rattle.depth_first.proofs.forks.+run_kept+run_manager+script_step.L
 use Rattle.depth_first.proofs.forks.script_step.Reads as script-step
 use Rattle.depth_first.proofs.forks.script_step.Kinds as script-step-kinds
 use Rattle.depth_first.proofs.forks.+run_kept+run_manager+script_step.Lts-script_step as script-step-lts
-use Rattle.depth_first.proofs.forks.child_stamp.Reads as child-stamp-reads
+use Rattle.queues.proofs.child_stamp.Reads as child-stamp-reads
 use Rattle.depth_first.proofs.forks.ended_of.Reads as ended-of-reads
 use Rattle.depth_first.proofs.forks.is_running.Reads as is-running-reads
 use Rattle.depth_first.proofs.forks.seen_by.Reads as seen-by-reads

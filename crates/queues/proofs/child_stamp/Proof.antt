@@ -1,8 +1,8 @@
--- `depth_first::forks::child_stamp` meets its contract. Assumes nothing.
+-- `queues::child_stamp` meets its contract. Assumes nothing.
 use borrow.Author.Needs.{needs}
-use Rattle.depth_first.proofs.Laws.Stamp.{child-fits, child-is}
-use Rattle.depth_first.proofs.forks.child_stamp.Statement.{statement}
-use Rattle.depth_first.proofs.forks.child_stamp.Tie as tie
+use Rattle.queues.proofs.Laws.Stamp.{child-fits, child-is}
+use Rattle.queues.proofs.child_stamp.Statement.{statement}
+use Rattle.queues.proofs.child_stamp.Tie as tie
 
 mul-place : tie.Need-mul-place
 mul-place c = search needs

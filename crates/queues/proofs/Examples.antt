@@ -1,0 +1,44 @@
+-- Forks read from words, and one that arrives where there is room for two, computed by the definitions. Assumes nothing.
+use Prim.Native.Nat.{ℕ, _-_}
+use mathlib.Core.Path.{_≡_, refl}
+use mathlib.Core.List.{List, [], _∷_, _++_, map}
+use lib.ListN.{replicate, take}
+use Rattle.session.specs.Lists.{tab, risingFrom}
+use Rattle.session.specs.declared.Message.{Message}
+use Rattle.session.specs.declared.Value.the-variants.{Nil, Number}
+use Rattle.model.specs.Limits.{maxManagers}
+use Rattle.model.specs.Lists.{inserted}
+use Rattle.model.specs.Fork.{Fork, rootFork}
+use Rattle.rows.specs.Rows.{rowAt, rowsAt}
+use Rattle.queues.specs.Queue.{forkPlace, forkOfRow, rowOf, forkAt, forksAt, ForksRise}
+
+abbrev root : Message
+root = record { object = 3; name = 15; parameter = Nil }
+
+abbrev sent : Message
+sent = record { object = 2; name = 1; parameter = Number 7 }
+
+-- a child of the root that carries write stamp 4 for level 1
+abbrev child : Fork
+child = record { stamp = 0x10000000; depth = 1; seen = 0 ∷ 4 ∷ 0 ∷ []; message = sent }
+
+abbrev childRow : List ℕ
+childRow = 0x10000000 ∷ 1 ∷ 2 ∷ 1 ∷ 1 ∷ 7 ∷ 0 ∷ 4 ∷ replicate 6 0
+
+-- at level 0 thirty have started, and two wait
+abbrev queue : List ℕ
+queue = replicate (forkPlace 0 30) 0 ++ rowOf 0x10000000 1 sent ++ rowOf 0x30000000 1 sent
+
+abbrev stampsOf : List Fork → List ℕ
+stampsOf = map (λ f. f .stamp)
+
+pub record Examples : Type 0 where
+  root-back : forkOfRow 3 (rowOf 0 0 root) ≡ rootFork 3 root
+  child-back : forkAt 3 (rowOf 0 0 root ++ childRow) 0 1 ≡ child
+  rise : ForksRise queue 0 30 2
+  -- of three there is room for those of the two smallest stamps
+  kept : stampsOf (take (maxManagers - 30) (inserted (λ f. f .stamp) (forkOfRow 1 (rowOf 0x20000000 1 sent)) (forksAt 1 queue 0 30 2))) ≡ 0x10000000 ∷ 0x20000000 ∷ []
+
+pub examples : Examples
+unfolding tab risingFrom inserted rowAt rowsAt forkOfRow forkAt forksAt
+examples = record { root-back = refl; child-back = refl; rise = refl; kept = refl }

@@ -1,0 +1,48 @@
+-- `queues::carried_at` meets its contract. Assumes nothing.
+use Rattle.queues.proofs.Laws.Queue.{carried-is}
+use borrow.Author.Needs.{needs}
+use Rattle.queues.proofs.carried_at.Statement.{statement}
+use Rattle.queues.proofs.carried_at.Tie as tie
+
+mul-result : tie.Need-mul-result
+mul-result c = search needs
+
+add-result : tie.Need-add-result
+add-result c = search needs
+
+mul-result-2 : tie.Need-mul-result-2
+mul-result-2 c = search needs
+
+add-result-2 : tie.Need-add-result-2
+add-result-2 c = search needs
+
+add-result-3 : tie.Need-add-result-3
+add-result-3 c = search needs
+
+mul-result-3 : tie.Need-mul-result-3
+mul-result-3 c = search needs
+
+shared-slice-read-result : tie.Need-shared-slice-read-result
+shared-slice-read-result c = search needs
+
+cast-result : tie.Need-cast-result
+cast-result c = search needs
+
+returns : tie.Need-returns
+returns c =
+    let g = c .before .args in
+    (λ n h. carried-is n (g .queue .now) (g .level) (g .i) (g .j) h (c .before .pre .1))
+
+pub carried-at-spec : {M : Type 1} → statement M
+carried-at-spec =
+    tie.close
+    (tie.spec
+    mul-result
+    add-result
+    mul-result-2
+    add-result-2
+    add-result-3
+    mul-result-3
+    shared-slice-read-result
+    cast-result
+    returns)

@@ -1,0 +1,94 @@
+-- The forks of each level, kept in words: 14 for each, 32 of them for each level. Assumes nothing.
+use Prim.Native.Nat.{ℕ, _+_, _*_, _-_, _%_, _^_, _≤_, _<_, min}
+use mathlib.Core.Path.{_≡_}
+use mathlib.Core.List.{List, _∷_, map}
+use lib.ListN.{length, getD, set, take, replicate}
+use Rattle.session.specs.Limits.{maxLevels}
+use Rattle.session.specs.Lists.{tab}
+use Rattle.session.specs.declared.Message.{Message}
+use Rattle.model.specs.Limits.{maxManagers}
+use Rattle.model.specs.Lists.{inserted}
+use Rattle.model.specs.Fork.{Fork, rootFork}
+use Rattle.model.specs.Result.{tag, numberIn}
+use Rattle.rows.specs.Rows.{rowAt, rowsAt, Rising}
+use Rattle.rows.specs.Change.{Outside}
+use Rattle.records.specs.Fields.{valueOf}
+
+-- a fork's words: stamp, depth, object, name, the parameter's tag and number, and a write stamp for each level
+abbrev pub forkWords : ℕ
+forkWords = 6 + maxLevels
+
+-- those of all levels: "A level keeps the 32 forks of smallest stamp"
+abbrev pub queueWords : ℕ
+queueWords = forkWords * (maxManagers * maxLevels)
+
+-- where fork i of level l stands
+abbrev pub forkPlace : ℕ → ℕ → ℕ
+forkPlace l i = forkWords * (maxManagers * l + i)
+
+-- the fork in a row, among n levels. Each number has the width that it has elsewhere
+unfoldable pub forkOfRow : ℕ → List ℕ → Fork
+forkOfRow n row =
+    record {
+      stamp = getD row 0 0;
+      depth = getD row 1 0 % 2 ^ 8;
+      seen = tab n (λ j. getD row (6 + j) 0 % 2 ^ 16);
+      message = record { object = getD row 2 0 % 2 ^ 8; name = getD row 3 0 % 2 ^ 8; parameter = valueOf (getD row 4 0) (getD row 5 0) };
+    }
+
+-- the row of a fork with a stamp, a depth and a message, that carries no write stamp
+abbrev pub rowOf : ℕ → ℕ → Message → List ℕ
+rowOf stamp depth message =
+    stamp
+    ∷ depth
+    ∷ message .object
+    ∷ message .name
+    ∷ tag (message .parameter)
+    ∷ numberIn (message .parameter)
+    ∷ replicate maxLevels 0
+
+-- fork i of level l
+unfoldable pub forkAt : ℕ → List ℕ → ℕ → ℕ → Fork
+forkAt n ws l i = forkOfRow n (rowAt ws (forkPlace l i) forkWords)
+
+-- `count` forks of level l, from the one at place `first` on
+unfoldable pub forksAt : ℕ → List ℕ → ℕ → ℕ → ℕ → List Fork
+forksAt n ws l first count = map (forkOfRow n) (rowsAt ws (forkPlace l first) forkWords count)
+
+-- they stand by rising stamp
+abbrev pub ForksRise : List ℕ → ℕ → ℕ → ℕ → Type 0
+ForksRise ws l first count = Rising (rowsAt ws (forkPlace l first) forkWords count)
+
+-- there are words for fork i of level l
+pub record There (ws : List ℕ) (l i : ℕ) : Type 0 where
+  pub room : queueWords ≤ length ws
+  pub level : l < maxLevels
+  pub placed : i < maxManagers
+
+-- a row holds the root's fork
+abbrev pub RootRow : Message → List ℕ → Type 0
+RootRow message row = (n : ℕ) → n ≤ maxLevels → forkOfRow n row ≡ rootFork n message
+
+-- a row holds a fork of the manager of fork i of level l, with a stamp, a depth and a message, that carries a write stamp for l
+abbrev pub ChildRow : List ℕ → ℕ → ℕ → ℕ → ℕ → ℕ → Message → List ℕ → Type 0
+ChildRow ws l i stamp depth carried message row =
+    (n : ℕ)
+    → l < n
+    → n ≤ maxLevels
+    → forkOfRow n row ≡ record { stamp = stamp; depth = depth; seen = set (forkAt n ws l i .seen) l carried; message = message }
+
+-- at level l `started` forks have started, and `waiting` wait, by rising stamp
+pub record Room (ws : List ℕ) (l started waiting : ℕ) : Type 0 where
+  pub room : queueWords ≤ length ws
+  pub level : l < maxLevels
+  pub kept : started + waiting ≤ maxManagers
+  pub rises : ForksRise ws l started waiting
+
+-- a fork arrived at level l: of those that wait and this one the first are kept for which there is room. No other fork is touched
+pub record Arrived (ws ws' : List ℕ) (l started waiting : ℕ) (row : List ℕ) (count : ℕ) : Type 0 where
+  pub number : count ≡ min (waiting + 1) (maxManagers - started)
+  pub forks : (n : ℕ) → forksAt n ws' l started count ≡ take (maxManagers - started) (inserted (λ y. y .stamp) (forkOfRow n row) (forksAt n ws l started waiting))
+  pub rises : ForksRise ws' l started count
+  pub before : (n i : ℕ) → i < started → forkAt n ws' l i ≡ forkAt n ws l i
+  pub others : (l' first k : ℕ) → (l' ≡ l → ⊥) → first + k ≤ maxManagers → rowsAt ws' (forkPlace l' first) forkWords k ≡ rowsAt ws (forkPlace l' first) forkWords k
+  pub outside : Outside ws ws' (forkPlace l started) (forkPlace l maxManagers)
