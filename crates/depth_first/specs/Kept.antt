@@ -20,7 +20,6 @@ use Rattle.managers.specs.declared.Ask.the-variants as ask
 use Rattle.model.specs.Limits.{maxManagers, stampDigits}
 use Rattle.model.specs.Lists.{inserted}
 use Rattle.model.specs.Fork as model
-use Rattle.model.specs.History as history
 use Rattle.model.specs.DepthFirst.{Progress, tallyAt, fieldNow, effected, runFork}
 use Rattle.records.specs.Limits.{fieldWords, historyWords}
 use Rattle.records.specs.Fields.{fieldAt, FieldThere}
@@ -117,7 +116,3 @@ RunDone s left f w w' r =
     → Same f x
     → Says s (runFork left (programOf s) (f .level) x g) w'
     × (0 < left → tallyAt (runFork left (programOf s) (f .level) x g) (f .level) .ended ≡ inserted (λ h. h .stamp) (historyOf r) (tallyAt g (f .level) .ended))
-
--- the history of a fork's manager
-abbrev pub HistoryIs : ℕ → Manager → Ended → Type 0
-HistoryIs stamp m r = (x : model.Fork) → x .stamp ≡ stamp → historyOf r ≡ history.historyOf x m

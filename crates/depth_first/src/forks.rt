@@ -6,7 +6,6 @@
 // of its next one.
 use managers::Ask;
 use managers::Effect;
-use managers::Ending;
 use managers::Manager;
 use records::Ended;
 use records::fields;
@@ -16,11 +15,10 @@ use session::Value;
 ghost use Prim.Native.Nat.{_<_};
 ghost use mathlib.Core.Path.{_≡_};
 ghost use lib.ListN.{getD};
-ghost use Rattle.managers.specs.Manager.{isRunning};
 ghost use Rattle.managers.specs.Asked.{Sees};
 ghost use Rattle.model.specs.Limits.{maxManagers};
 ghost use Rattle.records.specs.Fields.{fieldAt};
-ghost use Rattle.depth_first.specs.Kept.{Read, Keeps, Runnable, Steps, Asks, StepDone, ForkDone, RunDone, HistoryIs};
+ghost use Rattle.depth_first.specs.Kept.{Read, Keeps, Runnable, Steps, Asks, StepDone, ForkDone, RunDone};
 
 // A fork that is about to run, or runs: its level, its fork stamp, how many forks deep it is, and its
 // message.
@@ -31,18 +29,6 @@ pub struct Fork {
     pub message: Message,
 }
 
-// Whether a manager has not ended.
-fn is_running(ending: Ending) -> bool
-    ensures { λ r. ⌜ r ≡ isRunning ending ⌝ }
-{
-    match ending {
-        Ending::Running => true,
-        Ending::Finished => false,
-        Ending::OutOfSteps => false,
-        Ending::OutOfWrites => false,
-    }
-}
-
 // What a script step sees of the field that it asks.
 fn seen_by(current: &[u32], ask: Ask) -> Value
     requires { ⌜ Asks (now current) ask ⌝ }
@@ -51,23 +37,6 @@ fn seen_by(current: &[u32], ask: Ask) -> Value
     match ask {
         Ask::Nothing => Value::Nil,
         Ask::Field { object, field } => fields::get(current, object as usize, field as usize),
-    }
-}
-
-// What is kept of a manager that has ended.
-fn ended_of(m: Manager, stamp: u32) -> Ended
-    ensures { λ r. ⌜ HistoryIs stamp m r ⌝ }
-{
-    let ending = m.ending;
-    let reply = m.reply;
-    Ended {
-        ending,
-        writes: m.writes,
-        stamp,
-        first: m.first,
-        last: m.stamp,
-        steps: m.steps,
-        reply,
     }
 }
 
@@ -159,10 +128,10 @@ pub fn run_manager(
     let next = tallies[8 + level] as u16;
     let mut m = Manager::start(session, index, fork.level, next, message);
     if left == 0 {
-        return ended_of(m, fork.stamp);
+        return histories::ended_of(m, fork.stamp);
     }
     let mut ending = m.ending;
-    while is_running(ending) {
+    while managers::is_running(ending) {
         m = script_step(
             session,
             masks,
@@ -176,7 +145,7 @@ pub fn run_manager(
         );
         ending = m.ending;
     }
-    let history = ended_of(m, fork.stamp);
+    let history = histories::ended_of(m, fork.stamp);
     let count = tallies[level];
     histories::add(ended, level, count, history);
     tallies[level] = count + 1;

@@ -11,7 +11,7 @@ use session::Value;
 ghost use Prim.Native.Nat.{ℕ};
 ghost use mathlib.Core.Path.{_≡_};
 ghost use Rattle.session.specs.Program.{programOf};
-ghost use Rattle.managers.specs.Manager.{top, started, stepped};
+ghost use Rattle.managers.specs.Manager.{isRunning, top, started, stepped};
 ghost use Rattle.managers.specs.Asked.{askedOf, Sees};
 ghost use Rattle.managers.specs.Valid.{Indexed, Startable, Ready};
 
@@ -40,6 +40,18 @@ pub enum Ending {
     OutOfSteps,
     // Ending 2: a seventeenth write.
     OutOfWrites,
+}
+
+// Whether a manager has not ended.
+pub fn is_running(ending: Ending) -> bool
+    ensures { λ r. ⌜ r ≡ isRunning ending ⌝ }
+{
+    match ending {
+        Ending::Running => true,
+        Ending::Finished => false,
+        Ending::OutOfSteps => false,
+        Ending::OutOfWrites => false,
+    }
 }
 
 // A message manager.

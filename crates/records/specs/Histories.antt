@@ -10,8 +10,11 @@ use Rattle.session.specs.Lists.{risingFrom}
 use Rattle.managers.specs.Manager.{isRunning}
 use Rattle.managers.specs.declared.Ending.{Ending}
 use Rattle.managers.specs.declared.Ending.the-variants.{Finished, OutOfSteps, OutOfWrites}
+use Rattle.managers.specs.declared.Manager.{Manager}
 use Rattle.model.specs.Limits.{maxManagers}
 use Rattle.model.specs.Lists.{inserted}
+use Rattle.model.specs.Fork.{Fork}
+use Rattle.model.specs.History as model
 use Rattle.model.specs.History.{History}
 use Rattle.rows.specs.Rows.{rowsAt}
 use Rattle.rows.specs.Change.{Outside}
@@ -65,11 +68,22 @@ historyOf e =
       reply = e .reply;
     }
 
+-- the history of the manager of a fork with this stamp
+abbrev pub HistoryIs : ℕ → Manager → Ended → Type 0
+HistoryIs stamp m e = (x : Fork) → x .stamp ≡ stamp → historyOf e ≡ model.historyOf x m
+
 -- there are words for the histories of each level, and a number for each of how many it has
 pub record HistoriesReady (ws counts : List ℕ) : Type 0 where
   pub room : historyWords ≤ length ws
   pub levels : maxLevels ≤ length counts
   pub counted : (l : ℕ) → l < maxLevels → getD counts l 0 ≤ maxManagers
+
+-- level l has n histories in order
+pub record HistoriesThere (ws : List ℕ) (l n : ℕ) : Type 0 where
+  pub room : historyWords ≤ length ws
+  pub level : l < maxLevels
+  pub count : n ≤ maxManagers
+  pub rises : InOrder (historiesAt ws l n)
 
 -- level l has `count` histories in order, and room for one more; the manager has ended
 pub record HistoryRoom (ws : List ℕ) (l count : ℕ) (e : Ended) : Type 0 where

@@ -2,9 +2,11 @@
 use crate::Ended;
 use crate::values;
 use managers::Ending;
+use managers::Manager;
 ghost use mathlib.Core.Path.{_≡_};
 ghost use Rattle.managers.specs.Manager.{numberOfEnding};
-ghost use Rattle.records.specs.Histories.{HistoryRoom, Added};
+ghost use Rattle.model.specs.History.{endBefore};
+ghost use Rattle.records.specs.Histories.{historiesAt, HistoryRoom, Added, HistoriesThere, HistoryIs};
 
 // Document 01's number of an ending.
 fn number_of_ending(ending: Ending) -> u32
@@ -36,4 +38,37 @@ pub fn add(histories: &mut [u32], level: usize, count: usize, ended: Ended)
         values::number_in(reply),
     ];
     rows::insert(histories, 256 * level, count, 32, &row);
+}
+
+// Of the `count` histories of a level, the end stamp of the one with the largest fork stamp smaller than
+// this one, or 0 where none is smaller. Stamps are whole numbers: smaller than it are those up to one less.
+pub fn end_before(histories: &[u32], level: usize, count: usize, stamp: u32) -> u32
+    requires { ⌜ HistoriesThere (now histories) level count ⌝ }
+    ensures { λ r. ⌜ r ≡ endBefore stamp (historiesAt (now (histories .entry)) level count) ⌝ }
+{
+    if stamp == 0 {
+        return 0;
+    }
+    let smaller = rows::place(histories, 256 * level, 8, count, stamp - 1);
+    if smaller == 0 {
+        return 0;
+    }
+    histories[256 * level + 8 * (smaller - 1) + 4]
+}
+
+// What is kept of a manager, with the stamp of its fork.
+pub fn ended_of(m: Manager, stamp: u32) -> Ended
+    ensures { λ r. ⌜ HistoryIs stamp m r ⌝ }
+{
+    let ending = m.ending;
+    let reply = m.reply;
+    Ended {
+        ending,
+        writes: m.writes,
+        stamp,
+        first: m.first,
+        last: m.stamp,
+        steps: m.steps,
+        reply,
+    }
 }

@@ -26,9 +26,9 @@ fn store(words: &mut [u32], at: usize, row: &[u32])
     }
 }
 
-// How many of `count` rows stand before a row of this key. The search starts at the last row: a key
-// that is greater than all is found at once.
-fn place(words: &[u32], base: usize, width: usize, count: usize, key: u32) -> usize
+// How many of `count` rows have keys up to this one, and so stand before a row of this key. The search
+// starts at the last row: a key that is greater than all is found at once.
+pub fn place(words: &[u32], base: usize, width: usize, count: usize, key: u32) -> usize
     requires { ⌜ (0 < width) × (base + width * count ≤ length (now words)) × Rising (rowsAt (now words) base width count) ⌝ }
     ensures { λ r. ⌜ Place (now (words .entry)) base width count key r ⌝ }
 {

@@ -27,9 +27,9 @@ use Rattle.model.specs.Fork as model
 use Rattle.model.specs.DepthFirst.{Progress, tallyAt, fieldNow, close, effected, finish, runFork}
 use Rattle.model.proofs.Laws.Order.Accepted.{sound}
 use Rattle.model.proofs.Laws.Code.DepthFirst.{finish-step, finish-over, effected-own, runFork-leaves}
-use Rattle.records.specs.Histories.{historyOf, HistoryRoom, Added}
+use Rattle.records.specs.Histories.{historyOf, HistoryRoom, Added, HistoryIs}
 use Rattle.records.specs.declared.Ended.{Ended}
-use Rattle.depth_first.specs.Kept.{Read, Keeps, Runnable, Same, Steps, Words, Says, StepDone, ForkDone, RunDone, HistoryIs}
+use Rattle.depth_first.specs.Kept.{Read, Keeps, Runnable, Same, Steps, Words, Says, StepDone, ForkDone, RunDone}
 use Rattle.depth_first.specs.declared.forks.Fork.{Fork}
 use Rattle.depth_first.proofs.Laws.Kept.{tallied, ended-own, kept-close}
 

@@ -1,5 +1,5 @@
 -- Histories kept in words: one row, one more history, and those of other levels. Assumes nothing.
-use Prim.Native.Nat.{ℕ, _+_, _*_, _%_, _≤_, _<_}
+use Prim.Native.Nat.{ℕ, zero, suc, _+_, _*_, _%_, _≤_, _<_}
 use mathlib.Core.Path.{_≡_, refl, _∙_, ap}
 use mathlib.Core.Bool.{true, false, true≢false}
 use mathlib.Core.List.{List, [], _∷_, map}
@@ -15,8 +15,9 @@ use Rattle.managers.specs.declared.Ending.{Ending}
 use Rattle.managers.specs.declared.Ending.the-variants.{Running, Finished, OutOfSteps, OutOfWrites}
 use Rattle.model.specs.Limits.{maxManagers}
 use Rattle.model.specs.Lists.{inserted}
+use Rattle.model.specs.History.{History}
 use Rattle.model.specs.Result.{tag, numberIn}
-use Rattle.rows.specs.Rows.{rowsAt, keyOf}
+use Rattle.rows.specs.Rows.{rowAt, rowsAt, keyOf}
 use Rattle.rows.specs.Change.{Outside, Inserted}
 use Rattle.rows.proofs.Laws.Outside.{before, behind, rows-apart}
 use Rattle.rows.proofs.Laws.Rows.{rows-length, decoded, decoded-rises}
@@ -51,6 +52,20 @@ stamp-key row = refl
 pub rows-rise : (ws : List ℕ) (l n : ℕ) → risingFrom (λ h. h .stamp) 0 (historiesAt ws l n) ≡ risingFrom keyOf 0 (rowsAt ws (levelPlace l) rowWords n)
 unfolding historiesAt
 rows-rise ws l n = decoded-rises historyOfRow (λ h. h .stamp) stamp-key (rowsAt ws (levelPlace l) rowWords n)
+
+-- a map of a `tab`
+pub map-tab : {A B : Type 0} (f : A → B) (n : ℕ) (g : ℕ → A) → map f (tab n g) ≡ tab n (λ i. f (g i))
+unfolding tab
+map-tab f zero g = refl
+map-tab f (suc n) g = ap (λ t. f (g zero) ∷ t) (map-tab f n (λ i. g (suc i)))
+
+-- histories by number
+abbrev pub historyAt : List ℕ → ℕ → ℕ → History
+historyAt ws l i = historyOfRow (rowAt ws (levelPlace l + rowWords * i) rowWords)
+
+pub histories-tab : (ws : List ℕ) (l n : ℕ) → historiesAt ws l n ≡ tab n (historyAt ws l)
+unfolding historiesAt rowsAt
+histories-tab ws l n = map-tab historyOfRow n (λ i. rowAt ws (levelPlace l + rowWords * i) rowWords)
 
 -- as many as are asked for, and at first none
 pub histories-none : (ws : List ℕ) (l : ℕ) → historiesAt ws l 0 ≡ []

@@ -19,10 +19,10 @@ use Rattle.model.specs.Limits.{maxManagers}
 use Rattle.model.specs.History.{History}
 use Rattle.model.specs.Result.{objectRecord, historyRecord, replyRecord, replyOf}
 use Rattle.rows.specs.Rows.{rowAt, rowsAt}
-use Rattle.records.specs.Limits.{rowWords}
 use Rattle.records.specs.Fields.{valueOf}
 use Rattle.records.specs.Histories.{historyOfRow, levelPlace, historiesAt}
 use Rattle.records.specs.Writing.{shownObject, shownLevel, shownReply, Placed}
+use Rattle.records.proofs.Laws.Histories.{map-tab, historyAt, histories-tab}
 use Rattle.records.proofs.Laws.Placed.{placed-none}
 
 -- an object: its record where the clearance dominates its level, and else nothing
@@ -62,21 +62,12 @@ module _ (dom : Dominance) (ended : ℕ → List History) (c l at next : ℕ) (b
   unfolding shownReply
   reply-hidden d h = rw d (placed-none at b h)
 
--- a map of a `tab`
-pub map-tab : {A B : Type 0} (f : A → B) (n : ℕ) (g : ℕ → A) → map f (tab n g) ≡ tab n (λ i. f (g i))
-unfolding tab
-map-tab f zero g = refl
-map-tab f (suc n) g = ap (λ t. f (g zero) ∷ t) (map-tab f n (λ i. g (suc i)))
-
 -- the histories of a level, row by row
 abbrev pub historyBytes : List ℕ → ℕ → ℕ → List ℕ
-historyBytes ws l i = historyRecord l (historyOfRow (rowAt ws (levelPlace l + rowWords * i) rowWords))
+historyBytes ws l i = historyRecord l (historyAt ws l i)
 
 pub histories-rows : (ws : List ℕ) (l n : ℕ) → map (historyRecord l) (historiesAt ws l n) ≡ tab n (historyBytes ws l)
-unfolding historiesAt rowsAt
-histories-rows ws l n =
-    ap (map (historyRecord l)) (map-tab historyOfRow n (λ i. rowAt ws (levelPlace l + rowWords * i) rowWords))
-    ∙ map-tab (historyRecord l) n (λ i. historyOfRow (rowAt ws (levelPlace l + rowWords * i) rowWords))
+histories-rows ws l n = ap (map (historyRecord l)) (histories-tab ws l n) ∙ map-tab (historyRecord l) n (historyAt ws l)
 
 -- the reply of a level's first history
 pub reply-none : (ws : List ℕ) (l n : ℕ) → n ≡ 0 → Nil ≡ replyOf (historiesAt ws l n)

@@ -20,14 +20,14 @@ use Rattle.depth_first.proofs.forks.script_step.Reads as script-step
 use Rattle.depth_first.proofs.forks.script_step.Kinds as script-step-kinds
 use Rattle.depth_first.proofs.forks.+run_kept+run_manager+script_step.Lts-script_step as script-step-lts
 use Rattle.queues.proofs.child_stamp.Reads as child-stamp-reads
-use Rattle.depth_first.proofs.forks.ended_of.Reads as ended-of-reads
-use Rattle.depth_first.proofs.forks.is_running.Reads as is-running-reads
 use Rattle.depth_first.proofs.forks.seen_by.Reads as seen-by-reads
 use Rattle.managers.proofs.Frame.asks.Reads as asks-reads
 use Rattle.managers.proofs.Manager.start.Reads as start-reads
 use Rattle.managers.proofs.Manager.step.Reads as step-reads
+use Rattle.managers.proofs.is_running.Reads as is-running-reads
 use Rattle.records.proofs.fields.set.Reads as set-reads
 use Rattle.records.proofs.histories.add.Reads as add-reads
+use Rattle.records.proofs.histories.ended_of.Reads as ended-of-reads
 use Rattle.depth_first.proofs.forks.+run_kept+run_manager+script_step.{statement}
 use Rattle.depth_first.proofs.forks.+run_kept+run_manager+script_step.Tie.{close}
 
