@@ -65,11 +65,11 @@ pub isolation : Isolation
 isolation s a c h ls t e = laws.isolation s a c h ls t e
 
 -- the bytes of a depth-first run of a program
-abbrev deepBytes : Program → Message → ℕ → List ℕ → List ℕ
+abbrev pub deepBytes : Program → Message → ℕ → List ℕ → List ℕ
 deepBytes p root c order =
     bytesOf p (p .level (root .object)) (resultOfDepthFirst p (depthFirst p root)) c order
 
-session-bytes : (q : Request) (order : List ℕ) → bytesFor q order (resultOfDepthFirst (programOf (q .session)) (depthFirst (programOf (q .session)) (rootOf (q .session)))) ≡ deepBytes (programOf (q .session)) (rootOf (q .session)) (q .clearance) order
+pub session-bytes : (q : Request) (order : List ℕ) → bytesFor q order (resultOfDepthFirst (programOf (q .session)) (depthFirst (programOf (q .session)) (rootOf (q .session)))) ≡ deepBytes (programOf (q .session)) (rootOf (q .session)) (q .clearance) order
 unfolding programOf
 session-bytes q order = refl
 
@@ -84,7 +84,7 @@ seen-bytes c p root order = refl
 present : (s : List ℕ) (c : ℕ) → c < levelCount s → c < programOf s .levels
 present s c h = unfold programOf in h
 
-same-as : (a b a' b' : List ℕ) → a ≡ a' → b ≡ b' → SameBytes a' b' → SameBytes a b
+pub same-as : (a b a' b' : List ℕ) → a ≡ a' → b ≡ b' → SameBytes a' b' → SameBytes a b
 same-as a b a' b' q e s = rw (q, e) s
 
 -- a run, and the depth-first run of the emptied session

@@ -12,3 +12,4 @@ pub mod Entries
 pub mod Reader
 pub mod Isolation
 pub mod Demands
+pub mod Calls

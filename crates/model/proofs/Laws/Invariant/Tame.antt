@@ -43,7 +43,7 @@ total-delivered none st = refl
 total-delivered (at u x) st = total-arrived u x st
 
 -- a step of a manager keeps the limits of its level, and leaves it fewer steps
-move-falls : (p : Program) (l : ℕ) (st : State) → Sound p → l < p .levels → hasManager (levelAt st l) ≡ true → Tame (levelAt st l) → Falls (levelAt st l) (moveAt p l st .own)
+pub move-falls : (p : Program) (l : ℕ) (st : State) → Sound p → l < p .levels → hasManager (levelAt st l) ≡ true → Tame (levelAt st l) → Falls (levelAt st l) (moveAt p l st .own)
 unfolding moveAt
 move-falls p l st so h m t =
     let view = viewOf p l st in

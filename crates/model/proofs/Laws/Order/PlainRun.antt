@@ -40,7 +40,7 @@ module _ (p : Program) (so : Sound p) (few : p .levels ≤ 8) (root : Message) w
     | no n ↦ rw (elsewhere p so few root k n) new-tame
   ]
 
-  read-in-total : total (readIn p root) ≤ maxSchedule
+  pub read-in-total : total (readIn p root) ≤ maxSchedule
   unfolding readIn
   read-in-total =
       rw (total-arrived (p .level (root .object)) (rootFork (p .levels) root) (replicate (p .levels) newLevel), total-new (p .levels)) (omega (arith, few))

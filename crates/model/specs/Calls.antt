@@ -1,0 +1,45 @@
+-- The client's demands 2 and 3 of calls of the entries: over the answers that their contracts promise and the bytes that they wrote. The
+-- proofs are in proofs/Calls.antt. Assumes nothing.
+use Prim.Native.Nat.{ℕ}
+use mathlib.Core.Path.{_≡_}
+use mathlib.Core.List.{List}
+use lib.ListN.{take}
+use Rattle.session.specs.Emptied.{emptied}
+use Rattle.model.specs.Entries.{Request, Answer, timetabled, plain, deep, Answers}
+use Rattle.model.specs.Reader.{SameBytes}
+
+-- a call on session s, for a reader cleared to level c, answered 0, and wrote these bytes to its result buffer: what the contract of an
+-- entry promises of it, whatever its buffers held
+pub record Called (of : Request → List ℕ → Answer) (s : List ℕ) (c : ℕ) (bytes : List ℕ) : Type 0 where
+  pub request : Request
+  pub session-is : request .session ≡ s
+  pub clearance-is : request .clearance ≡ c
+  pub place : ℕ
+  pub count : ℕ
+  pub work : List ℕ
+  pub buffer : List ℕ
+  pub answers : Answers request (of request) 0 place count work buffer
+  pub written : bytes ≡ take count buffer
+
+-- of the depth-first entry
+abbrev pub DeepCalled : List ℕ → ℕ → List ℕ → Type 0
+DeepCalled = Called deep
+
+-- of the timetabled entry, with some timetable, or of the plain one
+pub data RunCalled (s : List ℕ) (c : ℕ) (bytes : List ℕ) : Type 0 where
+  by-timetable : (ls : List ℕ) → Called (λ q order. timetabled q order ls) s c bytes → RunCalled s c bytes
+  plainly : Called plain s c bytes → RunCalled s c bytes
+
+-- Demand 2: the run and the depth-first run of one session, for one reader
+abbrev pub Demand2Calls : Type 0
+Demand2Calls = (c : ℕ) (s b d : List ℕ) → RunCalled s c b → DeepCalled s c d → SameBytes b d
+
+-- Demand 3: two runs of two sessions are equal to the reader exactly when the depth-first runs of the two sessions emptied for him are
+abbrev pub Demand3Calls : Type 0
+Demand3Calls =
+    (c : ℕ) (s s' b b' d d' : List ℕ)
+    → RunCalled s c b
+    → RunCalled s' c b'
+    → DeepCalled (emptied c s) c d
+    → DeepCalled (emptied c s') c d'
+    → (SameBytes b b' → SameBytes d d') × (SameBytes d d' → SameBytes b b')
