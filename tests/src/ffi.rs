@@ -1,15 +1,33 @@
 //! The library under test, linked as the static library libexports.a.
-//!
-//! It exports the check and the depth-first run so far. Until it exports the
-//! other runs, the tuned variant stands in for them, so that everything around
-//! them is tried: to link them, declare them below and replace the bodies of
-//! their methods. Nothing outside this file knows where the runs come from.
 
 use crate::library::{Answer, Library};
-use crate::tuned::Tuned;
 
 extern "C" {
     fn lupinpause_check(session: *const u8, length: usize) -> u32;
+    fn lupinpause_run_timetable(
+        session: *const u8,
+        length: usize,
+        timetable: *const u8,
+        timetable_length: usize,
+        clearance: usize,
+        work: *mut u32,
+        work_length: usize,
+        result: *mut u8,
+        result_length: usize,
+        rest: *mut u32,
+        rest_length: usize,
+    ) -> u32;
+    fn lupinpause_run_plain(
+        session: *const u8,
+        length: usize,
+        clearance: usize,
+        work: *mut u32,
+        work_length: usize,
+        result: *mut u8,
+        result_length: usize,
+        rest: *mut u32,
+        rest_length: usize,
+    ) -> u32;
     fn lupinpause_run_depth_first(
         session: *const u8,
         length: usize,
@@ -22,11 +40,6 @@ extern "C" {
 }
 
 pub struct Compiled;
-
-impl Compiled {
-    /// Who answers the runs, for the reports.
-    pub const RUNS: &'static str = "the library (depth-first) and the tuned variant in its place (timetabled, plain)";
-}
 
 /// Where a slice starts. An empty one may point nowhere: lend a value that
 /// exists instead.
@@ -47,6 +60,15 @@ fn start_mut<T>(slice: &mut [T], value: &mut [T; 1]) -> *mut T {
     }
 }
 
+/// An answer of the library: its number, and its place and count.
+fn answer(number: u32, [place, count]: [u32; 2]) -> Answer {
+    Answer {
+        number,
+        place: place as usize,
+        count: count as usize,
+    }
+}
+
 impl Library for Compiled {
     fn check(&self, session: &[u8]) -> u32 {
         // SAFETY: the pointer is to `session.len()` readable bytes, which stay
@@ -63,7 +85,27 @@ impl Library for Compiled {
         work: &mut [u32],
         result: &mut [u8],
     ) -> Answer {
-        Tuned.run_timetable(session, timetable, clearance, work, result)
+        let mut rest = [0; 2];
+        let (work_length, result_length) = (work.len(), result.len());
+        // SAFETY: each pointer is to as many values as the length beside it
+        // says; they stay borrowed during the call, the session and the
+        // timetable unchanged and the other three for this call alone.
+        let number = unsafe {
+            lupinpause_run_timetable(
+                start(session, &0),
+                session.len(),
+                start(timetable, &0),
+                timetable.len(),
+                clearance as usize,
+                start_mut(work, &mut [0]),
+                work_length,
+                start_mut(result, &mut [0]),
+                result_length,
+                rest.as_mut_ptr(),
+                rest.len(),
+            )
+        };
+        answer(number, rest)
     }
 
     fn run_plain(
@@ -73,15 +115,29 @@ impl Library for Compiled {
         work: &mut [u32],
         result: &mut [u8],
     ) -> Answer {
-        Tuned.run_plain(session, clearance, work, result)
+        let mut rest = [0; 2];
+        let (work_length, result_length) = (work.len(), result.len());
+        // SAFETY: as for the timetabled run.
+        let number = unsafe {
+            lupinpause_run_plain(
+                start(session, &0),
+                session.len(),
+                clearance as usize,
+                start_mut(work, &mut [0]),
+                work_length,
+                start_mut(result, &mut [0]),
+                result_length,
+                rest.as_mut_ptr(),
+                rest.len(),
+            )
+        };
+        answer(number, rest)
     }
 
     fn run_depth_first(&self, session: &[u8], clearance: u32, result: &mut [u8]) -> Answer {
         let mut rest = [0; 2];
         let length = result.len();
-        // SAFETY: each pointer is to as many values as the length beside it
-        // says; they stay borrowed during the call, the session unchanged and
-        // the other two for this call alone.
+        // SAFETY: as for the timetabled run.
         let number = unsafe {
             lupinpause_run_depth_first(
                 start(session, &0),
@@ -93,10 +149,6 @@ impl Library for Compiled {
                 rest.len(),
             )
         };
-        Answer {
-            number,
-            place: rest[0] as usize,
-            count: rest[1] as usize,
-        }
+        answer(number, rest)
     }
 }

@@ -2,18 +2,18 @@
 use Prim.Native.Nat.{ℕ}
 use mathlib.Core.Path.{_≡_}
 use mathlib.Core.Bool.{cond}
-use mathlib.Core.List.{List, [], _∷_}
+use mathlib.Core.List.{List, _∷_}
 use lib.Dec.{leb}
 use lib.ListN.{length, drop}
-use Rattle.model.specs.Entries.{deep, Answers}
+use Rattle.model.specs.Entries.{Request, Answer, Answers}
 
 -- two numbers at the front of a slice, where it has room for them
 abbrev pub told : ℕ → ℕ → List ℕ → List ℕ
 told a b rest = cond (leb 2 (length rest)) (a ∷ b ∷ drop 2 rest) rest
 
--- a depth-first run: its number, what the result buffer holds afterwards, and its place and count
-pub record DeepCall (session : List ℕ) (clearance : ℕ) (buffer after rest rest' : List ℕ) (number : ℕ) : Type 0 where
+-- a run: its number, what the lent work slice and result buffer hold afterwards, and its place and count
+pub record Call (q : Request) (of : List ℕ → Answer) (work buffer rest rest' : List ℕ) (number : ℕ) : Type 0 where
   pub place : ℕ
   pub count : ℕ
-  pub answers : Answers (record { session = session; clearance = clearance; work = []; buffer = buffer }) (deep (record { session = session; clearance = clearance; work = []; buffer = buffer })) number place count [] after
+  pub answers : Answers q of number place count work buffer
   pub rest-is : rest' ≡ told place count rest

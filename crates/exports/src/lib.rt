@@ -1,7 +1,24 @@
 // The entries as functions for programs in other languages: numbers, and slices as a pointer and a length.
+//
+// Each run returns the number of document 01's answer. Its place and count are written to the front of
+// `rest`, or nothing where that has no room for the two.
+use records::Answer;
 ghost use mathlib.Core.Path.{_≡_};
+ghost use mathlib.Core.List.{[]};
 ghost use Rattle.session.specs.Questions.{verdictOf, answerOf};
-ghost use Rattle.exports.specs.Calls.{DeepCall};
+ghost use Rattle.model.specs.Entries.{timetabled, plain, deep};
+ghost use Rattle.exports.specs.Calls.{told, Call};
+
+// Tells an answer: its place and count to the front of `rest`, its number as the result.
+fn tell(rest: &mut [u32], answer: Answer) -> u32
+    ensures { λ r. ⌜ (r ≡ answer .number) × (now (rest .exit) ≡ told (answer .place) (answer .count) (now (rest .entry))) ⌝ }
+{
+    if rest.len() >= 2 {
+        rest[0] = answer.place;
+        rest[1] = answer.count;
+    }
+    answer.number
+}
 
 // Check: the number of document 01's answer; its place is 0.
 #[no_mangle]
@@ -11,8 +28,39 @@ pub extern "C" fn lupinpause_check(session: &[u8]) -> u32
     session::number_of(session::check(session))
 }
 
-// The depth-first run: the number of document 01's answer. Its place and count are written to the front
-// of `rest`, or nothing where that has no room for the two.
+// The timetabled run. `work` has at least 8,192 numbers and `result` at least 4,624 bytes, or the run is
+// refused.
+#[no_mangle]
+pub extern "C" fn lupinpause_run_timetable(
+    session: &[u8],
+    timetable: &[u8],
+    clearance: usize,
+    work: &mut [u32],
+    result: &mut [u8],
+    rest: &mut [u32],
+) -> u32
+    ensures { λ r. ⌜ Call (record { session = now (session .entry); clearance = clearance; work = now (work .entry); buffer = now (result .entry) }) (λ order. timetabled (record { session = now (session .entry); clearance = clearance; work = now (work .entry); buffer = now (result .entry) }) order (now (timetable .entry))) (now (work .exit)) (now (result .exit)) (now (rest .entry)) (now (rest .exit)) r ⌝ }
+{
+    let answer = scheduler::run_timetable(session, timetable, clearance, work, result);
+    tell(rest, answer)
+}
+
+// The plain run, with the same buffers.
+#[no_mangle]
+pub extern "C" fn lupinpause_run_plain(
+    session: &[u8],
+    clearance: usize,
+    work: &mut [u32],
+    result: &mut [u8],
+    rest: &mut [u32],
+) -> u32
+    ensures { λ r. ⌜ Call (record { session = now (session .entry); clearance = clearance; work = now (work .entry); buffer = now (result .entry) }) (plain (record { session = now (session .entry); clearance = clearance; work = now (work .entry); buffer = now (result .entry) })) (now (work .exit)) (now (result .exit)) (now (rest .entry)) (now (rest .exit)) r ⌝ }
+{
+    let answer = scheduler::run_plain(session, clearance, work, result);
+    tell(rest, answer)
+}
+
+// The depth-first run, which has no work slice.
 #[no_mangle]
 pub extern "C" fn lupinpause_run_depth_first(
     session: &[u8],
@@ -20,12 +68,8 @@ pub extern "C" fn lupinpause_run_depth_first(
     result: &mut [u8],
     rest: &mut [u32],
 ) -> u32
-    ensures { λ r. ⌜ DeepCall (now (session .entry)) clearance (now (result .entry)) (now (result .exit)) (now (rest .entry)) (now (rest .exit)) r ⌝ }
+    ensures { λ r. ⌜ Call (record { session = now (session .entry); clearance = clearance; work = []; buffer = now (result .entry) }) (deep (record { session = now (session .entry); clearance = clearance; work = []; buffer = now (result .entry) })) [] (now (result .exit)) (now (rest .entry)) (now (rest .exit)) r ⌝ }
 {
     let answer = depth_first::run_depth_first(session, clearance, result);
-    if rest.len() >= 2 {
-        rest[0] = answer.place;
-        rest[1] = answer.count;
-    }
-    answer.number
+    tell(rest, answer)
 }

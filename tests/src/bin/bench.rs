@@ -75,7 +75,6 @@ fn main() -> ExitCode {
             return ExitCode::FAILURE;
         }
     };
-    println!("runs by {}", Compiled::RUNS);
     println!("{rounds} rounds; median ns a call; ratio: median (quartiles; least to largest)");
     for (name, session) in [
         ("session W", sessions::example_w()),

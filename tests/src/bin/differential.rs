@@ -35,7 +35,6 @@ fn run() -> Result<(), String> {
     let count = argument(1, ENOUGH)?;
     let seed = argument(2, 1)?;
     let first = argument(3, 0)?;
-    println!("runs by {}", Compiled::RUNS);
     fixed("vector", &numbered(vectors::read()?))?;
     fixed("wall chart", &wall_chart::cases())?;
     let start = Instant::now();

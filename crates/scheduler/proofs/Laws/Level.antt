@@ -1,0 +1,221 @@
+-- A level that may step is run until it has no manager. Assumes nothing.
+use Prim.Native.Nat.{ℕ, _+_, _*_, _-_, _≤_, _<_}
+use mathlib.Core.Path.{_≡_, refl, sym, _∙_, ap, ap₂}
+use mathlib.Core.Bool.{true, false, cond}
+use mathlib.Core.List.{List, [], _∷_, _++_}
+use native.Mathlib.Decide.{ℕ-discrete}
+use native.Mathlib.Omega.{arith}
+use borrow.Author.Tests.{lt-ltb}
+use lib.Dec.{eqb}
+use lib.ListN.{length, getD}
+use Rattle.session.specs.Limits.{maxLevels}
+use Rattle.session.specs.Parts.{levelCount}
+use Rattle.session.specs.Program.{programOf}
+use Rattle.session.specs.Questions.{verdictOf}
+use Rattle.session.specs.declared.Verdict.the-variants.{Accepted}
+use Rattle.managers.specs.Limits.{maxScriptSteps}
+use Rattle.managers.specs.declared.Manager.{Manager}
+use Rattle.model.specs.Limits.{maxManagers}
+use Rattle.model.specs.Level.{Activity, idle, busy, Level, hasManager}
+use Rattle.model.specs.Step.{State, levelAt, stepAt}
+use Rattle.model.specs.Schedule.{question14, stepRefusal, Leads}
+use Rattle.model.proofs.Laws.Order.Accepted.{sound}
+use Rattle.model.proofs.Laws.Invariant.Measure.{left, cost}
+use Rattle.model.proofs.Laws.Invariant.Tame.{move-falls}
+use Rattle.model.proofs.Laws.Invariant.Became.{level-stepped}
+use Rattle.model.proofs.Laws.Code.Live.{Live, present}
+use Rattle.model.proofs.Laws.Code.Progress.{allowed, refusal-none, unmanaged-idle, activity-stays, clear-stays, leads-none, leads-more}
+use Rattle.scheduler.specs.Kept.{Words, busyPlace, tallyNumbers, Runs, LevelTold, Told, Says, placed}
+use Rattle.scheduler.specs.Permits.{managed}
+use Rattle.scheduler.specs.Steps.{startedOf, Stepping, MayStep, StepDone}
+use Rattle.scheduler.specs.Runs.{Rests, SameRest, LevelReady, LevelRun, LevelDone}
+use Rattle.scheduler.proofs.Laws.Told.{started-is, told-idle}
+use Rattle.scheduler.proofs.Laws.Settle.{placed-own, placed-other}
+use Rattle.scheduler.proofs.Laws.Step.{says-live}
+use Rattle.scheduler.proofs.Laws.Asked.{told-managed}
+use Rattle.scheduler.proofs.Laws.Listed.{says-held}
+
+-- the scheduler steps that a level has left, by what is counted and the manager that runs
+abbrev pub costIn : List ℕ → ℕ → Manager → ℕ
+costIn tallies l m =
+    257 * (maxManagers - startedOf tallies l) + cond (eqb (getD tallies (busyPlace l) 0) 0) 0 (maxScriptSteps - m .steps)
+
+cost-is : (n : ℕ) (w : Words) (l : ℕ) (m : Manager) (v : Level) → LevelTold n w l m v → costIn (w .tallies) l m ≡ cost v
+cost-is n w l m v t =
+    ap₂ (λ a b. 257 * (maxManagers - a) + b) (started-is n w l m v t) (by (v .activity) (t .activity))
+  where
+    by : (a : Activity) → Runs n w l m (length (v .ended)) a → cond (eqb (getD (w .tallies) (busyPlace l) 0) 0) 0 (maxScriptSteps - m .steps) ≡ left a
+    by idle r = rw r refl
+    by (busy x y) r = rw (r .0, r .1 .0) refl
+
+told-placed : (n : ℕ) (w : Words) (l : ℕ) (m m' : Manager) (v : Level) → m' ≡ m → LevelTold n w l m' v → LevelTold n w l m v
+told-placed n w l m m' v e t = rw (sym e) t
+
+-- the level is being run, from state from: m is the only manager that may run
+pub record Draining (s : List ℕ) (from : State) (w : Words) (l : ℕ) (m : Manager) : Type 0 where
+  pub state : State
+  pub list : List ℕ
+  pub leads : Leads (programOf s) from list state
+  pub says : (ms : ℕ → Manager) → Says s w (placed l m ms) state
+  pub others : (k : ℕ) → k < levelCount s → (k ≡ l → ⊥) → levelAt state k .activity ≡ idle
+  pub clear : question14 (programOf s) state l ≡ true
+
+module _ (s : List ℕ) (a : verdictOf s ≡ Accepted) (l : ℕ) (h : l < levelCount s) where
+  pub drain-start : (from : State) (w : Words) (m : Manager) → Rests s w from → stepRefusal (programOf s) from l ≡ 0 → Draining s from w l m
+  drain-start from w m r ok =
+      record {
+        state = from;
+        list = [];
+        leads = leads-none (programOf s) from;
+        says = λ ms. r .says (placed l m ms);
+        others = λ k hk d. r .idle-all k hk;
+        clear = allowed (programOf s) from l ok .1 .1;
+      }
+
+  module _ (from : State) (w : Words) (m : Manager) (g : Draining s from w l m) where
+    abbrev st : State
+    st = g .state
+
+    told : LevelTold (levelCount s) w l m (levelAt st l)
+    told =
+        told-placed (levelCount s) w l m (placed l m (λ _. m) l) (levelAt st l) (placed-own l m (λ _. m)) (g .says (λ _. m) .told .level l h)
+
+    has : managed (w .tallies) l ≡ hasManager (levelAt st l)
+    has = told-managed (levelCount s) w l m (levelAt st l) told
+
+    live : Live s st
+    live = says-live s a w (placed l m (λ _. m)) st (g .says (λ _. m))
+
+    -- there is a manager: the level may step
+    module _ (e : managed (w .tallies) l ≡ true) where
+      pub drain-allowed : stepRefusal (programOf s) st l ≡ 0
+      drain-allowed =
+          refusal-none (programOf s) st l (lt-ltb l (programOf s .levels) (present s l h)) (sym has ∙ e) (g .clear)
+
+      pub drain-stepping : (ms : ℕ → Manager) → Stepping s w l m (placed l m ms) st
+      drain-stepping ms = record { says = g .says ms; allowed = drain-allowed; held = placed-own l m ms }
+
+      pub drain-may : MayStep s w l m
+      drain-may = (placed l m (λ _. m), (st, drain-stepping (λ _. m)))
+
+      twice : (r : Manager) (ms : ℕ → Manager) (k : ℕ) → placed l r ms k ≡ placed l r (placed l m ms) k
+      twice r ms k = elim (ℕ-discrete k l) [
+        | yes q ↦ rw q (placed-own l r ms ∙ sym (placed-own l r (placed l m ms)))
+        | no q ↦ placed-other l r ms k q ∙ sym (placed-other l r (placed l m ms) k q ∙ placed-other l m ms k q)
+      ]
+
+      pub drain-step : (w' : Words) (r : Manager) → StepDone s l m w w' r → Draining s from w' l r
+      drain-step w' r d =
+          record {
+            state = stepAt (programOf s) l st;
+            list = g .list ++ (l ∷ []);
+            leads = leads-more (programOf s) from (g .list) st l (g .leads) drain-allowed;
+            says = λ ms. says-held s w' (placed l r (placed l m ms)) (placed l r ms) (stepAt (programOf s) l st) (twice r ms) (d .says (placed l m ms) st (drain-stepping ms));
+            others = λ k hk z. activity-stays (programOf s) (sound s a) st (live .reachable .steady .orderly) l k (present s l h) z ∙ g .others k hk z;
+            clear = clear-stays (programOf s) (sound s a) st (live .reachable .steady .orderly) l l (present s l h) (g .clear) drain-allowed;
+          }
+
+      -- and fewer steps are left
+      pub drain-less : (w' : Words) (r : Manager) → StepDone s l m w w' r → costIn (w' .tallies) l r < costIn (w .tallies) l m
+      drain-less w' r d =
+          rw (cost-is (levelCount s) w l m (levelAt st l) told, cost-is (levelCount s) w' l r (levelAt (stepAt (programOf s) l st) l) after, level-stepped (programOf s) (sound s a) st (live .reachable .steady .orderly) l (present s l h))
+          (move-falls (programOf s) l st (sound s a) (present s l h) (sym has ∙ e) (live .reachable .steady .tame l) .less)
+        where
+          after : LevelTold (levelCount s) w' l r (levelAt (stepAt (programOf s) l st) l)
+          after =
+              told-placed (levelCount s) w' l r (placed l r (placed l m (λ _. m)) l) (levelAt (stepAt (programOf s) l st) l) (placed-own l r (placed l m (λ _. m))) (d .says (placed l m (λ _. m)) st (drain-stepping (λ _. m)) .told .level l h)
+
+    -- there is none any more
+    pub drain-end : managed (w .tallies) l ≡ false → LevelRun s w l from
+    drain-end e =
+        record {
+          state = st;
+          list = g .list;
+          leads = g .leads;
+          rests = record { says = says; idle-all = idle-all };
+          dry = none;
+        }
+      where
+        none : hasManager (levelAt st l) ≡ false
+        none = sym has ∙ e
+
+        rests-own : levelAt st l .activity ≡ idle
+        rests-own = unmanaged-idle (levelAt st l) none
+
+        idle-all : (k : ℕ) → k < levelCount s → levelAt st k .activity ≡ idle
+        idle-all k hk = elim (ℕ-discrete k l) [
+          | yes q ↦ rw q rests-own
+          | no q ↦ g .others k hk q
+        ]
+
+        says : (ms : ℕ → Manager) → Says s w ms st
+        says ms =
+            let y = g .says ms in
+            record {
+              told = record {
+                roomy = y .told .roomy;
+                counts-few = y .told .counts-few;
+                levels = y .told .levels;
+                field = y .told .field;
+                level = λ k hk. told-idle (levelCount s) w k (placed l m ms k) (ms k) (levelAt st k) (idle-all k hk) (y .told .level k hk);
+              };
+              reached = y .reached;
+              clear = y .clear;
+            }
+
+-- the loop of a level: what it leads to from every state that the words said at its start
+pub record LevelLoop (s : List ℕ) (w₀ w : Words) (l : ℕ) (m : Manager) : Type 0 where
+  pub drains : (st : State) → Rests s w₀ st → stepRefusal (programOf s) st l ≡ 0 → Draining s st w l m
+  pub rest : SameRest (w₀ .work) (w .work)
+  pub current-long : length (w .current) ≡ length (w₀ .current)
+  pub ended-long : length (w .ended) ≡ length (w₀ .ended)
+  pub tallies-long : length (w .tallies) ≡ length (w₀ .tallies)
+  pub queue-long : length (w .queue) ≡ length (w₀ .queue)
+  pub work-long : length (w .work) ≡ length (w₀ .work)
+
+module _ (s : List ℕ) (a : verdictOf s ≡ Accepted) (w₀ : Words) (l : ℕ) (q : LevelReady s w₀ l) where
+  ready-present : l < levelCount s
+  unfolding programOf
+  ready-present = allowed (programOf s) (q .0) l (q .1 .1) .0
+
+  pub level-start : (m : Manager) → LevelLoop s w₀ w₀ l m
+  level-start m =
+      record {
+        drains = λ st r ok. drain-start s a l ready-present st w₀ m r ok;
+        rest = refl;
+        current-long = refl;
+        ended-long = refl;
+        tallies-long = refl;
+        queue-long = refl;
+        work-long = refl;
+      }
+
+  module _ (w : Words) (m : Manager) (i : LevelLoop s w₀ w l m) where
+    abbrev g : Draining s (q .0) w l m
+    g = i .drains (q .0) (q .1 .0) (q .1 .1)
+
+    pub level-counted : levelCount s ≤ maxLevels → (l < maxLevels) × (tallyNumbers ≤ length (w .tallies))
+    level-counted few = (omega (arith, ready-present, few), g .says (λ _. m) .told .roomy .tallies)
+
+    pub level-may : managed (w .tallies) l ≡ true → MayStep s w l m
+    level-may e = drain-may s a l ready-present (q .0) w m g e
+
+    module _ (w' : Words) (r : Manager) (e : managed (w .tallies) l ≡ true) (d : StepDone s l m w w' r) where
+      pub level-less : costIn (w' .tallies) l r < costIn (w .tallies) l m
+      level-less = drain-less s a l ready-present (q .0) w m g e w' r d
+
+      pub level-again : length (w' .current) ≡ length (w .current) → length (w' .ended) ≡ length (w .ended) → length (w' .tallies) ≡ length (w .tallies) → length (w' .queue) ≡ length (w .queue) → length (w' .work) ≡ length (w .work) → LevelLoop s w₀ w' l r
+      level-again c1 c2 c3 c4 c5 =
+          record {
+            drains = λ st x ok. drain-step s a l ready-present st w m (i .drains st x ok) e w' r d;
+            rest = d .rest ∙ i .rest;
+            current-long = c1 ∙ i .current-long;
+            ended-long = c2 ∙ i .ended-long;
+            tallies-long = c3 ∙ i .tallies-long;
+            queue-long = c4 ∙ i .queue-long;
+            work-long = c5 ∙ i .work-long;
+          }
+
+    pub level-done : managed (w .tallies) l ≡ false → LevelDone s w₀ w l
+    level-done e =
+        record { ran = λ st x ok. drain-end s a l ready-present st w m (i .drains st x ok) e; rest = i .rest }

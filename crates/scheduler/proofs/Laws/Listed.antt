@@ -1,0 +1,257 @@
+-- A run by a timetable, step by step. Assumes nothing.
+use Prim.Native.Nat.{ℕ, suc, _+_, _≤_, _<_, _^_}
+use mathlib.Core.Path.{_≡_, refl, sym, _∙_, ap}
+use mathlib.Core.Bool.{true, false}
+use mathlib.Core.List.{List, [], _∷_}
+use native.Mathlib.Decide.{ℕ-discrete}
+use native.Mathlib.Omega.{arith}
+use lib.ListN.{length, getD, set, drop, length-set}
+use lib.Seq.{drop-cons, drop-length, getD-set-same, getD-set-other}
+use Rattle.session.specs.Limits.{maxLevels}
+use Rattle.session.specs.Parts.{levelCount, masksOf}
+use Rattle.session.specs.Meaning.{rootOf}
+use Rattle.session.specs.Program.{programOf}
+use Rattle.session.specs.Questions.{verdictOf}
+use Rattle.session.specs.declared.Verdict.the-variants.{Accepted}
+use Rattle.session.proofs.Laws.Contents.{level-limit, masks-length}
+use Rattle.managers.specs.Valid.{Leveled}
+use Rattle.managers.specs.declared.Manager.{Manager}
+use Rattle.model.specs.Limits.{maxSchedule}
+use Rattle.model.specs.Step.{State, levelAt, stepAt}
+use Rattle.model.specs.Schedule.{finished, refused, readIn, question15, stepRefusal, runFrom, runOf}
+use Rattle.model.proofs.Laws.Order.Accepted.{sound}
+use Rattle.model.proofs.Laws.Order.PlainRun.{read-in-total}
+use Rattle.model.proofs.Laws.Invariant.Tame.{total, step-less}
+use Rattle.model.proofs.Laws.Code.Progress.{allowed, run-made, run-stops, run-ends, run-unended}
+use Rattle.scheduler.specs.Kept.{Words, Told, Says, placed}
+use Rattle.scheduler.specs.Permits.{numberOfPermit, endedOf, permitOf, noted, Countable}
+use Rattle.scheduler.specs.Steps.{Stepping, MayStep, StepDone}
+use Rattle.scheduler.specs.Runs.{startOf, Rests, SameRest, Ends}
+use Rattle.scheduler.specs.declared.Outcome.{Outcome}
+use Rattle.scheduler.specs.declared.Outcome.the-variants as outcome
+use Rattle.scheduler.specs.declared.tallies.Permit.{Permit}
+use Rattle.scheduler.specs.declared.tallies.Permit.the-variants.{Given, Absent, Idle, Blocked}
+use Rattle.scheduler.proofs.Laws.Settle.{placed-own, placed-other}
+use Rattle.scheduler.proofs.Laws.Step.{says-live, told-held}
+use Rattle.scheduler.proofs.Laws.Asked.{asked-is, ended-is, wordsNoted, noted-says}
+
+-- the same managers, one by one
+pub says-held : (s : List ℕ) (w : Words) (ms ms' : ℕ → Manager) (st : State) → ((k : ℕ) → ms' k ≡ ms k) → Says s w ms st → Says s w ms' st
+says-held s w ms ms' st e y =
+    record { told = told-held s w ms ms' st e (y .told); reached = y .reached; clear = y .clear }
+
+-- an array in which the manager of level l was stored
+pub held-set : (managers : List Manager) (d : Manager) (l : ℕ) (r : Manager) → l < length managers → (k : ℕ) → getD (set managers l r) k d ≡ placed l r (λ j. getD managers j d) k
+held-set managers d l r h k = elim (ℕ-discrete k l) [
+  | yes e ↦
+      rw e (getD-set-same managers l r d h ∙ sym (placed-own l r (λ j. getD managers j d)))
+  | no e ↦
+      getD-set-other managers l k r d e ∙ sym (placed-other l r (λ j. getD managers j d) k e)
+]
+
+-- the first i steps of a timetable are made: the words say a state from which the rest ends as the whole does
+pub record Going (s ls : List ℕ) (i : ℕ) (w : Words) (ms : ℕ → Manager) : Type 0 where
+  pub state : State
+  pub says : Says s w ms state
+  pub run : runFrom i (programOf s) (drop i ls) state ≡ runOf (programOf s) (rootOf s) ls
+  pub pace : i + total state ≤ maxSchedule
+
+module _ (s : List ℕ) (a : verdictOf s ≡ Accepted) (few : levelCount s ≤ maxLevels) (ls : List ℕ) where
+  few-program : programOf s .levels ≤ maxLevels
+  few-program = unfold programOf in few
+
+  pub going-start : (w : Words) (ms : ℕ → Manager) → Rests s w (startOf s) → Going s ls 0 w ms
+  going-start w ms r =
+      record {
+        state = startOf s;
+        says = r .says ms;
+        run = unfold runOf in refl;
+        pace = omega (arith, read-in-total (programOf s) (sound s a) few-program (rootOf s));
+      }
+
+  module _ (i : ℕ) (w : Words) (ms : ℕ → Manager) (g : Going s ls i w ms) where
+    -- the position fits its number
+    pub going-fits : i < 2 ^ 32
+    going-fits = omega (arith, g .pace)
+
+    -- other managers, one by one the same
+    pub going-held : (ms' : ℕ → Manager) → ((k : ℕ) → ms' k ≡ ms k) → Going s ls i w ms'
+    going-held ms' e =
+        record { state = g .state; says = says-held s w ms ms' (g .state) e (g .says); run = g .run; pace = g .pace }
+
+    module _ (masks : List ℕ) (table : masks ≡ masksOf s) (long : length masks ≡ levelCount s) where
+      -- at its end
+      pub going-ends : i ≡ length ls → endedOf masks (w .tallies) ≡ true → Ends s ls w outcome.Finished
+      going-ends e z = (ms, (g .state, (over, g .says .told)))
+        where
+          over : runOf (programOf s) (rootOf s) ls ≡ finished (g .state)
+          over =
+              sym (g .run)
+              ∙ ap (λ k. runFrom i (programOf s) (drop k ls) (g .state)) e
+              ∙ ap (λ xs. runFrom i (programOf s) xs (g .state)) (drop-length ls)
+              ∙ run-ends i (programOf s) (g .state) (sym (ended-is s masks table long w ms (g .state) (g .says .told)) ∙ z)
+
+      pub going-unended : i ≡ length ls → endedOf masks (w .tallies) ≡ false → Ends s ls w (outcome.Refused 15 0)
+      going-unended e z =
+          sym (g .run)
+          ∙ ap (λ k. runFrom i (programOf s) (drop k ls) (g .state)) e
+          ∙ ap (λ xs. runFrom i (programOf s) xs (g .state)) (drop-length ls)
+          ∙ run-unended i (programOf s) (g .state) (sym (ended-is s masks table long w ms (g .state) (g .says .told)) ∙ z)
+
+      module _ (h : i < length ls) where
+        abbrev l : ℕ
+        l = getD ls i 0
+
+        next : runOf (programOf s) (rootOf s) ls ≡ runFrom i (programOf s) (l ∷ drop (suc i) ls) (g .state)
+        next = sym (g .run) ∙ ap (λ xs. runFrom i (programOf s) xs (g .state)) (drop-cons ls i 0 h)
+
+        -- a step that is not permitted
+        pub going-stops : (p : Permit) → p ≡ permitOf masks (w .tallies) l → (p ≡ Given → ⊥) → Ends s ls w (outcome.Refused (numberOfPermit p) i)
+        going-stops p e d =
+            next
+            ∙ run-stops i (programOf s) l (drop (suc i) ls) (g .state) (numberOfPermit p) (sym (asked-is s masks table long w ms (g .state) (g .says) l) ∙ ap numberOfPermit (sym e)) (none p d)
+          where
+            none : (p : Permit) → (p ≡ Given → ⊥) → numberOfPermit p ≡ 0 → ⊥
+            none Given d q = d refl
+            none Absent d q = omega (arith, q)
+            none Idle d q = omega (arith, q)
+            none Blocked d q = omega (arith, q)
+
+        -- one that is
+        module _ (e : permitOf masks (w .tallies) l ≡ Given) where
+          pub going-allowed : stepRefusal (programOf s) (g .state) l ≡ 0
+          going-allowed = sym (asked-is s masks table long w ms (g .state) (g .says) l) ∙ ap numberOfPermit e
+
+          pub going-present : l < levelCount s
+          unfolding programOf
+          going-present = allowed (programOf s) (g .state) l going-allowed .0
+
+          pub going-may : Stepping s (wordsNoted w l) l (ms l) ms (g .state)
+          going-may =
+              record { says = noted-says s w ms (g .state) l few (g .says) going-allowed; allowed = going-allowed; held = refl }
+
+          pub going-step : (w' : Words) (r : Manager) → StepDone s l (ms l) (wordsNoted w l) w' r → Going s ls (suc i) w' (placed l r ms)
+          going-step w' r d =
+              let live = says-live s a w ms (g .state) (g .says) in
+              let yes = allowed (programOf s) (g .state) l going-allowed in
+              record {
+                state = stepAt (programOf s) l (g .state);
+                says = d .says ms (g .state) going-may;
+                run = sym (next ∙ run-made i (programOf s) l (drop (suc i) ls) (g .state) going-allowed);
+                pace = omega (arith, g .pace, step-less (programOf s) (sound s a) (g .state) (live .reachable .steady .orderly) (live .reachable .steady .tame) l (yes .0) (yes .1 .0));
+              }
+
+-- the managers that an array holds
+abbrev pub heldIn : List Manager → Manager → ℕ → Manager
+heldIn managers d k = getD managers k d
+
+-- the loop over a timetable
+pub record ListLoop (s ls : List ℕ) (d : Manager) (w₀ w : Words) (managers : List Manager) (i : ℕ) : Type 0 where
+  pub going : Going s ls i w (heldIn managers d)
+  pub low : i ≤ length ls
+  pub managers-long : length managers ≡ maxLevels
+  pub rest : SameRest (w₀ .work) (w .work)
+  pub current-long : length (w .current) ≡ length (w₀ .current)
+  pub ended-long : length (w .ended) ≡ length (w₀ .ended)
+  pub tallies-long : length (w .tallies) ≡ length (w₀ .tallies)
+  pub queue-long : length (w .queue) ≡ length (w₀ .queue)
+  pub work-long : length (w .work) ≡ length (w₀ .work)
+
+pub list-start : (s masks ls : List ℕ) (d : Manager) (w : Words) (managers : List Manager) → Leveled s masks → length managers ≡ maxLevels → Rests s w (startOf s) → ListLoop s ls d w w managers 0
+list-start s masks ls d w managers y n r =
+    record {
+      going = going-start s (y .accepted) (level-limit s (y .accepted)) ls w (heldIn managers d) r;
+      low = omega arith;
+      managers-long = n;
+      rest = refl;
+      current-long = refl;
+      ended-long = refl;
+      tallies-long = refl;
+      queue-long = refl;
+      work-long = refl;
+    }
+
+-- what is noted where a step is not permitted
+noted-refused : (p : Permit) (l : ℕ) (t : List ℕ) → (p ≡ Given → ⊥) → noted p l t ≡ t
+noted-refused Given l t e = absurd (e refl)
+noted-refused Absent l t e = refl
+noted-refused Idle l t e = refl
+noted-refused Blocked l t e = refl
+
+module _ (s masks : List ℕ) (y : Leveled s masks) (ls : List ℕ) (d : Manager) (w₀ w : Words) (managers : List Manager) (i : ℕ) (g : ListLoop s ls d w₀ w managers i) where
+  few : levelCount s ≤ maxLevels
+  few = level-limit s (y .accepted)
+
+  long : length masks ≡ levelCount s
+  long = ap length (y .masks-are) ∙ masks-length s (y .accepted)
+
+  pub list-counted : Countable masks (w .tallies)
+  list-counted = record { few = omega (arith, long, few); room = g .going .says .told .roomy .tallies }
+
+  pub list-fits : i < 2 ^ 32
+  list-fits = going-fits s (y .accepted) few ls i w (heldIn managers d) (g .going)
+
+  pub list-finished : length ls ≤ i → endedOf masks (w .tallies) ≡ true → Ends s ls w outcome.Finished
+  list-finished h e =
+      going-ends s (y .accepted) few ls i w (heldIn managers d) (g .going) masks (y .masks-are) long (omega (arith, h, g .low)) e
+
+  pub list-unended : length ls ≤ i → endedOf masks (w .tallies) ≡ false → Ends s ls w (outcome.Refused 15 0)
+  list-unended h e =
+      going-unended s (y .accepted) few ls i w (heldIn managers d) (g .going) masks (y .masks-are) long (omega (arith, h, g .low)) e
+
+  module _ (h : i < length ls) (p : Permit) (e : p ≡ permitOf masks (w .tallies) (getD ls i 0)) (t : List ℕ) (n : t ≡ noted p (getD ls i 0) (w .tallies)) where
+    abbrev level : ℕ
+    level = getD ls i 0
+
+    abbrev noting : Words
+    noting = record { current = w .current; ended = w .ended; tallies = t; queue = w .queue; work = w .work }
+
+    -- the step is not permitted
+    pub list-refused : (p ≡ Given → ⊥) → (w' : Words) (r : Outcome) → r ≡ outcome.Refused (numberOfPermit p) i → Ends s ls w' r
+    list-refused z w' r q =
+        rw q (going-stops s (y .accepted) few ls i w (heldIn managers d) (g .going) masks (y .masks-are) long h p e z)
+
+    -- it is
+    module _ (z : p ≡ Given) where
+      given : permitOf masks (w .tallies) level ≡ Given
+      given = sym e ∙ z
+
+      pub list-present : level < maxLevels
+      list-present =
+          omega (arith, few, going-present s (y .accepted) few ls i w (heldIn managers d) (g .going) masks (y .masks-are) long h given)
+
+      same : noting ≡ wordsNoted w level
+      same =
+          ap (λ t. record { current = w .current; ended = w .ended; tallies = t; queue = w .queue; work = w .work }) (n ∙ ap (λ p. noted p level (w .tallies)) z)
+
+      stepping-at : {u : Words} → u ≡ wordsNoted w level → Stepping s u level (heldIn managers d level) (heldIn managers d) (g .going .state)
+      stepping-at q =
+          rw q (going-may s (y .accepted) few ls i w (heldIn managers d) (g .going) masks (y .masks-are) long h given)
+
+      pub list-may : MayStep s noting level (heldIn managers d level)
+      list-may = (heldIn managers d, (g .going .state, stepping-at same))
+
+      done-at : {u w' : Words} {m r : Manager} → u ≡ wordsNoted w level → StepDone s level m u w' r → StepDone s level m (wordsNoted w level) w' r
+      done-at q x = rw (sym q) x
+
+      pub list-again : (w' : Words) (r : Manager) → StepDone s level (heldIn managers d level) noting w' r → length (w' .current) ≡ length (w .current) → length (w' .ended) ≡ length (w .ended) → length (w' .tallies) ≡ length t → length t ≡ length (w .tallies) → length (w' .queue) ≡ length (w .queue) → length (w' .work) ≡ length (w .work) → ListLoop s ls d w₀ w' (set managers level r) (i + 1)
+      list-again w' r x c1 c2 c3 c4 c5 c6 =
+          let next = going-step s (y .accepted) few ls i w (heldIn managers d) (g .going) masks (y .masks-are) long h given w' r (done-at same x) in
+          let there : level < length managers = omega (arith, g .managers-long, list-present) in
+          record {
+            going = held next (heldIn (set managers level r) d) (held-set managers d level r there);
+            low = omega (arith, h);
+            managers-long = length-set managers level r ∙ g .managers-long;
+            rest = x .rest ∙ g .rest;
+            current-long = c1 ∙ g .current-long;
+            ended-long = c2 ∙ g .ended-long;
+            tallies-long = c3 ∙ c4 ∙ g .tallies-long;
+            queue-long = c5 ∙ g .queue-long;
+            work-long = c6 ∙ g .work-long;
+          }
+        where
+          next-is : suc i ≡ i + 1
+          next-is = omega arith
+
+          held : {ms : ℕ → Manager} → Going s ls (suc i) w' ms → (ms' : ℕ → Manager) → ((k : ℕ) → ms' k ≡ ms k) → Going s ls (i + 1) w' ms'
+          held {ms} x ms' q = rw (sym next-is) (going-held s (y .accepted) few ls (suc i) w' ms x ms' q)

@@ -1,0 +1,340 @@
+-- The plain run: level after level, until all managers have ended. Assumes nothing.
+use Prim.Native.Nat.{ℕ, zero, suc, _+_, _*_, _-_, _≤_, _<_}
+use mathlib.Core.Path.{_≡_, refl, sym, _∙_, ap, ap₂}
+use mathlib.Core.Bool.{true, false, cond}
+use mathlib.Core.List.{List, [], _∷_, _++_}
+use native.Mathlib.Decide.{ℕ-discrete}
+use native.Mathlib.Omega.{arith}
+use lib.ListN.{length, getD, set}
+use Rattle.lattice.proofs.Laws.Range.{not-both}
+use Rattle.session.specs.Limits.{maxLevels}
+use Rattle.session.specs.Parts.{levelCount, masksOf}
+use Rattle.session.specs.Meaning.{rootOf}
+use Rattle.session.specs.Program.{Program, programOf}
+use Rattle.session.specs.Questions.{verdictOf}
+use Rattle.session.specs.declared.Verdict.the-variants.{Accepted}
+use Rattle.session.proofs.Laws.Contents.{level-limit, masks-length}
+use Rattle.managers.specs.Valid.{Leveled}
+use Rattle.managers.specs.declared.Manager.{Manager}
+use Rattle.model.specs.Limits.{maxManagers}
+use Rattle.model.specs.Level.{idle, Level, isBusy, hasManager}
+use Rattle.model.specs.Step.{State, levelAt, stepAt}
+use Rattle.model.specs.Schedule.{finished, readIn, question15, stepRefusal, runFrom, runOf, Leads}
+use Rattle.model.proofs.Laws.Order.Accepted.{sound}
+use Rattle.model.proofs.Laws.Invariant.Measure.{left, cost}
+use Rattle.model.proofs.Laws.Invariant.Tame.{total, step-less}
+use Rattle.model.proofs.Laws.Code.Live.{Live, live-step}
+use Rattle.model.proofs.Laws.Code.Progress.{allowed, all-ended, leads-none, leads-run, leads-live}
+use Rattle.scheduler.specs.Kept.{Words, clearPlace, Says}
+use Rattle.scheduler.specs.Permits.{numberOfPermit, permitOf, noted, Countable, isGiven}
+use Rattle.scheduler.specs.Runs.{startOf, Rests, SameRest, LevelReady, LevelDone, Done}
+use Rattle.scheduler.specs.declared.tallies.Permit.{Permit}
+use Rattle.scheduler.specs.declared.tallies.Permit.the-variants.{Given, Absent, Idle, Blocked}
+use Rattle.scheduler.proofs.Laws.Step.{says-live}
+use Rattle.scheduler.proofs.Laws.Asked.{asked-is, wordsNoted, noted-says}
+
+-- the managers that the levels from i on, k of them, have room for still
+unfoldable pub roomFrom : List ℕ → ℕ → ℕ → ℕ
+roomFrom tallies i zero = 0
+roomFrom tallies i (suc k) = (maxManagers - getD tallies i 0) + roomFrom tallies (suc i) k
+
+-- where no manager runs, the steps that a state has left are counted so
+room-is : (tallies : List ℕ) (st : State) (i : ℕ) → ((j : ℕ) → j < length st → (getD tallies (i + j) 0 ≡ length (levelAt st j .ended)) × (levelAt st j .activity ≡ idle)) → 257 * roomFrom tallies i (length st) ≡ total st
+unfolding roomFrom total
+room-is tallies [] i f = refl
+room-is tallies (v ∷ vs) i f =
+    let rest = room-is tallies vs (suc i) (λ j h. let q = f (suc j) (omega arith) in (ap (λ k. getD tallies k 0) (shift i j) ∙ q .0, q .1)) in
+    let own = f 0 (omega arith) in
+    let first : getD tallies i 0 ≡ length (v .ended) = ap (λ k. getD tallies k 0) (start i) ∙ own .0 in
+    let here : cost v ≡ 257 * (maxManagers - length (v .ended)) = cost-idle v (own .1) in
+    omega (arith, rest, first, here)
+  where
+    shift : (i j : ℕ) → suc i + j ≡ i + suc j
+    shift i j = omega arith
+
+    start : (i : ℕ) → i ≡ i + 0
+    start i = omega arith
+
+    cost-idle : (v : Level) → v .activity ≡ idle → cost v ≡ 257 * (maxManagers - length (v .ended))
+    cost-idle v e =
+        ap (λ a. 257 * (maxManagers - (length (v .ended) + cond {A = ℕ} (isBusy a) 1 0)) + left a) e ∙ omega arith
+
+-- allowed steps one list after the other
+leads-then : (p : Program) (ls ks : List ℕ) (st t u : State) → Leads p st ls t → Leads p t ks u → Leads p st (ls ++ ks) u
+leads-then p [] ks st t u a b =
+    let e : st ≡ t = unfold Leads in a in
+    from e b
+  where
+    from : {st t : State} → st ≡ t → Leads p t ks u → Leads p st ks u
+    from e b = rw e b
+leads-then p (l ∷ ls) ks st t u a b =
+    let q : (stepRefusal p st l ≡ 0) × Leads p (stepAt p l st) ls t = unfold Leads in a in
+    let r = leads-then p ls ks (stepAt p l st) t u (q .1) b in
+    pair (ls ++ ks) (q .0) r
+  where
+    pair : (z : List ℕ) → stepRefusal p st l ≡ 0 → Leads p (stepAt p l st) z u → Leads p st (l ∷ z) u
+    pair z x y = unfold Leads in (x, y)
+
+module _ (s : List ℕ) (a : verdictOf s ≡ Accepted) where
+  less : (st : State) → Live s st → (l : ℕ) → stepRefusal (programOf s) st l ≡ 0 → (total (stepAt (programOf s) l st) < total st) × Live s (stepAt (programOf s) l st)
+  less st i l ok =
+      let yes = allowed (programOf s) st l ok in (
+        step-less (programOf s) (sound s a) st (i .reachable .steady .orderly) (i .reachable .steady .tame) l (yes .0) (yes .1 .0),
+        live-step s a st i l (unfold programOf in yes .0) (yes .1 .0),
+      )
+
+  no-more : (ls : List ℕ) (st t : State) → Live s st → Leads (programOf s) st ls t → total t ≤ total st
+  no-more [] st t i z =
+      let e : st ≡ t = unfold Leads in z in
+      same e
+    where
+      same : {st t : State} → st ≡ t → total t ≤ total st
+      same e = rw e (omega arith)
+  no-more (l ∷ ls) st t i z =
+      let q : (stepRefusal (programOf s) st l ≡ 0) × Leads (programOf s) (stepAt (programOf s) l st) ls t = unfold Leads in z in
+      let f = less st i l (q .0) in
+      omega (arith, f .0, no-more ls (stepAt (programOf s) l st) t (f .1) (q .1))
+
+  -- a level that has lost its managers has made a step
+  fewer : (ls : List ℕ) (st t : State) (l : ℕ) → Live s st → Leads (programOf s) st ls t → hasManager (levelAt st l) ≡ true → hasManager (levelAt t l) ≡ false → total t < total st
+  fewer [] st t l i z h d =
+      let e : st ≡ t = unfold Leads in z in
+      absurd (none e h d)
+    where
+      none : {st t : State} → st ≡ t → hasManager (levelAt st l) ≡ true → hasManager (levelAt t l) ≡ false → ⊥
+      none {st} {t} e h d = not-both (hasManager (levelAt t l)) (rw e at h) d
+  fewer (k ∷ ls) st t l i z h d =
+      let q : (stepRefusal (programOf s) st k ≡ 0) × Leads (programOf s) (stepAt (programOf s) k st) ls t = unfold Leads in z in
+      let f = less st i k (q .0) in
+      omega (arith, f .0, no-more ls (stepAt (programOf s) k st) t (f .1) (q .1))
+
+-- allowed steps were made from the session as read in; no manager runs, and no level below this number may step
+pub record Ran (s : List ℕ) (w : Words) (level : ℕ) : Type 0 where
+  pub state : State
+  pub list : List ℕ
+  pub leads : Leads (programOf s) (startOf s) list state
+  pub rests : Rests s w state
+  pub lower : (j : ℕ) → j < level → stepRefusal (programOf s) state j ≡ 0 → ⊥
+
+pub ran-start : (s : List ℕ) (w : Words) → Rests s w (startOf s) → Ran s w 0
+ran-start s w r =
+    record {
+      state = startOf s;
+      list = [];
+      leads = leads-none (programOf s) (startOf s);
+      rests = r;
+      lower = λ j h _. absurd (omega (arith, h));
+    }
+
+module _ (s masks : List ℕ) (a : verdictOf s ≡ Accepted) (few : levelCount s ≤ maxLevels) (table : masks ≡ masksOf s) (long : length masks ≡ levelCount s) (w : Words) (level : ℕ) (m : Manager) (g : Ran s w level) where
+  abbrev st : State
+  st = g .state
+
+  abbrev said : Says s w (λ _. m) st
+  said = g .rests .says (λ _. m)
+
+  refusal-is : (p : Permit) → p ≡ permitOf masks (w .tallies) level → numberOfPermit p ≡ stepRefusal (programOf s) st level
+  refusal-is p e = ap numberOfPermit e ∙ asked-is s masks table long w (λ _. m) st said level
+
+  -- a level that may not step is passed
+  pub ran-skip : (p : Permit) → p ≡ permitOf masks (w .tallies) level → isGiven p ≡ false → Ran s w (level + 1)
+  ran-skip p e z =
+      record { state = st; list = g .list; leads = g .leads; rests = g .rests; lower = lower }
+    where
+      none : (p : Permit) → isGiven p ≡ false → numberOfPermit p ≡ 0 → ⊥
+      none Given z q = not-both true refl z
+      none Absent z q = omega (arith, q)
+      none Idle z q = omega (arith, q)
+      none Blocked z q = omega (arith, q)
+
+      own : (j : ℕ) → j ≡ level → stepRefusal (programOf s) st j ≡ 0 → ⊥
+      own j q o = none p z (refusal-is p e ∙ ap (stepRefusal (programOf s) st) (sym q) ∙ o)
+
+      lower : (j : ℕ) → j < level + 1 → stepRefusal (programOf s) st j ≡ 0 → ⊥
+      lower j h o = elim (ℕ-discrete j level) [
+        | yes q ↦ own j q o
+        | no q ↦ g .lower j (omega (arith, h, q)) o
+      ]
+
+  -- one that may step is run
+  module _ (p : Permit) (e : p ≡ permitOf masks (w .tallies) level) (z : isGiven p ≡ true) where
+    given : (p : Permit) → isGiven p ≡ true → numberOfPermit p ≡ 0
+    given Given z = refl
+    given Absent z = absurd (not-both false z refl)
+    given Idle z = absurd (not-both false z refl)
+    given Blocked z = absurd (not-both false z refl)
+
+    pub ran-allowed : stepRefusal (programOf s) st level ≡ 0
+    ran-allowed = sym (refusal-is p e) ∙ given p z
+
+    pub ran-rests : Rests s (wordsNoted w level) st
+    ran-rests =
+        record { says = λ ms. noted-says s w ms st level few (g .rests .says ms) ran-allowed; idle-all = g .rests .idle-all }
+
+    pub ran-ready : LevelReady s (wordsNoted w level) level
+    ran-ready = (st, (ran-rests, ran-allowed))
+
+    pub ran-level : (w' : Words) → LevelDone s (wordsNoted w level) w' level → Ran s w' 0
+    ran-level w' d =
+        let r = d .ran st ran-rests ran-allowed in
+        record {
+          state = r .state;
+          list = g .list ++ r .list;
+          leads = leads-then (programOf s) (g .list) (r .list) (startOf s) st (r .state) (g .leads) (r .leads);
+          rests = r .rests;
+          lower = λ j h _. absurd (omega (arith, h));
+        }
+
+    counted : (w : Words) (st : State) → Rests s w st → 257 * roomFrom (w .tallies) 0 (length masks) ≡ total st
+    counted w st r =
+        let y = r .says (λ _. m) .told in
+        ap (λ n. 257 * roomFrom (w .tallies) 0 n) (long ∙ sym (y .levels))
+        ∙ room-is (w .tallies) st 0 (λ j h. let hj : j < levelCount s = rw (sym (y .levels)) h in (ap (λ k. getD (w .tallies) k 0) (zero-less j) ∙ y .level j hj .ended-count, r .idle-all j hj))
+      where
+        zero-less : (j : ℕ) → 0 + j ≡ j
+        zero-less j = omega arith
+
+    -- and then there is room for fewer managers
+    pub ran-less : (w' : Words) → LevelDone s (wordsNoted w level) w' level → roomFrom (w' .tallies) 0 (length masks) < roomFrom (w .tallies) 0 (length masks)
+    ran-less w' d =
+        let r = d .ran st ran-rests ran-allowed in
+        let live = says-live s a w (λ _. m) st said in
+        let f = fewer s a (r .list) st (r .state) level live (r .leads) (allowed (programOf s) st level ran-allowed .1 .0) (r .dry) in
+        omega (arith, f, counted w st (g .rests), counted w' (r .state) (r .rests))
+
+  -- where none may step all managers have ended
+  pub ran-end : length masks ≤ level → Done s w
+  ran-end h = (g .list, ((λ _. m), (st, (over, said .told))))
+    where
+      ended : question15 (programOf s) st ≡ true
+      ended =
+          all-ended (programOf s) (sound s a .lattice .order) st (λ l hl o. g .lower l (omega (arith, count l hl, h, long)) o)
+        where
+          count : (l : ℕ) → l < programOf s .levels → l < levelCount s
+          count l hl = unfold programOf in hl
+
+      over : runOf (programOf s) (rootOf s) (g .list) ≡ finished st
+      over = unfold runOf in leads-run 0 (programOf s) (startOf s) (g .list) st (g .leads) ended
+
+-- what is noted of question 14, by the permit
+noted-given : (p : Permit) (l : ℕ) (t : List ℕ) → isGiven p ≡ true → noted p l t ≡ set t (clearPlace l) 1
+noted-given Given l t e = refl
+noted-given Absent l t e = absurd (not-both false e refl)
+noted-given Idle l t e = absurd (not-both false e refl)
+noted-given Blocked l t e = absurd (not-both false e refl)
+
+noted-refused : (p : Permit) (l : ℕ) (t : List ℕ) → isGiven p ≡ false → noted p l t ≡ t
+noted-refused Given l t e = absurd (not-both true refl e)
+noted-refused Absent l t e = refl
+noted-refused Idle l t e = refl
+noted-refused Blocked l t e = refl
+
+-- words with other counts
+abbrev pub withTallies : Words → List ℕ → Words
+withTallies w t =
+    record { current = w .current; ended = w .ended; tallies = t; queue = w .queue; work = w .work }
+
+-- the loop over the levels
+pub record PlainLoop (s masks : List ℕ) (w₀ w : Words) (level : ℕ) : Type 0 where
+  pub ran : Ran s w level
+  pub low : level ≤ length masks
+  pub rest : SameRest (w₀ .work) (w .work)
+  pub current-long : length (w .current) ≡ length (w₀ .current)
+  pub ended-long : length (w .ended) ≡ length (w₀ .ended)
+  pub tallies-long : length (w .tallies) ≡ length (w₀ .tallies)
+  pub queue-long : length (w .queue) ≡ length (w₀ .queue)
+  pub work-long : length (w .work) ≡ length (w₀ .work)
+
+-- its measure: the managers that there is room for, and the levels before the last
+abbrev pub plainLeft : List ℕ → List ℕ → ℕ → ℕ
+plainLeft masks tallies level = 9 * roomFrom tallies 0 (length masks) + (length masks - level)
+
+pub plain-start : (s masks : List ℕ) (w : Words) → Rests s w (startOf s) → PlainLoop s masks w w 0
+plain-start s masks w r =
+    record {
+      ran = ran-start s w r;
+      low = omega arith;
+      rest = refl;
+      current-long = refl;
+      ended-long = refl;
+      tallies-long = refl;
+      queue-long = refl;
+      work-long = refl;
+    }
+
+module _ (s masks : List ℕ) (y : Leveled s masks) (m : Manager) (w₀ w : Words) (level : ℕ) (i : PlainLoop s masks w₀ w level) where
+  a : verdictOf s ≡ Accepted
+  a = y .accepted
+
+  few : levelCount s ≤ maxLevels
+  few = level-limit s (y .accepted)
+
+  long : length masks ≡ levelCount s
+  long = ap length (y .masks-are) ∙ masks-length s (y .accepted)
+
+  pub plain-counted : Countable masks (w .tallies)
+  plain-counted =
+      record { few = omega (arith, long, few); room = i .ran .rests .says (λ _. m) .told .roomy .tallies }
+
+  pub plain-done : length masks ≤ level → Done s w
+  plain-done h = ran-end s masks a few (y .masks-are) long w level m (i .ran) h
+
+  module _ (h : level < length masks) (p : Permit) (e : p ≡ permitOf masks (w .tallies) level) (t : List ℕ) (n : t ≡ noted p level (w .tallies)) where
+    -- a level that may not step
+    module _ (z : isGiven p ≡ false) where
+      same : t ≡ w .tallies
+      same = n ∙ noted-refused p level (w .tallies) z
+
+      pub plain-skip : PlainLoop s masks w₀ (withTallies w t) (level + 1)
+      plain-skip = by (sym same)
+        where
+          skipped : PlainLoop s masks w₀ w (level + 1)
+          skipped =
+              record {
+                ran = ran-skip s masks a few (y .masks-are) long w level m (i .ran) p e z;
+                low = omega (arith, h);
+                rest = i .rest;
+                current-long = i .current-long;
+                ended-long = i .ended-long;
+                tallies-long = i .tallies-long;
+                queue-long = i .queue-long;
+                work-long = i .work-long;
+              }
+
+          by : {t : List ℕ} → w .tallies ≡ t → PlainLoop s masks w₀ (withTallies w t) (level + 1)
+          by q = rw (sym q) skipped
+
+      pub plain-skip-less : plainLeft masks t (level + 1) < plainLeft masks (w .tallies) level
+      plain-skip-less = rw same (omega (arith, h))
+
+    -- one that may
+    module _ (z : isGiven p ≡ true) where
+      with-noted : withTallies w t ≡ wordsNoted w level
+      with-noted = ap (withTallies w) (n ∙ noted-given p level (w .tallies) z)
+
+      ready-at : {u : Words} → u ≡ wordsNoted w level → LevelReady s u level
+      ready-at q = rw q (ran-ready s masks a few (y .masks-are) long w level m (i .ran) p e z)
+
+      done-at : {u w' : Words} → u ≡ wordsNoted w level → LevelDone s u w' level → LevelDone s (wordsNoted w level) w' level
+      done-at q d = rw (sym q) d
+
+      pub plain-ready : LevelReady s (withTallies w t) level
+      plain-ready = ready-at with-noted
+
+      module _ (w' : Words) (d : LevelDone s (withTallies w t) w' level) where
+        pub plain-less : plainLeft masks (w' .tallies) 0 < plainLeft masks (w .tallies) level
+        plain-less =
+            omega (arith, h, long, few, ran-less s masks a few (y .masks-are) long w level m (i .ran) p e z w' (done-at with-noted d))
+
+        pub plain-again : length (w' .current) ≡ length (w .current) → length (w' .ended) ≡ length (w .ended) → length (w' .tallies) ≡ length t → length t ≡ length (w .tallies) → length (w' .queue) ≡ length (w .queue) → length (w' .work) ≡ length (w .work) → PlainLoop s masks w₀ w' 0
+        plain-again c1 c2 c3 c4 c5 c6 =
+            record {
+              ran = ran-level s masks a few (y .masks-are) long w level m (i .ran) p e z w' (done-at with-noted d);
+              low = omega arith;
+              rest = d .rest ∙ i .rest;
+              current-long = c1 ∙ i .current-long;
+              ended-long = c2 ∙ i .ended-long;
+              tallies-long = c3 ∙ c4 ∙ i .tallies-long;
+              queue-long = c5 ∙ i .queue-long;
+              work-long = c6 ∙ i .work-long;
+            }

@@ -1,0 +1,202 @@
+-- The words of a run once its session is read in: nothing has started, ended or been written, and the root's fork waits. Assumes nothing.
+use Prim.Native.Nat.{ℕ, _+_, _<_}
+use mathlib.Core.Path.{_≡_, refl, sym, _∙_, ap, ap₂}
+use mathlib.Core.Bool.{true}
+use mathlib.Core.List.{List, [], _++_, append-nil}
+use native.Mathlib.Omega.{arith}
+use borrow.Author.Tests.{eqb-true}
+use lib.Dec.{eqb}
+use lib.ListN.{length, getD, set, drop, replicate, length-replicate, getD-replicate}
+use lib.Seq.{drop-length, getD-set-other}
+use Rattle.lattice.specs.Range.{all}
+use Rattle.lattice.proofs.Laws.Range.{all-each}
+use Rattle.session.specs.Limits.{maxLevels, maxMethods, fields}
+use Rattle.session.specs.Lists.{risingFrom}
+use Rattle.session.specs.Parts.{levelCount, objectCount}
+use Rattle.session.specs.Meaning.{levelOf, fieldOf, rootObject, rootOf}
+use Rattle.session.specs.Questions.{verdictOf}
+use Rattle.session.specs.Program.{programOf}
+use Rattle.session.specs.Reading.{indexOf}
+use Rattle.session.specs.declared.Message.{Message}
+use Rattle.session.specs.declared.Verdict.the-variants.{Accepted}
+use Rattle.session.proofs.Laws.Accepted.{level-present, root-present}
+use Rattle.session.proofs.Laws.Contents.{level-limit}
+use Rattle.managers.specs.declared.Manager.{Manager}
+use Rattle.model.specs.Lists.{modify}
+use Rattle.model.specs.Level.{idle, newLevel, arrived, newest}
+use Rattle.model.specs.Step.{State, levelAt}
+use Rattle.model.specs.Schedule.{readIn}
+use Rattle.model.proofs.Laws.Order.Accepted.{sound}
+use Rattle.model.proofs.Laws.Deep.Root.{each-level}
+use Rattle.model.proofs.Laws.Code.Progress.{leads-none}
+use Rattle.records.specs.Fields.{fieldAt, Filled}
+use Rattle.records.specs.Histories.{InOrder}
+use Rattle.records.proofs.Laws.Histories.{histories-none}
+use Rattle.queues.specs.Queue.{forkOfRow, RootRow, Room, Arrived}
+use Rattle.queues.proofs.Laws.Queue.{forks-none, rises-none}
+use Rattle.versions.specs.Log.{logStart}
+use Rattle.versions.proofs.Laws.Log.{log-none}
+use Rattle.scheduler.specs.Kept.{Words, nextPlace, waitingPlace, versionsPlace, busyPlace, clearPlace, LevelTold, Roomy, Told}
+use Rattle.scheduler.specs.Runs.{startOf, Rests, startTallies, Fresh, ReadIn}
+use Rattle.scheduler.proofs.Laws.Told.{Limited}
+use Rattle.scheduler.proofs.Laws.Arrive.{told-arrive}
+use Rattle.scheduler.proofs.Laws.Advance.{told-state}
+
+none-rises : InOrder []
+unfolding risingFrom
+none-rises = refl
+
+-- no manager and no version is within all limits
+new-limited : Limited newLevel
+new-limited = record { managers = omega arith; versions = omega arith }
+
+-- the method index fills its words
+index-made : (s before index : List ℕ) → length before ≡ maxMethods + 1 → index ≡ indexOf s ++ drop (maxMethods + 1) before → index ≡ indexOf s
+index-made s before index l e =
+    e ∙ ap (λ n. indexOf s ++ drop n before) (sym l) ∙ ap (λ t. indexOf s ++ t) (drop-length before) ∙ append-nil (indexOf s)
+
+module _ (s : List ℕ) (a : verdictOf s ≡ Accepted) where
+  -- the root's object is present, and so is its level
+  pub root-there : (m : Message) → m ≡ rootOf s → m .object < objectCount s
+  root-there m e = rw e (root-present s a)
+
+  root-level : (m : Message) (level : ℕ) → m ≡ rootOf s → level ≡ levelOf s (m .object) → level ≡ levelOf s (rootObject s)
+  root-level m level e i = i ∙ ap (λ m. levelOf s (m .object)) e
+
+  level-there : (level : ℕ) → level ≡ levelOf s (rootObject s) → level < levelCount s
+  level-there level e = rw e (level-present s a (rootObject s) (root-present s a))
+
+  pub level-small : (m : Message) (level : ℕ) → m ≡ rootOf s → level ≡ levelOf s (m .object) → level < maxLevels
+  level-small m level e i = omega (arith, level-there level (root-level m level e i), level-limit s a)
+
+  -- no level has a manager
+  abbrev none : State
+  none = replicate (levelCount s) newLevel
+
+  none-at : (l : ℕ) → l < levelCount s → levelAt none l ≡ newLevel
+  none-at l h = getD-replicate (levelCount s) l newLevel newLevel h
+
+  -- then the root's fork arrives
+  start-is : (level : ℕ) (row : List ℕ) → level ≡ levelOf s (rootObject s) → RootRow (rootOf s) row → modify level (arrived (forkOfRow (levelCount s) row)) none ≡ startOf s
+  unfolding readIn programOf
+  start-is level row e r = ap₂ (λ l x. modify l (arrived x) none) e (r (levelCount s) (level-limit s a))
+
+  start-idle : (k : ℕ) → levelAt (startOf s) k .activity ≡ idle
+  start-idle =
+      each-level (programOf s) (sound s a) (unfold programOf in level-limit s a) (rootOf s) (λ v. v .activity ≡ idle) refl refl
+
+  -- words that no run has used, but for the fields
+  module _ (w : Words) (roomy : Roomy w) (counts : w .tallies ≡ startTallies) (fresh : List ℕ) (filled : Filled s fresh (w .current)) where
+    -- the same is counted of every level
+    at-first : (place : ℕ → ℕ) (n : ℕ) → all maxLevels (λ l. eqb (getD startTallies (place l) 0) n) ≡ true → (l : ℕ) → l < maxLevels → getD (w .tallies) (place l) 0 ≡ n
+    at-first place n q l h = ap (λ t. getD t (place l) 0) counts ∙ eqb-true _ n (all-each maxLevels _ q l h)
+
+    ended-first : (l : ℕ) → l < maxLevels → getD (w .tallies) l 0 ≡ 0
+    ended-first = at-first (λ l. l) 0 (unfold all in refl)
+
+    waiting-first : (l : ℕ) → l < maxLevels → getD (w .tallies) (waitingPlace l) 0 ≡ 0
+    waiting-first = at-first waitingPlace 0 (unfold all in refl)
+
+    busy-first : (l : ℕ) → l < maxLevels → getD (w .tallies) (busyPlace l) 0 ≡ 0
+    busy-first = at-first busyPlace 0 (unfold all in refl)
+
+    clear-first : (l : ℕ) → l < maxLevels → getD (w .tallies) (clearPlace l) 0 ≡ 0
+    clear-first = at-first clearPlace 0 (unfold all in refl)
+
+    level-none : (l : ℕ) (m : Manager) → l < maxLevels → LevelTold (levelCount s) w l m newLevel
+    level-none l m h =
+        record {
+          ended-count = ended-first l h;
+          ended = histories-none (w .ended) l;
+          ended-rises = none-rises;
+          next = at-first nextPlace 1 (unfold all in refl) l h;
+          waiting-count = waiting-first l h;
+          waiting = forks-none (levelCount s) (w .queue) l 0;
+          waiting-rises = rises-none (w .queue) l 0;
+          version-count = at-first versionsPlace 0 (unfold all in refl) l h;
+          versions = log-none (w .work) (logStart l);
+          activity = busy-first l h;
+        }
+
+    field-none : (o k : ℕ) → o < objectCount s → k < fields → fieldAt (w .current) o k ≡ newest (programOf s .field o k) o k (levelAt none (programOf s .level o) .versions)
+    unfolding newest programOf
+    field-none o k h j =
+        filled .fields-are o k h j
+        ∙ sym (ap (λ v. newest (fieldOf s o k) o k (v .versions)) (none-at (levelOf s o) (level-present s a o h)))
+
+    -- they say that nothing has happened
+    told-none : (ms : ℕ → Manager) → Told s w ms none
+    told-none ms =
+        record {
+          roomy = roomy;
+          counts-few = λ l h. rw (ended-first l h) (omega arith);
+          levels = length-replicate (levelCount s) newLevel;
+          field = field-none;
+          level = λ l h. rw (none-at l h) (level-none l (ms l) (omega (arith, h, level-limit s a)));
+        }
+
+    -- and once the root's fork has arrived, that the session is read in
+    module _ (level : ℕ) (placed : level ≡ levelOf s (rootObject s)) (row queue : List ℕ) (root : RootRow (rootOf s) row) (count : ℕ) (came : Arrived (w .queue) queue level 0 0 row count) where
+      abbrev tallies : List ℕ
+      tallies = set (w .tallies) (waitingPlace level) count
+
+      abbrev words : Words
+      words = record { current = w .current; ended = w .ended; tallies = tallies; queue = queue; work = w .work }
+
+      small : level < maxLevels
+      small = omega (arith, level-there level placed, level-limit s a)
+
+      came-first : (i j : ℕ) → i ≡ 0 → j ≡ 0 → Arrived (w .queue) queue level i j row count
+      came-first i j e q = rw (e, q) came
+
+      told-start : (ms : ℕ → Manager) → Told s words ms (startOf s)
+      told-start ms =
+          told-state (start-is level row placed root)
+          (told-arrive s w ms none (told-none ms) (λ k h. rw (none-at k h) new-limited) (level-limit s a) level (level-there level placed) tallies queue row count
+          (came-first _ _ (omega (arith, ended-first level small, busy-first level small)) (waiting-first level small))
+          refl)
+
+      -- question 14 has not yet said yes of any level
+      none-clear : (l : ℕ) → l < levelCount s → getD tallies (clearPlace l) 0 ≡ 0
+      none-clear l h =
+          getD-set-other (w .tallies) (waitingPlace level) (clearPlace l) count 0 (λ e. omega (arith, e, small))
+          ∙ clear-first l (omega (arith, h, level-limit s a))
+
+      rests-start : Rests s words (startOf s)
+      rests-start =
+          record {
+            says = λ ms. record {
+              told = told-start ms;
+              reached = ([], leads-none (programOf s) (startOf s));
+              clear = λ l h n. absurd (n (none-clear l h));
+            };
+            idle-all = λ k h. start-idle k;
+          }
+
+  module _ (index current tallies queue : List ℕ) (f : Fresh index current tallies queue) (m : Message) (level : ℕ) (e : m ≡ rootOf s) (i : level ≡ levelOf s (m .object)) where
+    -- there is room for the root's fork, and a number for how many wait
+    pub root-room : Room queue level 0 0
+    root-room =
+        record { room = f .forks-room; level = level-small m level e i; kept = omega arith; rises = rises-none queue level 0 }
+
+    pub root-tally : waitingPlace level < length tallies
+    root-tally = rw (f .counts) (omega (arith, level-small m level e i))
+
+    -- the words of a session as read in
+    pub read-in : (index' current' queue' row : List ℕ) (count : ℕ) → index' ≡ indexOf s ++ drop (maxMethods + 1) index → Filled s current current' → RootRow m row → Arrived queue queue' level 0 0 row count
+        → ReadIn s index' current' (set tallies (waitingPlace level) count) queue' level
+    read-in index' current' queue' row count made filled root came =
+        record {
+          index-is = index-made s index index' (f .methods) made;
+          level-is = root-level m level e i;
+          rests = λ ended work he hw. rests-start
+              (record { current = current'; ended = ended; tallies = tallies; queue = queue; work = work })
+              (record {
+                current = rw (filled .outside .length-same) (f .fields-room);
+                ended = he;
+                tallies = rw (f .counts) (omega arith);
+                queue = f .forks-room;
+                work = hw;
+              })
+              (f .counts) current filled level (root-level m level e i) row queue' (rw (sym e) root) count came;
+        }

@@ -1,0 +1,139 @@
+-- `scheduler::run_list` meets its contract. Assumes nothing.
+use mathlib.Core.Path.{_≡_, refl, sym, ap}
+use mathlib.Core.Bool.{Bool, true, false}
+use mathlib.Core.List.{[], _∷_}
+use types.Run.{OneOf, miss}
+use denote.Enum.Declared.{tagOf}
+use Rattle.lattice.proofs.Laws.Range.{not-both}
+use Rattle.scheduler.specs.declared.Outcome.{Outcome}
+use Rattle.scheduler.specs.declared.Outcome.the-variants as variant
+use Rattle.scheduler.proofs.Outcome as outcome
+use Rattle.scheduler.proofs.Laws.Answers.{zeros-long, finished-by, show-ready, list-refused, list-finished}
+use borrow.Author.Needs.{needs}
+use Rattle.scheduler.proofs.run_list.Statement.{statement}
+use Rattle.scheduler.proofs.run_list.Tie as tie
+
+-- an outcome of another tag than the finished one's
+not-finished : (o : Outcome) → OneOf (1 ∷ []) (tagOf outcome.the-type o) → o ≡ variant.Finished → ⊥
+not-finished variant.Finished h e = miss (1 ∷ []) 0 tt h
+not-finished (variant.Refused n p) h e = absurd (not-both (isFinished variant.Finished) refl (sym (ap isFinished e)))
+  where
+    isFinished : Outcome → Bool
+    isFinished variant.Finished = true
+    isFinished (variant.Refused n p) = false
+
+slice-aggregate-read-in : tie.Need-slice-aggregate-read-in
+slice-aggregate-read-in c = search needs
+
+slice-aggregate-read-in-2 : tie.Need-slice-aggregate-read-in-2
+slice-aggregate-read-in-2 c = search needs
+
+slice-aggregate-read-in-3 : tie.Need-slice-aggregate-read-in-3
+slice-aggregate-read-in-3 c = search needs
+
+slice-aggregate-read-in-4 : tie.Need-slice-aggregate-read-in-4
+slice-aggregate-read-in-4 c = search needs
+
+read-in-requires : tie.Need-read-in-requires
+read-in-requires c κs = search needs
+
+slice-aggregate-run : tie.Need-slice-aggregate-run
+slice-aggregate-run c = search needs
+
+slice-aggregate-run-2 : tie.Need-slice-aggregate-run-2
+slice-aggregate-run-2 c = search needs
+
+slice-aggregate-run-3 : tie.Need-slice-aggregate-run-3
+slice-aggregate-run-3 c = search needs
+
+slice-aggregate-run-4 : tie.Need-slice-aggregate-run-4
+slice-aggregate-run-4 c = search needs
+
+slice-aggregate-run-5 : tie.Need-slice-aggregate-run-5
+slice-aggregate-run-5 c = search needs
+
+run-requires : tie.Need-run-requires
+run-requires c κs =
+    let z = c .before .before .before .before .before .before .before .before .before .before .before .before .before .before .before .before .before .before .before .before in
+    let r = c .before .before .before .before .before .before .before .before .before .before .read-in in
+    (record { indexed = record { accepted = (z .pre .leveled .accepted); index-is = r .ensures .index-is }; leveled = z .pre .leveled }, r .ensures .rests _ _ (zeros-long 2048) (z .pre .work-room))
+
+clear-requires : tie.Need-clear-requires
+clear-requires c κs = search needs
+
+enum-told : tie.Need-enum-told
+enum-told c = search needs
+
+enum-told-2 : tie.Need-enum-told-2
+enum-told-2 c = search needs
+
+refused-by-requires : tie.Need-refused-by-requires
+refused-by-requires c κs = search needs
+
+same-length : tie.Need-same-length
+same-length c = search needs
+
+returns : tie.Need-returns
+returns c =
+    let z = c .before .before .before .before .before .before .before .before .before .before .before .before .before .before .before .before .before .before .before .before .before .before .before .before .before .before .before .before .before .before .before .before .before .before in
+    let r = c .before .before .before .before .before .before .before .before .before .before .before .before .before .run in
+    let k = c .before .before .before .before .before .clear in
+    list-refused (z .args .session .now) (z .pre .leveled .accepted) (z .args .timetable .now) (z .args .clearance) (z .args .work .now) (r .last .1 .1 .1 .1 .1 .1 .1 .1 .0) (k .last .0) (z .args .result .now) (z .args .result .now) (r .ensures .1) (k .ensures) (record { current = r .last .1 .1 .1 .1 .0; ended = r .last .1 .1 .1 .1 .1 .0; tallies = r .last .1 .1 .1 .1 .1 .1 .0; queue = r .last .1 .1 .1 .1 .1 .1 .1 .0; work = r .last .1 .1 .1 .1 .1 .1 .1 .1 .0 }) (r .result) (c .refused-by .result) (r .ensures .0) (c .refused-by .ensures) refl (not-finished (r .result) (c .before .before .match .keys2))
+
+slice-aggregate-show : tie.Need-slice-aggregate-show
+slice-aggregate-show c = search needs
+
+slice-aggregate-show-2 : tie.Need-slice-aggregate-show-2
+slice-aggregate-show-2 c = search needs
+
+slice-aggregate-show-3 : tie.Need-slice-aggregate-show-3
+slice-aggregate-show-3 c = search needs
+
+show-requires : tie.Need-show-requires
+show-requires c κs =
+    let z = c .before .before .before .before .before .before .before .before .before .before .before .before .before .before .before .before .before .before .before .before .before .before .before .before .before .before .before .before .before .before .before .before .before .before .before .before .before in
+    let r = c .before .before .before .before .before .before .before .before .before .before .before .before .before .before .before .before .run in
+    show-ready (z .args .session .now) (z .args .masks .now) (z .args .timetable .now) (record { current = r .last .1 .1 .1 .1 .0; ended = r .last .1 .1 .1 .1 .1 .0; tallies = r .last .1 .1 .1 .1 .1 .1 .0; queue = r .last .1 .1 .1 .1 .1 .1 .1 .0; work = r .last .1 .1 .1 .1 .1 .1 .1 .1 .0 }) _ (z .args .result .now) (z .pre .leveled) (finished-by (z .args .session .now) (z .args .timetable .now) (record { current = r .last .1 .1 .1 .1 .0; ended = r .last .1 .1 .1 .1 .1 .0; tallies = r .last .1 .1 .1 .1 .1 .1 .0; queue = r .last .1 .1 .1 .1 .1 .1 .1 .0; work = r .last .1 .1 .1 .1 .1 .1 .1 .1 .0 }) (r .result) (c .before .before .before .before .enum-told .given .1) (r .ensures .0)) (c .before .before .before .before .before .before .before .before .before .before .before .before .before .before .before .before .before .before .before .before .before .before .before .before .before .before .before .read-in .ensures .level-is) (z .pre .result-room)
+
+same-length-2 : tie.Need-same-length-2
+same-length-2 c = search needs
+
+same-length-3 : tie.Need-same-length-3
+same-length-3 c = search needs
+
+returns-2 : tie.Need-returns-2
+returns-2 c =
+    let z = c .before .before .before .before .before .before .before .before .before .before .before .before .before .before .before .before .before .before .before .before .before .before .before .before .before .before .before .before .before .before .before .before .before .before .before .before .before .before .before .before in
+    let r = c .before .before .before .before .before .before .before .before .before .before .before .before .before .before .before .before .before .before .before .run in
+    let k = c .before .before .before .before .before .before .before .before .before .before .before .clear in
+    let s = c .before .before .show in
+    list-finished (z .args .session .now) (z .pre .leveled .accepted) (z .args .timetable .now) (z .args .clearance) (z .args .work .now) (r .last .1 .1 .1 .1 .1 .1 .1 .1 .0) (k .last .0) (z .args .result .now) (s .last .1 .1 .1 .1 .1 .1 .1 .0) (r .ensures .1) (k .ensures) (record { current = r .last .1 .1 .1 .1 .0; ended = r .last .1 .1 .1 .1 .1 .0; tallies = r .last .1 .1 .1 .1 .1 .1 .0; queue = r .last .1 .1 .1 .1 .1 .1 .1 .0; work = r .last .1 .1 .1 .1 .1 .1 .1 .1 .0 }) _ (s .result) (finished-by (z .args .session .now) (z .args .timetable .now) (record { current = r .last .1 .1 .1 .1 .0; ended = r .last .1 .1 .1 .1 .1 .0; tallies = r .last .1 .1 .1 .1 .1 .1 .0; queue = r .last .1 .1 .1 .1 .1 .1 .1 .0; work = r .last .1 .1 .1 .1 .1 .1 .1 .1 .0 }) (r .result) (c .before .before .before .before .before .before .before .enum-told .given .1) (r .ensures .0)) (c .before .before .before .before .before .before .before .before .before .before .before .before .before .before .before .before .before .before .before .before .before .before .before .before .before .before .before .before .before .before .read-in .ensures .level-is) (s .ensures)
+
+pub run-list-spec : {M : Type 1} → statement M
+run-list-spec =
+    tie.close
+    (tie.spec
+    slice-aggregate-read-in
+    slice-aggregate-read-in-2
+    slice-aggregate-read-in-3
+    slice-aggregate-read-in-4
+    read-in-requires
+    slice-aggregate-run
+    slice-aggregate-run-2
+    slice-aggregate-run-3
+    slice-aggregate-run-4
+    slice-aggregate-run-5
+    run-requires
+    clear-requires
+    enum-told
+    enum-told-2
+    refused-by-requires
+    same-length
+    returns
+    slice-aggregate-show
+    slice-aggregate-show-2
+    slice-aggregate-show-3
+    show-requires
+    same-length-2
+    same-length-3
+    returns-2)

@@ -1,0 +1,199 @@
+-- `scheduler::timetable::run` meets its contract. The invariant: the words say a state from which the rest of the timetable ends as the whole
+-- does. Assumes nothing.
+use mathlib.Core.Path.{_≡_, refl, sym, _∙_, ap}
+use native.Mathlib.Omega.{arith}
+use Rattle.scheduler.specs.Permits.{isGiven}
+use Rattle.scheduler.specs.declared.tallies.Permit.{Permit}
+use Rattle.scheduler.specs.declared.tallies.Permit.the-variants.{Given, Absent, Idle, Blocked}
+use Rattle.scheduler.proofs.tallies.Permit as permit
+use Rattle.scheduler.proofs.Laws.Listed.{ListLoop, list-start, list-counted, list-fits, list-finished, list-unended, list-refused, list-present, list-may, list-again}
+use mathlib.Core.List.{[], _∷_}
+use types.Run.{OneOf, miss}
+use denote.Enum.Declared.{tagOf}
+use mir.Syntax.{w64}
+use mir.Val.{Fits}
+use borrow.Author.Tests.{not-true, not-false}
+use Rattle.lattice.proofs.Laws.Range.{not-both}
+use Rattle.session.specs.declared.Value.the-variants.{Nil}
+use Rattle.managers.specs.declared.Manager.{Manager}
+use Rattle.managers.specs.declared.Ending.the-variants.{Running}
+use borrow.Author.Needs.{needs}
+use lib.ListN.{length}
+use Prim.Native.Nat.{ℕ, _*_, _-_, _<_}
+use Rattle.scheduler.proofs.timetable.run.Statement.{statement}
+use Rattle.scheduler.proofs.timetable.run.Tie as tie
+
+-- what stands for a manager past the array
+abbrev none : Manager
+none = record { level = 0; first = 0; stamp = 0; steps = 0; writes = 0; forks = 0; ending = Running; reply = Nil; height = 0; frames = [] }
+
+-- a permit of another tag than the given one's
+not-given : (p : Permit) → OneOf (1 ∷ 2 ∷ 3 ∷ []) (tagOf permit.the-type p) → p ≡ Given → ⊥
+not-given Given h e = miss (1 ∷ 2 ∷ 3 ∷ []) 0 tt h
+not-given Absent h e = not-both (isGiven Given) refl (sym (ap isGiven e))
+not-given Idle h e = not-both (isGiven Given) refl (sym (ap isGiven e))
+not-given Blocked h e = not-both (isGiven Given) refl (sym (ap isGiven e))
+
+-- the place of a manager in the array
+small : (n : ℕ) → n < 8 → Fits w64 (n * 344)
+small n h = record { fits = omega (arith, h) }
+
+abbrev Inv-loop : tie.InvT-loop
+Inv-loop session timetable masks index current₀ ended₀ tallies₀ queue₀ work₀ managers₀ i₀ i-end current ended tallies queue work managers i =
+    ListLoop session timetable none (record { current = current₀; ended = ended₀; tallies = tallies₀; queue = queue₀; work = work₀ }) (record { current = current; ended = ended; tallies = tallies; queue = queue; work = work }) managers i
+
+abbrev μ-loop : tie.MeasureT-loop
+μ-loop session timetable masks index current₀ ended₀ tallies₀ queue₀ work₀ managers₀ i₀ i-end current ended tallies queue work managers i =
+    length timetable - i
+
+no-manager-requires : tie.Need-no-manager-requires Inv-loop μ-loop
+no-manager-requires c κs = search needs
+
+loop-holds : tie.Need-loop-holds Inv-loop μ-loop
+loop-holds c =
+    let z = c .before .before .before .before .before .before .before .before .before .before in
+    list-start (z .args .session .now) (z .args .masks .now) (z .args .timetable .now) none (record { current = z .args .current .now; ended = z .args .ended .now; tallies = z .args .tallies .now; queue = z .args .queue .now; work = z .args .work .now }) _ (z .pre .0 .leveled) refl (z .pre .1)
+
+shared-slice-read-level : tie.Need-shared-slice-read-level Inv-loop μ-loop
+shared-slice-read-level c = search needs
+
+cast-level : tie.Need-cast-level Inv-loop μ-loop
+cast-level c = omega (arith, c .shared-slice-known5 .given (c .before .before .loop .i))
+
+ask-requires : tie.Need-ask-requires Inv-loop μ-loop
+ask-requires c κs =
+    let z = c .before .before .before .before .before .before .before .before .before .before .before .before .before .before in
+    let l = c .before .before .before .loop in
+    list-counted (z .args .session .now) (z .args .masks .now) (z .pre .0 .leveled) (z .args .timetable .now) none (record { current = z .args .current .now; ended = z .args .ended .now; tallies = z .args .tallies .now; queue = z .args .queue .now; work = z .args .work .now }) (record { current = l .current; ended = l .ended; tallies = l .tallies; queue = l .queue; work = l .work }) (l .managers) (l .i) (l .inv)
+
+enum-told : tie.Need-enum-told Inv-loop μ-loop
+enum-told c = search (needs, c .match .keys1)
+
+cast-refused-at : tie.Need-cast-refused-at Inv-loop μ-loop
+cast-refused-at c =
+    let z = c .before .before .before .before .before .before .before .before .before .before .before .before .before .before .before .before .before .before in
+    let l = c .before .before .before .before .before .before .before .loop in
+    record { fits = list-fits (z .args .session .now) (z .args .masks .now) (z .pre .0 .leveled) (z .args .timetable .now) none (record { current = z .args .current .now; ended = z .args .ended .now; tallies = z .args .tallies .now; queue = z .args .queue .now; work = z .args .work .now }) (record { current = l .current; ended = l .ended; tallies = l .tallies; queue = l .queue; work = l .work }) (l .managers) (l .i) (l .inv) }
+
+refused-at-requires : tie.Need-refused-at-requires Inv-loop μ-loop
+refused-at-requires c κs = search needs
+
+same-length : tie.Need-same-length Inv-loop μ-loop
+same-length c = c .before .before .before .before .before .before .before .before .loop .inv .current-long
+
+same-length-2 : tie.Need-same-length-2 Inv-loop μ-loop
+same-length-2 c = c .before .before .before .before .before .before .before .before .loop .inv .ended-long
+
+same-length-3 : tie.Need-same-length-3 Inv-loop μ-loop
+same-length-3 c = c .before .before .before .before .ask .kept .1 .0 ∙ c .before .before .before .before .before .before .before .before .loop .inv .tallies-long
+
+same-length-4 : tie.Need-same-length-4 Inv-loop μ-loop
+same-length-4 c = c .before .before .before .before .before .before .before .before .loop .inv .queue-long
+
+same-length-5 : tie.Need-same-length-5 Inv-loop μ-loop
+same-length-5 c = c .before .before .before .before .before .before .before .before .loop .inv .work-long
+
+returns : tie.Need-returns Inv-loop μ-loop
+returns c =
+    let z = c .before .before .before .before .before .before .before .before .before .before .before .before .before .before .before .before .before .before .before in
+    let l = c .before .before .before .before .before .before .before .before .loop in
+    (list-refused (z .args .session .now) (z .args .masks .now) (z .pre .0 .leveled) (z .args .timetable .now) none (record { current = z .args .current .now; ended = z .args .ended .now; tallies = z .args .tallies .now; queue = z .args .queue .now; work = z .args .work .now }) (record { current = l .current; ended = l .ended; tallies = l .tallies; queue = l .queue; work = l .work }) (l .managers) (l .i) (l .inv) (c .before .before .before .before .before .before .before .loop-test .taken) (c .before .before .before .before .ask .result) (c .before .before .before .before .ask .ensures .0) (c .before .before .before .before .ask .last .1 .0) (c .before .before .before .before .ask .ensures .1) (not-given (c .before .before .before .before .ask .result) (c .before .match .keys2)) _ (c .refused-at .result) (c .refused-at .ensures), l .inv .rest)
+
+mul-m : tie.Need-mul-m Inv-loop μ-loop
+mul-m c =
+    let z = c .before .before .before .before .before .before .before .before .before .before .before .before .before .before .before .before .before .before .before in
+    let l = c .before .before .before .before .before .before .before .before .loop in
+    small _ (list-present (z .args .session .now) (z .args .masks .now) (z .pre .0 .leveled) (z .args .timetable .now) none (record { current = z .args .current .now; ended = z .args .ended .now; tallies = z .args .tallies .now; queue = z .args .queue .now; work = z .args .work .now }) (record { current = l .current; ended = l .ended; tallies = l .tallies; queue = l .queue; work = l .work }) (l .managers) (l .i) (l .inv) (c .before .before .before .before .before .before .before .loop-test .taken) (c .before .before .before .before .ask .result) (c .before .before .before .before .ask .ensures .0) (c .before .before .before .before .ask .last .1 .0) (c .before .before .before .before .ask .ensures .1) (c .enum-told .given .1))
+
+array-copy-out-m : tie.Need-array-copy-out-m Inv-loop μ-loop
+array-copy-out-m c =
+    let z = c .before .before .before .before .before .before .before .before .before .before .before .before .before .before .before .before .before .before .before in
+    let l = c .before .before .before .before .before .before .before .before .loop in
+    list-present (z .args .session .now) (z .args .masks .now) (z .pre .0 .leveled) (z .args .timetable .now) none (record { current = z .args .current .now; ended = z .args .ended .now; tallies = z .args .tallies .now; queue = z .args .queue .now; work = z .args .work .now }) (record { current = l .current; ended = l .ended; tallies = l .tallies; queue = l .queue; work = l .work }) (l .managers) (l .i) (l .inv) (c .before .before .before .before .before .before .before .loop-test .taken) (c .before .before .before .before .ask .result) (c .before .before .before .before .ask .ensures .0) (c .before .before .before .before .ask .last .1 .0) (c .before .before .before .before .ask .ensures .1) (c .enum-told .given .1)
+
+step-requires : tie.Need-step-requires Inv-loop μ-loop
+step-requires c κs =
+    let z = c .before .before .before .before .before .before .before .before .before .before .before .before .before .before .before .before .before .before .before .before .before .before .before .before .before in
+    let l = c .before .before .before .before .before .before .before .before .before .before .before .before .before .before .loop in
+    (z .pre .0, list-may (z .args .session .now) (z .args .masks .now) (z .pre .0 .leveled) (z .args .timetable .now) none (record { current = z .args .current .now; ended = z .args .ended .now; tallies = z .args .tallies .now; queue = z .args .queue .now; work = z .args .work .now }) (record { current = l .current; ended = l .ended; tallies = l .tallies; queue = l .queue; work = l .work }) (l .managers) (l .i) (l .inv) (c .before .before .before .before .before .before .before .before .before .before .before .before .before .loop-test .taken) (c .before .before .before .before .before .before .before .before .before .before .ask .result) (c .before .before .before .before .before .before .before .before .before .before .ask .ensures .0) (c .before .before .before .before .before .before .before .before .before .before .ask .last .1 .0) (c .before .before .before .before .before .before .before .before .before .before .ask .ensures .1) (c .before .before .before .before .before .before .enum-told .given .1))
+
+mul-managers : tie.Need-mul-managers Inv-loop μ-loop
+mul-managers c =
+    let z = c .before .before .before .before .before .before .before .before .before .before .before .before .before .before .before .before .before .before .before .before .before .before .before .before .before .before .before .before .before .before .before .before .before .before .before .before in
+    let l = c .before .before .before .before .before .before .before .before .before .before .before .before .before .before .before .before .before .before .before .before .before .before .before .before .before .loop in
+    small _ (list-present (z .args .session .now) (z .args .masks .now) (z .pre .0 .leveled) (z .args .timetable .now) none (record { current = z .args .current .now; ended = z .args .ended .now; tallies = z .args .tallies .now; queue = z .args .queue .now; work = z .args .work .now }) (record { current = l .current; ended = l .ended; tallies = l .tallies; queue = l .queue; work = l .work }) (l .managers) (l .i) (l .inv) (c .before .before .before .before .before .before .before .before .before .before .before .before .before .before .before .before .before .before .before .before .before .before .before .before .loop-test .taken) (c .before .before .before .before .before .before .before .before .before .before .before .before .before .before .before .before .before .before .before .before .before .ask .result) (c .before .before .before .before .before .before .before .before .before .before .before .before .before .before .before .before .before .before .before .before .before .ask .ensures .0) (c .before .before .before .before .before .before .before .before .before .before .before .before .before .before .before .before .before .before .before .before .before .ask .last .1 .0) (c .before .before .before .before .before .before .before .before .before .before .before .before .before .before .before .before .before .before .before .before .before .ask .ensures .1) (c .before .before .before .before .before .before .before .before .before .before .before .before .before .before .before .before .before .enum-told .given .1))
+
+array-set-from-managers : tie.Need-array-set-from-managers Inv-loop μ-loop
+array-set-from-managers c =
+    let z = c .before .before .before .before .before .before .before .before .before .before .before .before .before .before .before .before .before .before .before .before .before .before .before .before .before .before .before .before .before .before .before .before .before .before .before .before in
+    let l = c .before .before .before .before .before .before .before .before .before .before .before .before .before .before .before .before .before .before .before .before .before .before .before .before .before .loop in
+    list-present (z .args .session .now) (z .args .masks .now) (z .pre .0 .leveled) (z .args .timetable .now) none (record { current = z .args .current .now; ended = z .args .ended .now; tallies = z .args .tallies .now; queue = z .args .queue .now; work = z .args .work .now }) (record { current = l .current; ended = l .ended; tallies = l .tallies; queue = l .queue; work = l .work }) (l .managers) (l .i) (l .inv) (c .before .before .before .before .before .before .before .before .before .before .before .before .before .before .before .before .before .before .before .before .before .before .before .before .loop-test .taken) (c .before .before .before .before .before .before .before .before .before .before .before .before .before .before .before .before .before .before .before .before .before .ask .result) (c .before .before .before .before .before .before .before .before .before .before .before .before .before .before .before .before .before .before .before .before .before .ask .ensures .0) (c .before .before .before .before .before .before .before .before .before .before .before .before .before .before .before .before .before .before .before .before .before .ask .last .1 .0) (c .before .before .before .before .before .before .before .before .before .before .before .before .before .before .before .before .before .before .before .before .before .ask .ensures .1) (c .before .before .before .before .before .before .before .before .before .before .before .before .before .before .before .before .before .enum-told .given .1)
+
+add-i : tie.Need-add-i Inv-loop μ-loop
+add-i c =
+    let z = c .before .before .before .before .before .before .before .before .before .before .before .before .before .before .before .before .before .before .before .before .before .before .before .before .before .before .before .before .before .before .before .before .before .before .before .before in
+    let l = c .before .before .before .before .before .before .before .before .before .before .before .before .before .before .before .before .before .before .before .before .before .before .before .before .before .loop in
+    record { fits = omega (arith, list-fits (z .args .session .now) (z .args .masks .now) (z .pre .0 .leveled) (z .args .timetable .now) none (record { current = z .args .current .now; ended = z .args .ended .now; tallies = z .args .tallies .now; queue = z .args .queue .now; work = z .args .work .now }) (record { current = l .current; ended = l .ended; tallies = l .tallies; queue = l .queue; work = l .work }) (l .managers) (l .i) (l .inv)) }
+
+loop-less : tie.Need-loop-less Inv-loop μ-loop
+loop-less c = omega (arith, c .before .before .before .before .before .before .before .before .before .before .before .before .before .before .before .before .before .before .before .before .before .before .before .before .loop-test .taken)
+
+loop-again : tie.Need-loop-again Inv-loop μ-loop
+loop-again c =
+    let z = c .before .before .before .before .before .before .before .before .before .before .before .before .before .before .before .before .before .before .before .before .before .before .before .before .before .before .before .before .before .before .before .before .before .before .before .before in
+    let l = c .before .before .before .before .before .before .before .before .before .before .before .before .before .before .before .before .before .before .before .before .before .before .before .before .before .loop in
+    let r = c .before .before .before .before .before .before .before .before .before .before .step in
+    list-again (z .args .session .now) (z .args .masks .now) (z .pre .0 .leveled) (z .args .timetable .now) none (record { current = z .args .current .now; ended = z .args .ended .now; tallies = z .args .tallies .now; queue = z .args .queue .now; work = z .args .work .now }) (record { current = l .current; ended = l .ended; tallies = l .tallies; queue = l .queue; work = l .work }) (l .managers) (l .i) (l .inv) (c .before .before .before .before .before .before .before .before .before .before .before .before .before .before .before .before .before .before .before .before .before .before .before .before .loop-test .taken) (c .before .before .before .before .before .before .before .before .before .before .before .before .before .before .before .before .before .before .before .before .before .ask .result) (c .before .before .before .before .before .before .before .before .before .before .before .before .before .before .before .before .before .before .before .before .before .ask .ensures .0) (c .before .before .before .before .before .before .before .before .before .before .before .before .before .before .before .before .before .before .before .before .before .ask .last .1 .0) (c .before .before .before .before .before .before .before .before .before .before .before .before .before .before .before .before .before .before .before .before .before .ask .ensures .1) (c .before .before .before .before .before .before .before .before .before .before .before .before .before .before .before .before .before .enum-told .given .1) (record { current = r .last .1 .1 .1 .0; ended = r .last .1 .1 .1 .1 .0; tallies = r .last .1 .1 .1 .1 .1 .0; queue = r .last .1 .1 .1 .1 .1 .1 .0; work = r .last .1 .1 .1 .1 .1 .1 .1 .0 }) (r .result) (r .ensures) (r .kept .1 .1 .1 .0) (r .kept .1 .1 .1 .1 .0) (r .kept .1 .1 .1 .1 .1 .0) (c .before .before .before .before .before .before .before .before .before .before .before .before .before .before .before .before .before .before .before .before .before .ask .kept .1 .0) (r .kept .1 .1 .1 .1 .1 .1 .0) (r .kept .1 .1 .1 .1 .1 .1 .1 .0)
+
+all-ended-requires : tie.Need-all-ended-requires Inv-loop μ-loop
+all-ended-requires c κs =
+    let z = c .before .before .before .before .before .before .before .before .before .before .before .before .before in
+    let l = c .before .before .loop in
+    list-counted (z .args .session .now) (z .args .masks .now) (z .pre .0 .leveled) (z .args .timetable .now) none (record { current = z .args .current .now; ended = z .args .ended .now; tallies = z .args .tallies .now; queue = z .args .queue .now; work = z .args .work .now }) (record { current = l .current; ended = l .ended; tallies = l .tallies; queue = l .queue; work = l .work }) (l .managers) (l .i) (l .inv)
+
+same-length-6 : tie.Need-same-length-6 Inv-loop μ-loop
+same-length-6 c = c .before .before .before .before .loop .inv .current-long
+
+same-length-7 : tie.Need-same-length-7 Inv-loop μ-loop
+same-length-7 c = c .before .before .before .before .loop .inv .ended-long
+
+same-length-8 : tie.Need-same-length-8 Inv-loop μ-loop
+same-length-8 c = c .before .before .before .before .loop .inv .tallies-long
+
+same-length-9 : tie.Need-same-length-9 Inv-loop μ-loop
+same-length-9 c = c .before .before .before .before .loop .inv .queue-long
+
+same-length-10 : tie.Need-same-length-10 Inv-loop μ-loop
+same-length-10 c = c .before .before .before .before .loop .inv .work-long
+
+returns-2 : tie.Need-returns-2 Inv-loop μ-loop
+returns-2 c =
+    let z = c .before .before .before .before .before .before .before .before .before .before .before .before .before .before .before in
+    let l = c .before .before .before .before .loop in
+    (list-unended (z .args .session .now) (z .args .masks .now) (z .pre .0 .leveled) (z .args .timetable .now) none (record { current = z .args .current .now; ended = z .args .ended .now; tallies = z .args .tallies .now; queue = z .args .queue .now; work = z .args .work .now }) (record { current = l .current; ended = l .ended; tallies = l .tallies; queue = l .queue; work = l .work }) (l .managers) (l .i) (l .inv) (c .before .before .before .loop-test .left) (sym (c .before .all-ended .ensures) ∙ not-true (c .before .all-ended .result) (c .if1 .taken)), l .inv .rest)
+
+same-length-11 : tie.Need-same-length-11 Inv-loop μ-loop
+same-length-11 c = c .before .before .before .before .loop .inv .current-long
+
+same-length-12 : tie.Need-same-length-12 Inv-loop μ-loop
+same-length-12 c = c .before .before .before .before .loop .inv .ended-long
+
+same-length-13 : tie.Need-same-length-13 Inv-loop μ-loop
+same-length-13 c = c .before .before .before .before .loop .inv .tallies-long
+
+same-length-14 : tie.Need-same-length-14 Inv-loop μ-loop
+same-length-14 c = c .before .before .before .before .loop .inv .queue-long
+
+same-length-15 : tie.Need-same-length-15 Inv-loop μ-loop
+same-length-15 c = c .before .before .before .before .loop .inv .work-long
+
+returns-3 : tie.Need-returns-3 Inv-loop μ-loop
+returns-3 c =
+    let z = c .before .before .before .before .before .before .before .before .before .before .before .before .before .before .before in
+    let l = c .before .before .before .before .loop in
+    (list-finished (z .args .session .now) (z .args .masks .now) (z .pre .0 .leveled) (z .args .timetable .now) none (record { current = z .args .current .now; ended = z .args .ended .now; tallies = z .args .tallies .now; queue = z .args .queue .now; work = z .args .work .now }) (record { current = l .current; ended = l .ended; tallies = l .tallies; queue = l .queue; work = l .work }) (l .managers) (l .i) (l .inv) (c .before .before .before .loop-test .left) (sym (c .before .all-ended .ensures) ∙ not-false (c .before .all-ended .result) (c .if1 .left)), l .inv .rest)
+
+pub run-spec : {M : Type 1} → statement M
+run-spec =
+    tie.close
+    (tie.spec Inv-loop μ-loop no-manager-requires loop-holds shared-slice-read-level cast-level ask-requires enum-told cast-refused-at refused-at-requires same-length same-length-2 same-length-3 same-length-4 same-length-5 returns mul-m array-copy-out-m step-requires mul-managers array-set-from-managers add-i loop-less loop-again all-ended-requires same-length-6 same-length-7 same-length-8 same-length-9 same-length-10 returns-2 same-length-11 same-length-12 same-length-13 same-length-14 same-length-15 returns-3)

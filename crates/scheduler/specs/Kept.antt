@@ -1,0 +1,97 @@
+-- What the words of a run say of its state. No meaning rests on these. Assumes nothing.
+use Prim.Native.Nat.{ℕ, _+_, _*_, _≤_, _<_}
+use mathlib.Core.Path.{_≡_}
+use mathlib.Core.Bool.{true, cond}
+use mathlib.Core.List.{List}
+use lib.Dec.{eqb}
+use lib.ListN.{length, getD}
+use Rattle.session.specs.Limits.{maxLevels, fields}
+use Rattle.session.specs.Parts.{levelCount, objectCount}
+use Rattle.session.specs.Meaning.{rootOf}
+use Rattle.session.specs.Program.{programOf}
+use Rattle.managers.specs.declared.Manager.{Manager}
+use Rattle.model.specs.Limits.{maxManagers, workNumbers}
+use Rattle.model.specs.Level.{Activity, idle, busy, Level, startedCount, newest}
+use Rattle.model.specs.Step.{State, levelAt}
+use Rattle.model.specs.Schedule.{readIn, question14, Leads}
+use Rattle.records.specs.Limits.{fieldWords, historyWords}
+use Rattle.records.specs.Fields.{fieldAt}
+use Rattle.records.specs.Histories.{historiesAt, InOrder}
+use Rattle.queues.specs.Queue.{queueWords, forkAt, forksAt, ForksRise}
+use Rattle.versions.specs.Log.{logStart, logOf}
+
+-- a run's words: the newest fields, the histories, what is counted of each level, the forks, and the versions
+pub record Words : Type 0 where
+  pub current : List ℕ
+  pub ended : List ℕ
+  pub tallies : List ℕ
+  pub queue : List ℕ
+  pub work : List ℕ
+
+-- what is counted of level l: the managers that have ended stand at l itself; then the write stamp of the next one; the forks that wait;
+-- the versions; 1 where a manager runs; 1 where question 14 has said yes
+abbrev pub nextPlace : ℕ → ℕ
+nextPlace l = maxLevels + l
+
+abbrev pub waitingPlace : ℕ → ℕ
+waitingPlace l = 2 * maxLevels + l
+
+abbrev pub versionsPlace : ℕ → ℕ
+versionsPlace l = 3 * maxLevels + l
+
+abbrev pub busyPlace : ℕ → ℕ
+busyPlace l = 4 * maxLevels + l
+
+abbrev pub clearPlace : ℕ → ℕ
+clearPlace l = 5 * maxLevels + l
+
+abbrev pub tallyNumbers : ℕ
+tallyNumbers = 6 * maxLevels
+
+-- whether a manager runs at level l: m, and its fork is the one behind those that have ended
+abbrev pub Runs : ℕ → Words → ℕ → Manager → ℕ → Activity → Type 0
+Runs n w l m i idle = getD (w .tallies) (busyPlace l) 0 ≡ 0
+Runs n w l m i (busy x m') = (getD (w .tallies) (busyPlace l) 0 ≡ 1) × ((m ≡ m') × (forkAt n (w .queue) l i ≡ x))
+
+-- the words of level l, one of n, say v, with m for the manager that runs there
+pub record LevelTold (n : ℕ) (w : Words) (l : ℕ) (m : Manager) (v : Level) : Type 0 where
+  pub ended-count : getD (w .tallies) l 0 ≡ length (v .ended)
+  pub ended : historiesAt (w .ended) l (length (v .ended)) ≡ v .ended
+  pub ended-rises : InOrder (v .ended)
+  pub next : getD (w .tallies) (nextPlace l) 0 ≡ v .next
+  pub waiting-count : getD (w .tallies) (waitingPlace l) 0 ≡ length (v .waiting)
+  pub waiting : forksAt n (w .queue) l (startedCount v) (length (v .waiting)) ≡ v .waiting
+  pub waiting-rises : ForksRise (w .queue) l (startedCount v) (length (v .waiting))
+  pub version-count : getD (w .tallies) (versionsPlace l) 0 ≡ length (v .versions)
+  pub versions : logOf (w .work) (logStart l) (length (v .versions)) ≡ v .versions
+  pub activity : Runs n w l m (length (v .ended)) (v .activity)
+
+-- the words have room for every run
+pub record Roomy (w : Words) : Type 0 where
+  pub current : fieldWords ≤ length (w .current)
+  pub ended : historyWords ≤ length (w .ended)
+  pub tallies : tallyNumbers ≤ length (w .tallies)
+  pub queue : queueWords ≤ length (w .queue)
+  pub work : workNumbers ≤ length (w .work)
+
+-- the words of a run of session s say the state st, with ms for the managers that run
+pub record Told (s : List ℕ) (w : Words) (ms : ℕ → Manager) (st : State) : Type 0 where
+  pub roomy : Roomy w
+  pub counts-few : (l : ℕ) → l < maxLevels → getD (w .tallies) l 0 ≤ maxManagers
+  pub levels : length st ≡ levelCount s
+  pub field : (o k : ℕ) → o < objectCount s → k < fields → fieldAt (w .current) o k ≡ newest (programOf s .field o k) o k (levelAt st (programOf s .level o) .versions)
+  pub level : (l : ℕ) → l < levelCount s → LevelTold (levelCount s) w l (ms l) (levelAt st l)
+
+-- some list of allowed steps leads to the state st from the session as read in
+abbrev pub Reached : List ℕ → State → Type 0
+Reached s st = (ls : List ℕ) × Leads (programOf s) (readIn (programOf s) (rootOf s)) ls st
+
+-- the words say a state that a run reaches; and where question 14 has said yes of a level, it says so still
+pub record Says (s : List ℕ) (w : Words) (ms : ℕ → Manager) (st : State) : Type 0 where
+  pub told : Told s w ms st
+  pub reached : Reached s st
+  pub clear : (l : ℕ) → l < levelCount s → (getD (w .tallies) (clearPlace l) 0 ≡ 0 → ⊥) → question14 (programOf s) st l ≡ true
+
+-- managers of which the one of level l became r
+abbrev pub placed : ℕ → Manager → (ℕ → Manager) → ℕ → Manager
+placed l r ms k = cond (eqb k l) r (ms k)

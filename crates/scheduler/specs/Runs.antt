@@ -1,0 +1,130 @@
+-- What the stages of a run promise each other. No meaning rests on these. Assumes nothing.
+use Prim.Native.Nat.{ℕ, _+_, _*_, _≤_, _<_}
+use mathlib.Core.Path.{_≡_}
+use mathlib.Core.Bool.{false}
+use mathlib.Core.List.{List, _++_}
+use lib.ListN.{length, drop, replicate}
+use Rattle.session.specs.Limits.{maxLevels, maxMethods}
+use Rattle.session.specs.Parts.{levelCount}
+use Rattle.session.specs.Meaning.{levelOf, rootObject, rootOf}
+use Rattle.session.specs.Program.{programOf}
+use Rattle.session.specs.Reading.{indexOf}
+use Rattle.managers.specs.Valid.{Leveled}
+use Rattle.managers.specs.declared.Manager.{Manager}
+use Rattle.model.specs.Limits.{workNumbers, resultBytes}
+use Rattle.model.specs.Level.{idle, hasManager}
+use Rattle.model.specs.Step.{State, levelAt}
+use Rattle.model.specs.Schedule.{finished, refused, readIn, stepRefusal, runOf, plainOrder, Leads}
+use Rattle.model.specs.Result.{byNumber}
+use Rattle.model.specs.Entries.{Request, question10, entryRefusal, answerOf}
+use Rattle.records.specs.Limits.{fieldWords, historyWords}
+use Rattle.records.specs.Writing.{resultIn, bytesIn, Written}
+use Rattle.records.specs.declared.Answer.{Answer}
+use Rattle.queues.specs.Queue.{queueWords}
+use Rattle.scheduler.specs.Kept.{Words, Told, Says}
+use Rattle.scheduler.specs.Permits.{numberOfPermit}
+use Rattle.scheduler.specs.declared.Outcome.{Outcome}
+use Rattle.scheduler.specs.declared.Outcome.the-variants as outcome
+use Rattle.scheduler.specs.declared.tallies.Permit.{Permit}
+
+-- the lowest of questions 1 to 11 that says no, or 0, of any request with this session, this clearance and slices of these lengths
+abbrev pub EntryRefusal : List ℕ → ℕ → ℕ → ℕ → ℕ → Type 0
+EntryRefusal s clearance work result r =
+    (q : Request)
+    → q .session ≡ s
+    → q .clearance ≡ clearance
+    → length (q .work) ≡ work
+    → length (q .buffer) ≡ result
+    → entryRefusal (question10 q) q ≡ r
+
+-- the answer of a call that question `number` ends, at a place
+abbrev pub Refused : ℕ → ℕ → Answer → Type 0
+Refused number place r = (r .number ≡ number) × (r .place ≡ place) × (r .count ≡ 0)
+
+-- the session as read in
+abbrev pub startOf : List ℕ → State
+startOf s = readIn (programOf s) (rootOf s)
+
+-- the words say the state st, and no manager runs in it: so they say it whatever managers are held
+pub record Rests (s : List ℕ) (w : Words) (st : State) : Type 0 where
+  pub says : (ms : ℕ → Manager) → Says s w ms st
+  pub idle-all : (k : ℕ) → k < levelCount s → levelAt st k .activity ≡ idle
+
+-- what is counted before any manager started: "A level's write stamp starts at 1"
+abbrev pub startTallies : List ℕ
+startTallies = replicate maxLevels 0 ++ replicate maxLevels 1 ++ replicate (4 * maxLevels) 0
+
+-- words that no run has used
+pub record Fresh (index current tallies queue : List ℕ) : Type 0 where
+  pub methods : length index ≡ maxMethods + 1
+  pub fields-room : fieldWords ≤ length current
+  pub counts : tallies ≡ startTallies
+  pub forks-room : queueWords ≤ length queue
+
+-- they hold the method index and, with any words for histories and versions, say the session as read in; the root's object is at a level
+pub record ReadIn (s index current tallies queue : List ℕ) (level : ℕ) : Type 0 where
+  pub index-is : index ≡ indexOf s
+  pub level-is : level ≡ levelOf s (rootObject s)
+  pub rests : (ended work : List ℕ) → historyWords ≤ length ended → workNumbers ≤ length work → Rests s (record { current = current; ended = ended; tallies = tallies; queue = queue; work = work }) (startOf s)
+
+-- the work slice is as it was beyond the versions
+abbrev pub SameRest : List ℕ → List ℕ → Type 0
+SameRest work work' = drop workNumbers work' ≡ drop workNumbers work
+
+-- a step that is not permitted ends a run
+abbrev pub RefusedAt : Permit → ℕ → Outcome → Type 0
+RefusedAt permit place r = r ≡ outcome.Refused (numberOfPermit permit) place
+
+-- a list of scheduler steps of session s has ended: refused, or in a state that the words say
+abbrev pub Ends : List ℕ → List ℕ → Words → Outcome → Type 0
+Ends s ls w outcome.Finished =
+    (ms : ℕ → Manager) × ((st : State) × ((runOf (programOf s) (rootOf s) ls ≡ finished st) × Told s w ms st))
+Ends s ls w (outcome.Refused number place) = runOf (programOf s) (rootOf s) ls ≡ refused number place
+
+-- a level may step, and no manager runs
+abbrev pub LevelReady : List ℕ → Words → ℕ → Type 0
+LevelReady s w level = (st : State) × (Rests s w st × (stepRefusal (programOf s) st level ≡ 0))
+
+-- allowed steps led from state st to one in which the level has no manager
+pub record LevelRun (s : List ℕ) (w : Words) (level : ℕ) (st : State) : Type 0 where
+  pub state : State
+  pub list : List ℕ
+  pub leads : Leads (programOf s) st list state
+  pub rests : Rests s w state
+  pub dry : hasManager (levelAt state level) ≡ false
+
+pub record LevelDone (s : List ℕ) (w w' : Words) (level : ℕ) : Type 0 where
+  pub ran : (st : State) → Rests s w st → stepRefusal (programOf s) st level ≡ 0 → LevelRun s w' level st
+  pub rest : SameRest (w .work) (w' .work)
+
+-- the words say the state in which some list of scheduler steps of session s finishes
+abbrev pub Done : List ℕ → Words → Type 0
+Done s w = (ls : List ℕ) × Ends s ls w outcome.Finished
+
+-- the answer of a list of steps that was refused
+abbrev pub RefusedBy : Outcome → Answer → Type 0
+RefusedBy outcome.Finished r = Refused 0 0 r
+RefusedBy (outcome.Refused number place) r = Refused number place r
+
+-- the records of the words' result for a clearance are written
+pub record Shows (s current ended tallies : List ℕ) (clearance level : ℕ) (before after : List ℕ) (r : Answer) : Type 0 where
+  pub number : r .number ≡ 0
+  pub place : r .place ≡ 0
+  pub written : Written (bytesIn s (resultIn current ended tallies) clearance level) before after (r .count)
+
+-- a run of an accepted session, with its level table, has the room that questions 10 and 11 ask for
+pub record RunReady (s masks work result : List ℕ) : Type 0 where
+  pub leveled : Leveled s masks
+  pub work-room : workNumbers ≤ length work
+  pub result-room : resultBytes ≤ length result
+
+-- the whole answer of a list of scheduler steps, the level groups by rising number
+abbrev pub ListDone : List ℕ → List ℕ → ℕ → List ℕ → List ℕ → List ℕ → List ℕ → Answer → Type 0
+ListDone s ls clearance work work' buffer buffer' r =
+    record { number = r .number; place = r .place; count = r .count; work = work'; buffer = buffer' }
+    ≡ answerOf (record { session = s; clearance = clearance; work = work; buffer = buffer }) (byNumber (programOf s) clearance) (runOf (programOf s) (rootOf s) ls)
+
+-- that of the plain run
+abbrev pub PlainDone : List ℕ → ℕ → List ℕ → List ℕ → List ℕ → List ℕ → Answer → Type 0
+PlainDone s clearance work work' buffer buffer' r =
+    ListDone s (plainOrder (programOf s) (rootOf s)) clearance work work' buffer buffer' r

@@ -1,0 +1,371 @@
+// The timetabled run and the plain run.
+mod plain;
+mod reads;
+mod steps;
+mod tallies;
+mod timetable;
+
+use records::Answer;
+use records::fields;
+use session::contents;
+ghost use Rattle.session.specs.Meaning.{levelOf, rootObject};
+ghost use Rattle.managers.specs.Valid.{Leveled};
+ghost use Rattle.model.specs.Entries.{timetabled, plain as plainly, Answers};
+ghost use Rattle.records.specs.Writing.{Ready};
+ghost use Rattle.scheduler.specs.Runs.{EntryRefusal, Fresh, ReadIn, Shows, RunReady, ListDone, PlainDone, Refused, RefusedBy};
+
+// How the scheduler steps of a run end.
+pub enum Outcome {
+    Finished,
+    // By a question, 12 to 15, and its place.
+    Refused { number: u32, place: u32 },
+}
+
+// The lowest of questions 1 to 11 that says no, or 0.
+fn entry_refusal(session: &[u8], clearance: usize, work: usize, result: usize) -> u32
+    ensures { λ r. ⌜ EntryRefusal (now (session .entry)) clearance work result r ⌝ }
+{
+    let number = session::number_of(session::check(session));
+    if number != 0 {
+        return number;
+    }
+    let mut masks = [0u16; 8];
+    if clearance >= contents::level_table(session, &mut masks) {
+        return 9;
+    }
+    if work < 8192 {
+        return 10;
+    }
+    if result < 4624 {
+        return 11;
+    }
+    0
+}
+
+// The answer of a call that a question ends.
+fn refused(number: u32, place: u32) -> Answer
+    ensures { λ r. ⌜ Refused number place r ⌝ }
+{
+    Answer {
+        number,
+        place,
+        count: 0,
+    }
+}
+
+// Fills the words of a run with the session as read in: the method index, the first fields, and the
+// root's fork, which waits. Returns the root's level.
+fn read_in(
+    session: &[u8],
+    masks: &[u16],
+    index: &mut [u16],
+    current: &mut [u32],
+    tallies: &mut [usize],
+    queue: &mut [u32],
+) -> usize
+    requires { ⌜ Leveled (now session) (now masks) ⌝ }
+    requires { ⌜ Fresh (now index) (now current) (now tallies) (now queue) ⌝ }
+    ensures { λ r. ⌜ ReadIn (now (session .entry)) (now (index .exit)) (now (current .exit)) (now (tallies .exit)) (now (queue .exit)) r ⌝ }
+{
+    contents::index_methods(session, index);
+    fields::fill(session, masks, current);
+    let message = contents::root(session);
+    let level = contents::level_of(session, masks, message.object as usize);
+    let row = queues::root_row(message);
+    tallies[16 + level] = queues::arrive(queue, level, 0, 0, &row);
+    level
+}
+
+// Writes the records of a run that a clearance is shown.
+fn show(
+    session: &[u8],
+    masks: &[u16],
+    current: &[u32],
+    ended: &[u32],
+    tallies: &[usize],
+    clearance: usize,
+    level: usize,
+    result: &mut [u8],
+) -> Answer
+    requires { ⌜ Ready (now session) (now masks) (now current) (now ended) (now tallies) level (now result) ⌝ }
+    ensures { λ r. ⌜ Shows (now (session .entry)) (now (current .entry)) (now (ended .entry)) (now (tallies .entry)) clearance level (now (result .entry)) (now (result .exit)) r ⌝ }
+{
+    let count = records::write(
+        session,
+        masks,
+        current,
+        ended,
+        tallies,
+        clearance,
+        level,
+        result,
+    );
+    Answer {
+        number: 0,
+        place: 0,
+        count: count as u32,
+    }
+}
+
+// The answer of a list of scheduler steps that was refused.
+fn refused_by(outcome: Outcome) -> Answer
+    ensures { λ r. ⌜ RefusedBy outcome r ⌝ }
+{
+    match outcome {
+        Outcome::Finished => refused(0, 0),
+        Outcome::Refused { number, place } => refused(number, place),
+    }
+}
+
+// Runs an accepted session by a timetable, and writes the records that a clearance is shown.
+fn run_list(
+    session: &[u8],
+    timetable: &[u8],
+    masks: &[u16],
+    clearance: usize,
+    work: &mut [u32],
+    result: &mut [u8],
+) -> Answer
+    requires { ⌜ RunReady (now session) (now masks) (now work) (now result) ⌝ }
+    ensures { λ r. ⌜ ListDone (now (session .entry)) (now (timetable .entry)) clearance (now (work .entry)) (now (work .exit)) (now (result .entry)) (now (result .exit)) r ⌝ }
+{
+    let mut index = [0u16; 513];
+    let mut current = [0u32; 192];
+    let mut ended = [0u32; 2048];
+    let mut queue = [0u32; 3584];
+    let mut tallies = [
+        0usize,
+        0,
+        0,
+        0,
+        0,
+        0,
+        0,
+        0,
+        1,
+        1,
+        1,
+        1,
+        1,
+        1,
+        1,
+        1,
+        0,
+        0,
+        0,
+        0,
+        0,
+        0,
+        0,
+        0,
+        0,
+        0,
+        0,
+        0,
+        0,
+        0,
+        0,
+        0,
+        0,
+        0,
+        0,
+        0,
+        0,
+        0,
+        0,
+        0,
+        0,
+        0,
+        0,
+        0,
+        0,
+        0,
+        0,
+        0,
+    ];
+    let level = read_in(
+        session,
+        masks,
+        &mut index,
+        &mut current,
+        &mut tallies,
+        &mut queue,
+    );
+    let outcome = timetable::run(
+        session,
+        timetable,
+        masks,
+        &index,
+        &mut current,
+        &mut ended,
+        &mut tallies,
+        &mut queue,
+        work,
+    );
+    versions::clear(work);
+    let Outcome::Finished = outcome else {
+        return refused_by(outcome);
+    };
+    show(
+        session,
+        masks,
+        &current,
+        &ended,
+        &tallies,
+        clearance,
+        level,
+        result,
+    )
+}
+
+// Runs an accepted session plainly, and writes the records that a clearance is shown.
+fn run_lowest(
+    session: &[u8],
+    masks: &[u16],
+    clearance: usize,
+    work: &mut [u32],
+    result: &mut [u8],
+) -> Answer
+    requires { ⌜ RunReady (now session) (now masks) (now work) (now result) ⌝ }
+    ensures { λ r. ⌜ PlainDone (now (session .entry)) clearance (now (work .entry)) (now (work .exit)) (now (result .entry)) (now (result .exit)) r ⌝ }
+{
+    let mut index = [0u16; 513];
+    let mut current = [0u32; 192];
+    let mut ended = [0u32; 2048];
+    let mut queue = [0u32; 3584];
+    let mut tallies = [
+        0usize,
+        0,
+        0,
+        0,
+        0,
+        0,
+        0,
+        0,
+        1,
+        1,
+        1,
+        1,
+        1,
+        1,
+        1,
+        1,
+        0,
+        0,
+        0,
+        0,
+        0,
+        0,
+        0,
+        0,
+        0,
+        0,
+        0,
+        0,
+        0,
+        0,
+        0,
+        0,
+        0,
+        0,
+        0,
+        0,
+        0,
+        0,
+        0,
+        0,
+        0,
+        0,
+        0,
+        0,
+        0,
+        0,
+        0,
+        0,
+    ];
+    let level = read_in(
+        session,
+        masks,
+        &mut index,
+        &mut current,
+        &mut tallies,
+        &mut queue,
+    );
+    plain::run(
+        session,
+        masks,
+        &index,
+        &mut current,
+        &mut ended,
+        &mut tallies,
+        &mut queue,
+        work,
+    );
+    versions::clear(work);
+    show(
+        session,
+        masks,
+        &current,
+        &ended,
+        &tallies,
+        clearance,
+        level,
+        result,
+    )
+}
+
+// Runs a session by a timetable and writes what a clearance is shown of it: questions 1 to 15 of any
+// bytes, of any length and content, whatever the work slice holds.
+pub fn run_timetable(
+    session: &[u8],
+    timetable: &[u8],
+    clearance: usize,
+    work: &mut [u32],
+    result: &mut [u8],
+) -> Answer
+    ensures { λ r. ⌜ Answers (record { session = now (session .entry); clearance = clearance; work = now (work .entry); buffer = now (result .entry) }) (λ order. timetabled (record { session = now (session .entry); clearance = clearance; work = now (work .entry); buffer = now (result .entry) }) order (now (timetable .entry))) (r .number) (r .place) (r .count) (now (work .exit)) (now (result .exit)) ⌝ }
+{
+    let number = entry_refusal(session, clearance, work.len(), result.len());
+    if number != 0 {
+        return refused(number, 0);
+    }
+    let mut masks = [0u16; 8];
+    let levels = contents::level_table(session, &mut masks);
+    run_list(
+        session,
+        timetable,
+        &masks[..levels],
+        clearance,
+        work,
+        result,
+    )
+}
+
+// Runs a session plainly and writes what a clearance is shown of it: questions 1 to 11 of any bytes, of
+// any length and content, whatever the work slice holds.
+pub fn run_plain(session: &[u8], clearance: usize, work: &mut [u32], result: &mut [u8]) -> Answer
+    ensures { λ r. ⌜ Answers (record { session = now (session .entry); clearance = clearance; work = now (work .entry); buffer = now (result .entry) }) (plainly (record { session = now (session .entry); clearance = clearance; work = now (work .entry); buffer = now (result .entry) })) (r .number) (r .place) (r .count) (now (work .exit)) (now (result .exit)) ⌝ }
+{
+    let number = entry_refusal(session, clearance, work.len(), result.len());
+    if number != 0 {
+        return refused(number, 0);
+    }
+    let mut masks = [0u16; 8];
+    let levels = contents::level_table(session, &mut masks);
+    run_lowest(session, &masks[..levels], clearance, work, result)
+}
+
+// Runs a session plainly for a reader cleared to the level of its root's object.
+pub fn run_for_root(session: &[u8], work: &mut [u32], result: &mut [u8]) -> Answer
+    ensures { λ r. ⌜ Answers (record { session = now (session .entry); clearance = levelOf (now (session .entry)) (rootObject (now (session .entry))); work = now (work .entry); buffer = now (result .entry) }) (plainly (record { session = now (session .entry); clearance = levelOf (now (session .entry)) (rootObject (now (session .entry))); work = now (work .entry); buffer = now (result .entry) })) (r .number) (r .place) (r .count) (now (work .exit)) (now (result .exit)) ⌝ }
+{
+    let number = session::number_of(session::check(session));
+    if number != 0 {
+        return refused(number, 0);
+    }
+    let mut masks = [0u16; 8];
+    let levels = contents::level_table(session, &mut masks);
+    let message = contents::root(session);
+    let level = contents::level_of(session, &masks[..levels], message.object as usize);
+    run_plain(session, level, work, result)
+}

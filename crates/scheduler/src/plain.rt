@@ -1,0 +1,91 @@
+// The plain run: each scheduler step by the lowest-numbered level that may step.
+use crate::steps;
+use crate::tallies;
+use crate::tallies::Permit;
+use crate::timetable;
+ghost use mathlib.Core.Path.{_≡_};
+ghost use Rattle.scheduler.specs.Permits.{isGiven};
+ghost use Rattle.scheduler.specs.Steps.{Read};
+ghost use Rattle.scheduler.specs.Runs.{startOf, Rests, LevelReady, LevelDone, Done, SameRest};
+
+// Makes the steps of a level that may step until all its managers have ended. Meanwhile no level with a
+// lower number may step: a fork goes to one that strictly dominates this one.
+fn run_level(
+    session: &[u8],
+    masks: &[u16],
+    index: &[u16],
+    current: &mut [u32],
+    ended: &mut [u32],
+    tallies: &mut [usize],
+    queue: &mut [u32],
+    work: &mut [u32],
+    level: usize,
+)
+    requires { ⌜ Read (now session) (now masks) (now index) ⌝ }
+    requires { ⌜ LevelReady (now session) (record { current = now current; ended = now ended; tallies = now tallies; queue = now queue; work = now work }) level ⌝ }
+    ensures { λ _. ⌜ LevelDone (now (session .entry)) (record { current = now (current .entry); ended = now (ended .entry); tallies = now (tallies .entry); queue = now (queue .entry); work = now (work .entry) }) (record { current = now (current .exit); ended = now (ended .exit); tallies = now (tallies .exit); queue = now (queue .exit); work = now (work .exit) }) level ⌝ }
+{
+    let mut m = timetable::no_manager();
+    while tallies::has_manager(tallies, level) {
+        m = steps::step(
+            session,
+            masks,
+            index,
+            current,
+            ended,
+            tallies,
+            queue,
+            work,
+            level,
+            m,
+        );
+    }
+}
+
+// Whether a step is permitted.
+fn is_given(permit: Permit) -> bool
+    ensures { λ r. ⌜ r ≡ isGiven permit ⌝ }
+{
+    match permit {
+        Permit::Given => true,
+        Permit::Absent => false,
+        Permit::Idle => false,
+        Permit::Blocked => false,
+    }
+}
+
+// Makes scheduler steps from the session as read in until all managers have ended.
+pub fn run(
+    session: &[u8],
+    masks: &[u16],
+    index: &[u16],
+    current: &mut [u32],
+    ended: &mut [u32],
+    tallies: &mut [usize],
+    queue: &mut [u32],
+    work: &mut [u32],
+)
+    requires { ⌜ Read (now session) (now masks) (now index) ⌝ }
+    requires { ⌜ Rests (now session) (record { current = now current; ended = now ended; tallies = now tallies; queue = now queue; work = now work }) (startOf (now session)) ⌝ }
+    ensures { λ _. ⌜ Done (now (session .entry)) (record { current = now (current .exit); ended = now (ended .exit); tallies = now (tallies .exit); queue = now (queue .exit); work = now (work .exit) }) × SameRest (now (work .entry)) (now (work .exit)) ⌝ }
+{
+    let mut level = 0;
+    while level < masks.len() {
+        if is_given(tallies::ask(masks, tallies, level)) {
+            run_level(
+                session,
+                masks,
+                index,
+                current,
+                ended,
+                tallies,
+                queue,
+                work,
+                level,
+            );
+            level = 0;
+        } else {
+            level += 1;
+        }
+    }
+}

@@ -1,0 +1,113 @@
+// A run by a timetable: one scheduler step for each of its bytes.
+use crate::Outcome;
+use crate::steps;
+use crate::tallies;
+use crate::tallies::Permit;
+use managers::Ending;
+use managers::Frame;
+use managers::Manager;
+use session::Value;
+ghost use mathlib.Core.Path.{_≡_};
+ghost use mathlib.Core.Bool.{false};
+ghost use Rattle.managers.specs.Manager.{isRunning};
+ghost use Rattle.scheduler.specs.Permits.{numberOfPermit};
+ghost use Rattle.scheduler.specs.Steps.{Read};
+ghost use Rattle.scheduler.specs.Runs.{startOf, Rests, RefusedAt, Ends, SameRest};
+
+// Document 01's number of what questions 12 to 14 say.
+fn number_of(permit: Permit) -> u32
+    ensures { λ r. ⌜ r ≡ numberOfPermit permit ⌝ }
+{
+    match permit {
+        Permit::Given => 0,
+        Permit::Absent => 12,
+        Permit::Idle => 13,
+        Permit::Blocked => 14,
+    }
+}
+
+// The end of a run at the step at a place, which was not permitted.
+fn refused_at(permit: Permit, place: u32) -> Outcome
+    ensures { λ r. ⌜ RefusedAt permit place r ⌝ }
+{
+    Outcome::Refused {
+        number: number_of(permit),
+        place,
+    }
+}
+
+// What stands for the manager of a level where none has run yet.
+pub fn no_manager() -> Manager
+    ensures { λ r. ⌜ isRunning (r .ending) ≡ false ⌝ }
+{
+    let frame = Frame {
+        object: 0,
+        name: 0,
+        next: 0,
+        into: 0,
+        returns: false,
+        r0: Value::Nil,
+        r1: Value::Nil,
+        r2: Value::Nil,
+        r3: Value::Nil,
+    };
+    Manager {
+        level: 0,
+        first: 0,
+        stamp: 0,
+        steps: 0,
+        writes: 0,
+        forks: 0,
+        ending: Ending::Finished,
+        reply: Value::Nil,
+        height: 0,
+        frames: [frame; 8],
+    }
+}
+
+// Makes the scheduler steps of a timetable, from the session as read in. The first that is not permitted
+// ends the run; so does a timetable at whose end a manager has not ended.
+pub fn run(
+    session: &[u8],
+    timetable: &[u8],
+    masks: &[u16],
+    index: &[u16],
+    current: &mut [u32],
+    ended: &mut [u32],
+    tallies: &mut [usize],
+    queue: &mut [u32],
+    work: &mut [u32],
+) -> Outcome
+    requires { ⌜ Read (now session) (now masks) (now index) ⌝ }
+    requires { ⌜ Rests (now session) (record { current = now current; ended = now ended; tallies = now tallies; queue = now queue; work = now work }) (startOf (now session)) ⌝ }
+    ensures { λ r. ⌜ Ends (now (session .entry)) (now (timetable .entry)) (record { current = now (current .exit); ended = now (ended .exit); tallies = now (tallies .exit); queue = now (queue .exit); work = now (work .exit) }) r × SameRest (now (work .entry)) (now (work .exit)) ⌝ }
+{
+    let mut managers = [no_manager(); 8];
+    for i in 0..timetable.len() {
+        let level = timetable[i] as usize;
+        let permit = tallies::ask(masks, tallies, level);
+        let Permit::Given = permit else {
+            return refused_at(permit, i as u32);
+        };
+        let m = managers[level];
+        managers[level] = steps::step(
+            session,
+            masks,
+            index,
+            current,
+            ended,
+            tallies,
+            queue,
+            work,
+            level,
+            m,
+        );
+    }
+    if !tallies::all_ended(masks, tallies) {
+        return Outcome::Refused {
+            number: 15,
+            place: 0,
+        };
+    }
+    Outcome::Finished
+}
