@@ -1,7 +1,7 @@
 -- What the words of a depth-first run say of it, and what its functions require. No meaning rests on these. Assumes nothing.
 use Prim.Native.Nat.{ℕ, _+_, _*_, _-_, _^_, _≤_, _<_}
 use mathlib.Core.Path.{_≡_}
-use mathlib.Core.Bool.{cond}
+use mathlib.Core.Bool.{true, cond}
 use mathlib.Core.List.{List}
 use lib.Dec.{ltb}
 use lib.ListN.{length, getD}
@@ -11,20 +11,21 @@ use Rattle.session.specs.Questions.{verdictOf}
 use Rattle.session.specs.Program.{programOf}
 use Rattle.session.specs.Reading.{indexOf}
 use Rattle.session.specs.declared.Verdict.the-variants.{Accepted}
-use Rattle.managers.specs.Limits.{maxForks}
-use Rattle.managers.specs.Manager.{stepped}
-use Rattle.managers.specs.Valid.{Ready}
+use Rattle.managers.specs.Limits.{maxScriptSteps, maxWrites, maxForks}
+use Rattle.managers.specs.Manager.{isRunning}
+use Rattle.managers.specs.Valid.{Known, Stack}
 use Rattle.managers.specs.declared.Manager.{Manager}
-use Rattle.managers.specs.declared.Ask.{Ask}
-use Rattle.managers.specs.declared.Ask.the-variants as ask
 use Rattle.model.specs.Limits.{maxManagers, stampDigits}
 use Rattle.model.specs.Lists.{inserted}
 use Rattle.model.specs.Fork as model
-use Rattle.model.specs.DepthFirst.{Progress, tallyAt, fieldNow, effected, runFork}
+use Rattle.model.specs.DepthFirst.{Progress, tallyAt, fieldNow, finish, runFork}
 use Rattle.records.specs.Limits.{fieldWords, historyWords}
-use Rattle.records.specs.Fields.{fieldAt, FieldThere}
+use Rattle.records.specs.Fields.{fieldAt}
 use Rattle.records.specs.Histories.{historiesAt, InOrder, historyOf}
 use Rattle.records.specs.declared.Ended.{Ended}
+use Rattle.stacks.specs.Stack.{stackWords, framesOf}
+use Rattle.stacks.specs.Course.{managerOf, settledOf}
+use Rattle.stacks.specs.declared.Course.{Course}
 use Rattle.depth_first.specs.declared.forks.Fork.{Fork}
 
 -- an accepted session, its level table and its method index
@@ -70,16 +71,18 @@ pub record Same (f : Fork) (x : model.Fork) : Type 0 where
   pub depth : x .depth ≡ f .depth
   pub message : x .message ≡ f .message
 
--- a manager that runs, and its fork, with so many levels left above
-pub record Steps (s masks index : List ℕ) (left : ℕ) (f : Fork) (m : Manager) : Type 0 where
-  pub ready : Ready s masks index m
-  pub level : m .level ≡ f .level
+-- a manager that runs, with its frames in words, and its fork, with so many levels left above
+pub record Goes (s : List ℕ) (left : ℕ) (f : Fork) (c : Course) (k : List ℕ) : Type 0 where
+  pub running : isRunning (c .ending) ≡ true
+  pub level : c .level ≡ f .level
   pub fork : Runnable s (left + 1) f
-
--- the words of a field that a step asks are there
-abbrev pub Asks : List ℕ → Ask → Type 0
-Asks current ask.Nothing = Unit
-Asks current (ask.Field object k) = FieldThere current object k
+  pub stack : Stack (Known s) (c .height) (framesOf k)
+  pub live : 0 < c .height
+  pub room : stackWords ≤ length k
+  pub made : c .steps ≤ maxScriptSteps
+  pub wrote : c .writes ≤ maxWrites
+  pub forked : c .forks ≤ maxForks
+  pub fits : c .first + maxForks + 1 < 2 ^ 16
 
 -- a run's words: its fields, its histories, its counts
 pub record Words : Type 0 where
@@ -90,15 +93,25 @@ pub record Words : Type 0 where
 abbrev pub Says : List ℕ → Progress → Words → Type 0
 Says s g w = Kept s g (w .current) (w .ended) (w .tallies)
 
--- what a script step of manager m does to the words, with so many levels left above, and the manager that it hands back: what the
--- definition's step does
-abbrev pub StepDone : List ℕ → ℕ → Fork → Manager → Words → Words → Manager → Type 0
-StepDone s left f m w w' r =
+-- from the words w and the manager m the run of the fork ends as from w' and m'
+abbrev pub SameEnd : List ℕ → ℕ → Fork → Words → Words → Manager → Manager → Type 0
+SameEnd s left f w w' m m' =
     (g : Progress) (x : model.Fork)
     → Says s g w
     → Same f x
-    → (r ≡ stepped (programOf s) (fieldNow (programOf s) g) m .manager)
-    × Says s (effected (runFork left (programOf s)) (f .level) x m (stepped (programOf s) (fieldNow (programOf s) g) m .effect) g) w'
+    → (g' : Progress) × (Says s g' w'
+    × ((finish (runFork left (programOf s)) (maxScriptSteps - m .steps) (programOf s) (f .level) x m g ≡ finish (runFork left (programOf s)) (maxScriptSteps - m' .steps) (programOf s) (f .level) x m' g')
+    × (tallyAt g' (f .level) ≡ tallyAt g (f .level))))
+
+-- what a manager that goes on does to its frames and to the words, and what it is then
+pub record Gone (s : List ℕ) (left : ℕ) (f : Fork) (c : Course) (k k' : List ℕ) (w w' : Words) (r : Course) : Type 0 where
+  pub ends : SameEnd s left f w w' (settledOf (programOf s) (managerOf c (framesOf k))) (settledOf (programOf s) (managerOf r (framesOf k')))
+  pub still : isRunning (r .ending) ≡ true → Goes s left f r k'
+  pub first : r .first ≡ c .first
+  pub level : r .level ≡ c .level
+  pub forked : r .forks ≤ maxForks
+  pub more : isRunning (r .ending) ≡ true → c .steps < r .steps
+  pub long : length k' ≡ length k
 
 -- what a fork that is made does to the words
 abbrev pub ForkDone : List ℕ → ℕ → Fork → Words → Words → Type 0

@@ -4,21 +4,18 @@
 // What a run keeps is lent: `current` holds the fields and `ended` the histories, as in `records`; of
 // level l number l of `tallies` is how many of its managers have ended, and number 8 + l the write stamp
 // of its next one.
-use managers::Ask;
-use managers::Effect;
-use managers::Manager;
+use managers::Ending;
 use records::Ended;
 use records::fields;
 use records::histories;
 use session::Message;
-use session::Value;
+use stacks::Course;
+use stacks::Event;
+use stacks::frames;
 ghost use Prim.Native.Nat.{_<_};
-ghost use mathlib.Core.Path.{_≡_};
 ghost use lib.ListN.{getD};
-ghost use Rattle.managers.specs.Asked.{Sees};
 ghost use Rattle.model.specs.Limits.{maxManagers};
-ghost use Rattle.records.specs.Fields.{fieldAt};
-ghost use Rattle.depth_first.specs.Kept.{Read, Keeps, Runnable, Steps, Asks, StepDone, ForkDone, RunDone};
+ghost use Rattle.depth_first.specs.Kept.{Read, Keeps, Runnable, Goes, Gone, ForkDone, RunDone};
 
 // A fork that is about to run, or runs: its level, its fork stamp, how many forks deep it is, and its
 // message.
@@ -29,59 +26,103 @@ pub struct Fork {
     pub message: Message,
 }
 
-// What a script step sees of the field that it asks.
-fn seen_by(current: &[u32], ask: Ask) -> Value
-    requires { ⌜ Asks (now current) ask ⌝ }
-    ensures { λ r. ⌜ Sees (fieldAt (now (current .entry))) ask r ⌝ }
-{
-    match ask {
-        Ask::Nothing => Value::Nil,
-        Ask::Field { object, field } => fields::get(current, object as usize, field as usize),
-    }
-}
-
-// One script step of a manager, with the whole run of the fork that it may make.
-fn script_step(
+// Makes the script steps of a manager up to the next one that concerns others, and does what that one
+// does, with the whole run of the fork that it may make.
+fn go_on(
     session: &[u8],
     masks: &[u16],
     index: &[u16],
     current: &mut [u32],
     ended: &mut [u32],
     tallies: &mut [usize],
+    stack: &mut [u32],
     left: usize,
     fork: Fork,
-    m: Manager,
-) -> Manager
+    m: Course,
+) -> Course
     requires { ⌜ Read (now session) (now masks) (now index) ⌝ }
     requires { ⌜ Keeps (now session) (now current) (now ended) (now tallies) ⌝ }
-    requires { ⌜ Steps (now session) (now masks) (now index) left fork m ⌝ }
-    ensures { λ r. ⌜ StepDone (now (session .entry)) left fork m (record { current = now (current .entry); ended = now (ended .entry); tallies = now (tallies .entry) }) (record { current = now (current .exit); ended = now (ended .exit); tallies = now (tallies .exit) }) r ⌝ }
+    requires { ⌜ Goes (now session) left fork m (now stack) ⌝ }
+    ensures { λ r. ⌜ Gone (now (session .entry)) left fork m (now (stack .entry)) (now (stack .exit)) (record { current = now (current .entry); ended = now (ended .entry); tallies = now (tallies .entry) }) (record { current = now (current .exit); ended = now (ended .exit); tallies = now (tallies .exit) }) r ⌝ }
 {
-    let at = m.height as usize - 1;
-    let f = m.frames[at];
-    let ask = f.asks(session, index);
-    let seen = seen_by(current, ask);
-    let s = m.step(session, masks, index, seen);
-    let effect = s.effect;
-    match effect {
-        Effect::Nothing => s.manager,
-        Effect::Write {
+    let pause = stacks::advance(
+        session,
+        masks,
+        index,
+        current,
+        stack,
+        m.level,
+        m.height,
+        m.steps,
+        true,
+    );
+    let n = Course {
+        height: pause.height,
+        steps: pause.steps,
+        ..m
+    };
+    let event = pause.event;
+    match event {
+        Event::Finished(reply) => Course {
+            height: 0,
+            ending: Ending::Finished,
+            reply,
+            ..n
+        },
+        Event::OutOfSteps => Course {
+            ending: Ending::OutOfSteps,
+            ..n
+        },
+        Event::Write {
             object,
             field,
             value,
         } => {
+            if n.writes >= 16 {
+                return Course {
+                    ending: Ending::OutOfWrites,
+                    ..n
+                };
+            }
             fields::set(current, object as usize, field as usize, value);
-            s.manager
+            Course {
+                writes: n.writes + 1,
+                ..n
+            }
         }
-        Effect::Fork { level, message } => {
+        Event::Read {
+            object,
+            field,
+            into,
+        } => {
+            let seen = fields::get(current, object as usize, field as usize);
+            frames::set_register(stack, n.height as usize - 1, into, seen);
+            n
+        }
+        Event::Fork {
+            level,
+            object,
+            name,
+            parameter,
+        } => {
+            if n.forks >= 15 {
+                return n;
+            }
             let child = Fork {
                 level,
-                stamp: queues::child_stamp(fork.stamp, fork.depth, m.forks),
+                stamp: queues::child_stamp(fork.stamp, fork.depth, n.forks),
                 depth: fork.depth + 1,
-                message,
+                message: Message {
+                    object,
+                    name,
+                    parameter,
+                },
             };
             run_kept(session, masks, index, current, ended, tallies, left, child);
-            s.manager
+            Course {
+                forks: n.forks + 1,
+                ..n
+            }
         }
     }
 }
@@ -126,29 +167,31 @@ pub fn run_manager(
     let level = fork.level as usize;
     let message = fork.message;
     let next = tallies[8 + level] as u16;
-    let mut m = Manager::start(session, index, fork.level, next, message);
+    let mut stack = [0u32; 128];
+    let mut m = Course::start(&mut stack, fork.level, next, message);
     if left == 0 {
-        return histories::ended_of(m, fork.stamp);
+        return m.ended(fork.stamp);
     }
     let mut ending = m.ending;
     while managers::is_running(ending) {
-        m = script_step(
+        m = go_on(
             session,
             masks,
             index,
             current,
             ended,
             tallies,
+            &mut stack,
             left - 1,
             fork,
             m,
         );
         ending = m.ending;
     }
-    let history = histories::ended_of(m, fork.stamp);
+    let history = m.ended(fork.stamp);
     let count = tallies[level];
     histories::add(ended, level, count, history);
     tallies[level] = count + 1;
-    tallies[8 + level] = m.stamp as usize + 1;
+    tallies[8 + level] = history.last as usize + 1;
     history
 }

@@ -27,9 +27,9 @@ frameFor object name into returns parameter =
 abbrev pub noFrame : Frame
 noFrame = frameFor 0 0 0 false Nil
 
--- what a register holds
+-- what a register holds. Question 7 lets no step name one above 3
 abbrev pub register : Frame → ℕ → Value
-register f k = getD (f .r0 ∷ f .r1 ∷ f .r2 ∷ f .r3 ∷ []) k Nil
+register f k = getD (f .r0 ∷ f .r1 ∷ f .r2 ∷ []) k (f .r3)
 
 -- the frame with its registers replaced
 abbrev registers : Frame → Value → Value → Value → Value → Frame

@@ -40,8 +40,7 @@ impl Frame {
             0 => self.r0,
             1 => self.r1,
             2 => self.r2,
-            3 => self.r3,
-            _ => Value::Nil,
+            _ => self.r3,
         }
     }
 

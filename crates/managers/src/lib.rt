@@ -2,7 +2,7 @@
 mod frames;
 mod operations;
 mod stack;
-mod values;
+pub mod values;
 
 use operations::Outcome;
 use operations::Standing;

@@ -15,5 +15,9 @@ pub mod Entry
 pub mod Asked
 pub mod Listed
 pub mod Level
+pub mod Lagging
+pub mod Events
+pub mod Going
+pub mod Next
 pub mod Plain
 pub mod Answers

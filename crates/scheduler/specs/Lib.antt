@@ -3,3 +3,4 @@ pub mod Kept
 pub mod Permits
 pub mod Steps
 pub mod Runs
+pub mod Running

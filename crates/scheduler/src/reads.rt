@@ -28,7 +28,7 @@ fn bound_of(ended: &[u32], tallies: &[usize], queue: &[u32], level: usize, j: us
 
 // What the manager that runs at a level reads of a field: at its level the newest version, which is the
 // current field; below the newest one up to its bound there.
-fn field_of(
+pub fn field_of(
     session: &[u8],
     masks: &[u16],
     current: &[u32],

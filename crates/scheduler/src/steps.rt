@@ -16,7 +16,7 @@ ghost use Rattle.scheduler.specs.Kept.{busyPlace};
 ghost use Rattle.scheduler.specs.Steps.{Read, WriteReady, Wrote, ForkReady, Forked, EffectReady, EffectDone, SettleReady, Settled, StartReady, Started, MayStep, StepDone};
 
 // A write takes effect.
-fn write(
+pub fn write(
     current: &mut [u32],
     tallies: &mut [usize],
     work: &mut [u32],
@@ -37,7 +37,7 @@ fn write(
 
 // The manager that runs at a level, with this write stamp and so many forks made, forks a message at
 // level `above`.
-fn fork(
+pub fn fork(
     tallies: &mut [usize],
     queue: &mut [u32],
     level: usize,

@@ -37,7 +37,7 @@ fn refused_at(permit: Permit, place: u32) -> Outcome
 }
 
 // What stands for the manager of a level where none has run yet.
-pub fn no_manager() -> Manager
+fn no_manager() -> Manager
     ensures { λ r. ⌜ isRunning (r .ending) ≡ false ⌝ }
 {
     let frame = Frame {

@@ -3,4 +3,5 @@ pub mod Packing
 pub mod Outside
 pub mod Log
 pub mod Scan
+pub mod Order
 pub mod Cleared

@@ -1,15 +1,17 @@
 // The versions of fields that the managers of each level wrote, in the lent work slice.
 //
-// Each level has a log of its own. A write adds a version to its end, so a read that looks for the
-// newest one goes through it backward.
+// Each level has a log of its own. A write adds a version to its end, and write stamps never fall. So a
+// read finds by halving which versions are not above its bound, and goes through those backward.
 use session::Value;
 ghost use mathlib.Core.Path.{_≡_};
 ghost use Prim.Native.Nat.{_+_, _≤_, _<_};
 ghost use lib.ListN.{length};
+ghost use Rattle.session.specs.Limits.{maxLevels};
 ghost use Rattle.model.specs.Limits.{workNumbers};
 ghost use Rattle.model.specs.Level.{newestTo};
 ghost use Rattle.model.specs.Entries.{cleared};
-ghost use Rattle.versions.specs.Log.{logStart, keyOf, versionAt, logOf, Within};
+ghost use Rattle.versions.specs.Log.{maxVersions, logStart, keyOf, versionAt, logOf, Within};
+ghost use Rattle.versions.specs.Order.{StampsRise, PartitionPoint};
 ghost use Rattle.versions.specs.Changes.{Appended};
 
 // How many numbers a level's log has: two for each version that fits.
@@ -70,12 +72,37 @@ fn value_at(work: &[u32], at: usize) -> Value
     }
 }
 
-// The newest version of a field not above a write stamp, in the log of a level, which has `count`
-// versions; or the initial value.
+// How many versions, the oldest ones, of the log of a level, which has `count` versions, are not above a
+// write stamp.
 //
-// A version's first number lies at most 2 * bound + 1 above the field's key exactly where it is one
-// of the field and not above the bound. Below the key the difference wraps and is too large. So each
-// version passed costs one comparison.
+// Below its field and object, a version's first number holds the write stamp and the tag: at most
+// 2 * bound + 1 exactly where the version is not above the bound.
+fn count_to(work: &[u32], level: usize, count: usize, bound: u16) -> usize
+    requires { ⌜ (level < maxLevels) × (count ≤ maxVersions) × (workNumbers ≤ length (now work)) ⌝ }
+    requires { ⌜ StampsRise (now work) (logStart level) count ⌝ }
+    ensures { λ r. ⌜ PartitionPoint (now (work .entry)) (logStart level) count bound r ⌝ }
+{
+    let start = LOG_NUMBERS * level;
+    let span = 2 * bound as u32 + 1;
+    let mut low = 0;
+    let mut high = count;
+    while low < high {
+        let middle = (low + high) / 2;
+        if work[start + 2 * middle] % FIELD <= span {
+            low = middle + 1;
+        } else {
+            high = middle;
+        }
+    }
+    low
+}
+
+// The newest version of a field not above a write stamp, in the log of a level, which has `count`
+// versions in order of write stamp; or the initial value.
+//
+// A version's first number lies less than FIELD above the field's key exactly where it is one of the
+// field. Below the key the difference wraps and is too large. So each version passed costs one
+// comparison.
 pub fn newest_to(
     work: &[u32],
     level: usize,
@@ -86,16 +113,16 @@ pub fn newest_to(
     initial: Value,
 ) -> Value
     requires { ⌜ Within (now work) level count field ⌝ }
+    requires { ⌜ StampsRise (now work) (logStart level) count ⌝ }
     ensures { λ r. ⌜ r ≡ newestTo bound initial object field (logOf (now (work .entry)) (logStart level) count) ⌝ }
 {
     let start = LOG_NUMBERS * level;
     let key = key_of(object, field);
-    let span = 2 * bound as u32 + 1;
-    let mut n = count;
+    let mut n = count_to(work, level, count, bound);
     while 0 < n {
         n -= 1;
         let packed = work[start + 2 * n];
-        if std::num::wrapping_sub_u32(packed, key) <= span {
+        if std::num::wrapping_sub_u32(packed, key) < FIELD {
             return value_at(work, start + 2 * n);
         }
     }

@@ -1,7 +1,7 @@
--- The run of a manager, as a loop over its script steps: what holds at its start, after each step, and at its end. Assumes nothing.
+-- The run of a manager, as a loop over its pauses: what holds at its start, after each pause, and at its end. Assumes nothing.
 use Prim.Native.Nat.{ℕ, suc, _+_, _-_, _^_, _≤_, _<_}
-use mathlib.Core.Path.{_≡_, refl, sym, _∙_, ap}
-use mathlib.Core.Bool.{true, false}
+use mathlib.Core.Path.{_≡_, refl, sym, _∙_, ap, subst}
+use mathlib.Core.Bool.{true, false, cond}
 use mathlib.Core.List.{List, []}
 use native.Mathlib.Omega.{arith}
 use borrow.Author.Tests.{lt-ltb, le-ltb}
@@ -11,25 +11,27 @@ use Rattle.session.specs.Parts.{levelCount}
 use Rattle.session.specs.Questions.{verdictOf}
 use Rattle.session.specs.Program.{Program, programOf}
 use Rattle.session.specs.declared.Verdict.the-variants.{Accepted}
+use Rattle.session.proofs.Laws.Lists.{holds, fails, truth}
 use Rattle.session.proofs.Laws.Numbering.{few-levels}
 use Rattle.session.proofs.Laws.Verdict.{accepted}
 use Rattle.managers.specs.Limits.{maxScriptSteps, maxForks}
-use Rattle.managers.specs.Manager.{isRunning, started, stepped}
-use Rattle.managers.specs.Valid.{Valid, Startable}
+use Rattle.managers.specs.Frame.{frameFor}
+use Rattle.managers.specs.Manager.{isRunning, started}
+use Rattle.managers.specs.Valid.{Known}
 use Rattle.managers.specs.declared.Manager.{Manager}
-use Rattle.managers.specs.declared.Effect.{Effect}
-use Rattle.managers.specs.declared.Effect.the-variants as effect
-use Rattle.managers.proofs.Laws.Counts.{Counts, counts, grown, oneMore, started-counts, stepped-counts}
-use Rattle.managers.proofs.Laws.Valid.{started-valid, stepped-valid}
+use Rattle.managers.proofs.Laws.Counts.{started-counts}
+use Rattle.managers.proofs.Laws.Stack.{first-stack}
 use Rattle.model.specs.Limits.{maxManagers}
 use Rattle.model.specs.Lists.{inserted}
 use Rattle.model.specs.Fork as model
-use Rattle.model.specs.DepthFirst.{Progress, tallyAt, fieldNow, close, effected, finish, runFork}
-use Rattle.model.proofs.Laws.Order.Accepted.{sound}
-use Rattle.model.proofs.Laws.Code.DepthFirst.{finish-step, finish-over, effected-own, runFork-leaves}
+use Rattle.model.specs.DepthFirst.{Progress, tallyAt, close, finish, runFork}
+use Rattle.model.proofs.Laws.Code.DepthFirst.{finish-over}
 use Rattle.records.specs.Histories.{historyOf, HistoryRoom, Added, HistoryIs}
 use Rattle.records.specs.declared.Ended.{Ended}
-use Rattle.depth_first.specs.Kept.{Read, Keeps, Runnable, Same, Steps, Words, Says, StepDone, ForkDone, RunDone}
+use Rattle.stacks.specs.Stack.{stackWords, framesOf}
+use Rattle.stacks.specs.Course.{managerOf, settledOf, begun}
+use Rattle.stacks.specs.declared.Course.{Course}
+use Rattle.depth_first.specs.Kept.{Read, Keeps, Runnable, Same, Goes, Words, Says, Gone, ForkDone, RunDone}
 use Rattle.depth_first.specs.declared.forks.Fork.{Fork}
 use Rattle.depth_first.proofs.Laws.Kept.{tallied, ended-own, kept-close}
 
@@ -76,16 +78,22 @@ pub run-none : (s : List ℕ) (left : ℕ) (f : Fork) (w : Words) (h : Ended) �
 unfolding runFork
 run-none s left f w h e g x q k = rw e (q, λ z. absurd (omega (arith, z)))
 
--- the manager that starts
-pub startable : (s : List ℕ) (left : ℕ) (f : Fork) → Runnable s left f → (c e t : List ℕ) → Keeps s c e t → Startable s (f .level) (getD t (maxLevels + f .level) 0) (f .message)
-startable s left f r c e t q =
-    let k = q .1 .counted (f .level) (r .placed) in
-    record {
-      placed = r .placed;
-      present = r .present;
-      named = r .named;
-      fits = omega (arith, k .next, k .pace, k .few);
-    }
+-- the write stamps of a manager that starts fit 16 bits
+next-fits : (s : List ℕ) (l : ℕ) (c e t : List ℕ) → l < levelCount s → Keeps s c e t → getD t (maxLevels + l) 0 + maxForks + 1 < 2 ^ 16
+next-fits s l c e t h q =
+    let k = q .1 .counted l h in
+    omega (arith, k .next, k .pace, k .few)
+
+-- those of a manager that has just been made
+pub begun-fits : (s : List ℕ) (f : Fork) (k c e t : List ℕ) (m : Course) → f .level < levelCount s → Keeps s c e t → managerOf m (framesOf k) ≡ begun (f .level) (getD t (maxLevels + f .level) 0) (f .message) → m .first + m .forks < 2 ^ 16
+begun-fits s f k c e t m h q is =
+    let first : m .first ≡ getD t (maxLevels + f .level) 0 = ap (λ m. m .first) is in
+    let forks : m .forks ≡ 0 = ap (λ m. m .forks) is in
+    omega (arith, first, forks, next-fits s (f .level) c e t h q)
+
+-- the manager with its frames, as the definitions have it
+abbrev pub managed : List ℕ → Course → List ℕ → Manager
+managed s c k = settledOf (programOf s) (managerOf c (framesOf k))
 
 -- what is left of the run: from the words w, with the manager m, it ends as the whole run does
 pub record Ahead (s : List ℕ) (left : ℕ) (f : Fork) (m : Manager) (w : Words) (g₀ : Progress) (x : model.Fork) : Type 0 where
@@ -95,101 +103,101 @@ pub record Ahead (s : List ℕ) (left : ℕ) (f : Fork) (m : Manager) (w : Words
   pub own : tallyAt now (f .level) ≡ tallyAt g₀ (f .level)
 
 -- what holds each time round, with so many levels left above
-pub record Looped (s : List ℕ) (left : ℕ) (f : Fork) (next : ℕ) (w₀ w : Words) (m : Manager) : Type 0 where
-  pub valid : Valid s m
-  pub level : m .level ≡ f .level
-  pub first : m .first ≡ next
-  pub ahead : (g₀ : Progress) (x : model.Fork) → Says s g₀ w₀ → Same f x → Ahead s left f m w g₀ x
+pub record Looped (s : List ℕ) (left : ℕ) (f : Fork) (next : ℕ) (w₀ w : Words) (c : Course) (k : List ℕ) : Type 0 where
+  pub still : isRunning (c .ending) ≡ true → Goes s left f c k
+  pub first : c .first ≡ next
+  pub forked : c .forks ≤ maxForks
+  pub ahead : (g₀ : Progress) (x : model.Fork) → Says s g₀ w₀ → Same f x → Ahead s left f (managed s c k) w g₀ x
 
--- what one script step changes of the counts
-kept-level : (c : Counts) (e : Effect) → oneMore (grown c e) .level ≡ c .level
-kept-level c effect.Nothing = refl
-kept-level c (effect.Write o k v) = refl
-kept-level c (effect.Fork u message) = refl
+-- each pause but the last makes this less
+abbrev pub pausesLeft : Course → ℕ
+pausesLeft c = cond (isRunning (c .ending)) (maxScriptSteps + 1 - c .steps) 0
 
-kept-first : (c : Counts) (e : Effect) → oneMore (grown c e) .first ≡ c .first
-kept-first c effect.Nothing = refl
-kept-first c (effect.Write o k v) = refl
-kept-first c (effect.Fork u message) = refl
-
-more-steps : (c : Counts) (e : Effect) → oneMore (grown c e) .steps ≡ c .steps + 1
-more-steps c effect.Nothing = refl
-more-steps c (effect.Write o k v) = refl
-more-steps c (effect.Fork u message) = refl
-
-module _ (s : List ℕ) (a : verdictOf s ≡ Accepted) (left : ℕ) (f : Fork) (r : Runnable s (suc left) f) where
+module _ (s : List ℕ) (left : ℕ) (f : Fork) (r : Runnable s (suc left) f) where
   abbrev p : Program
   p = programOf s
-
-  placed : f .level < programOf s .levels
-  placed = unfold programOf in r .placed
 
   starts : (g : Progress) (w : Words) (x : model.Fork) → Says s g w → Same f x → finish (runFork left p) (maxScriptSteps - 0) p (f .level) x (started p (f .level) (getD (w .tallies) (maxLevels + f .level) 0) (f .message)) g ≡ runFork (suc left) p (f .level) x g
   unfolding runFork
   starts g w x q e =
       rw (q .counted (f .level) (r .placed) .next, sym (e .message)) refl
 
-  pub looped-start : (g : Progress) (w : Words) (m : Manager) → Says s g w → m ≡ started p (f .level) (getD (w .tallies) (maxLevels + f .level) 0) (f .message) → Looped s left f (getD (w .tallies) (maxLevels + f .level) 0) w w m
-  looped-start g w m q e =
+  begun-settled : (next : ℕ) → settledOf p (begun (f .level) next (f .message)) ≡ started p (f .level) next (f .message)
+  unfolding started
+  begun-settled next = refl
+
+  pub looped-start : (w : Words) (c : Course) (k : List ℕ) → Keeps s (w .current) (w .ended) (w .tallies) → stackWords ≤ length k → managerOf c (framesOf k) ≡ begun (f .level) (getD (w .tallies) (maxLevels + f .level) 0) (f .message) → Looped s left f (getD (w .tallies) (maxLevels + f .level) 0) w w c k
+  looped-start w c k q room e =
       let next = getD (w .tallies) (maxLevels + f .level) 0 in
-      let c = started-counts p (f .level) next (f .message) in
-      rw e (record {
-        valid = started-valid s a (f .level) next (f .message) (startable s (suc left) f r (w .current) (w .ended) (w .tallies) (g, q));
-        level = ap (λ c. c .level) c;
-        first = ap (λ c. c .first) c;
-        ahead = λ g₀ x h k. record {
-          now = g₀;
+      let first : c .first ≡ next = ap (λ m. m .first) e in
+      let steps : c .steps ≡ 0 = ap (λ m. m .steps) e in
+      let writes : c .writes ≡ 0 = ap (λ m. m .writes) e in
+      let forks : c .forks ≡ 0 = ap (λ m. m .forks) e in
+      let height : c .height ≡ 1 = ap (λ m. m .height) e in
+      let frame = frameFor (f .message .object) (f .message .name) 0 true (f .message .parameter) in
+      let levels : left + 1 ≡ suc left = omega arith in
+      let known : Known s frame = record { present = r .present; named = r .named; near = omega arith } in
+      record {
+        still = λ run. record {
+          running = run;
+          level = ap (λ m. m .level) e;
+          fork = rw levels r;
+          stack = rw (height, ap (λ m. m .frames) e) (first-stack (Known s) frame known);
+          live = omega (arith, height);
+          room = room;
+          made = omega (arith, steps);
+          wrote = omega (arith, writes);
+          forked = omega (arith, forks);
+          fits = rw first (next-fits s (f .level) (w .current) (w .ended) (w .tallies) (r .placed) q);
+        };
+        first = first;
+        forked = omega (arith, forks);
+        ahead = λ g x h same. record {
+          now = g;
           says = h;
-          ends = ap (λ n. finish (runFork left p) (maxScriptSteps - n) p (f .level) x (started p (f .level) next (f .message)) g₀) (ap (λ c. c .steps) c) ∙ starts g₀ w x h k;
+          ends = ap (λ m. finish (runFork left p) (maxScriptSteps - m .steps) p (f .level) x m g) (ap (settledOf p) e ∙ begun-settled next)
+              ∙ ap (λ n. finish (runFork left p) (maxScriptSteps - n) p (f .level) x (started p (f .level) next (f .message)) g) (ap (λ c. c .steps) (started-counts p (f .level) next (f .message)))
+              ∙ starts g w x h same;
           own = refl;
         };
-      })
+      }
 
-  -- one script step more
-  pub looped-step : (next : ℕ) (w₀ w w' : Words) (m m' : Manager) (g₀ : Progress) → Says s g₀ w₀ → Looped s left f next w₀ w m → isRunning (m .ending) ≡ true → StepDone s left f m w w' m' → Looped s left f next w₀ w' m'
-  looped-step next w₀ w w' m m' g₀ q l run d =
-      let b = l .ahead g₀ (bare f) q (bare-same f) in
-      let read = fieldNow p (b .now) in
-      let made : m' ≡ stepped p read m .manager = d (b .now) (bare f) (b .says) (bare-same f) .0 in
-      let c = stepped-counts p read m in
-      rw made (record {
-        valid = stepped-valid s a read m (l .valid) run;
-        level = ap (λ c. c .level) c ∙ kept-level (counts m) (stepped p read m .effect) ∙ l .level;
-        first = ap (λ c. c .first) c ∙ kept-first (counts m) (stepped p read m .effect) ∙ l .first;
-        ahead = λ g x h k. further g x h k (stepped p read m .manager) (sym made);
-      })
-    where
-      further : (g : Progress) (x : model.Fork) → Says s g w₀ → Same f x → (n : Manager) → n ≡ m' → Ahead s left f n w' g x
-      further g x h k n e =
-          let b = l .ahead g x h k in
-          let read = fieldNow p (b .now) in
-          let t = d (b .now) x (b .says) k in
-          let made : n ≡ stepped p read m .manager = e ∙ t .0 in
-          let after = effected (runFork left p) (f .level) x m (stepped p read m .effect) (b .now) in
-          let steps : stepped p read m .manager .steps ≡ m .steps + 1 = ap (λ c. c .steps) (stepped-counts p read m) ∙ more-steps (counts m) (stepped p read m .effect) in
-          let less : maxScriptSteps - m .steps ≡ suc (maxScriptSteps - stepped p read m .manager .steps) = omega (arith, steps, l .valid .few run) in
-          rw made (record {
-            now = after;
-            says = t .1;
-            ends = sym (finish-step (runFork left p) (maxScriptSteps - stepped p read m .manager .steps) p (f .level) x m (b .now) run)
-                ∙ ap (λ n. finish (runFork left p) n p (f .level) x m (b .now)) (sym less)
-                ∙ b .ends;
-            own = effected-own p (sound s a) (runFork left p) (runFork-leaves p (sound s a) left) (f .level) placed x m (b .now) (l .level) ∙ b .own;
-          })
+  -- one pause more
+  pub looped-again : (next : ℕ) (w₀ w w' : Words) (c c' : Course) (k k' : List ℕ) → Looped s left f next w₀ w c k → Gone s left f c k k' w w' c' → Looped s left f next w₀ w' c' k'
+  looped-again next w₀ w w' c c' k k' l d =
+      record {
+        still = d .still;
+        first = d .first ∙ l .first;
+        forked = d .forked;
+        ahead = λ g x h same.
+            let b = l .ahead g x h same in
+            let t = d .ends (b .now) x (b .says) same in
+            record {
+              now = t .0;
+              says = t .1 .0;
+              ends = sym (t .1 .1 .0) ∙ b .ends;
+              own = t .1 .1 .1 ∙ b .own;
+            };
+      }
 
   -- the end: the history is added, and the counts grow
-  pub looped-end : (next : ℕ) (w₀ w : Words) (e' : List ℕ) (m : Manager) (h : Ended) → next ≡ getD (w₀ .tallies) (maxLevels + f .level) 0 → getD (w₀ .tallies) (f .level) 0 < maxManagers → Looped s left f next w₀ w m → isRunning (m .ending) ≡ false → HistoryIs (f .stamp) m h → Added (w .ended) e' (f .level) (getD (w .tallies) (f .level) 0) h → RunDone s (suc left) f w₀ (record { current = w .current; ended = e'; tallies = tallied (f .level) (getD (w .tallies) (f .level) 0 + 1) (m .stamp + 1) (w .tallies) }) h
-  looped-end next w₀ w e' m h nx room l over hi ad g x q k =
-      let b = l .ahead g x q k in
-      let run : runFork (suc left) p (f .level) x g ≡ close (f .level) x m (b .now) = sym (b .ends) ∙ finish-over (runFork left p) (maxScriptSteps - m .steps) p (f .level) x m (b .now) over in
-      let is = hi x (k .stamp) in
+  pub looped-end : levelCount s ≤ maxLevels → (next : ℕ) (w₀ w : Words) (e' : List ℕ) (c : Course) (k : List ℕ) (h : Ended) → next ≡ getD (w₀ .tallies) (maxLevels + f .level) 0 → getD (w₀ .tallies) (f .level) 0 < maxManagers → Looped s left f next w₀ w c k → isRunning (c .ending) ≡ false → HistoryIs (f .stamp) (managerOf c (framesOf k)) h → Added (w .ended) e' (f .level) (getD (w .tallies) (f .level) 0) h → RunDone s (suc left) f w₀ (record { current = w .current; ended = e'; tallies = tallied (f .level) (getD (w .tallies) (f .level) 0 + 1) (c .first + c .forks + 1) (w .tallies) }) h
+  looped-end few next w₀ w e' c k h nx room l over hi ad g x q same =
+      let m = managerOf c (framesOf k) in
+      let b = l .ahead g x q same in
+      let settled : managed s c k ≡ m = rw over refl in
+      let run : runFork (suc left) p (f .level) x g ≡ close (f .level) x m (b .now) =
+      sym (b .ends)
+      ∙ ap (λ m. finish (runFork left p) (maxScriptSteps - m .steps) p (f .level) x m (b .now)) settled
+      ∙ finish-over (runFork left p) (maxScriptSteps - m .steps) p (f .level) x m (b .now) over in
+      let is = hi x (same .stamp) in
       let count = q .counted (f .level) (r .placed) .count in
       let more : length (tallyAt (b .now) (f .level) .ended) < maxManagers = rw (ap (λ t. t .ended) (b .own)) (omega (arith, count, room)) in
-      let pace : m .stamp ≤ tallyAt (b .now) (f .level) .next + maxForks =
-      rw (ap (λ t. t .next) (b .own)) (omega (arith, l .valid .stamped, l .valid .forked, l .first, nx, q .counted (f .level) (r .placed) .next)) in
+      let pace : c .first + c .forks ≤ tallyAt (b .now) (f .level) .next + maxForks =
+      rw (ap (λ t. t .next) (b .own)) (omega (arith, l .forked, l .first, nx, q .counted (f .level) (r .placed) .next)) in
       rw run (
-        kept-close s (b .now) (w .current) (w .ended) e' (w .tallies) (b .says) (few s a) (f .level) (r .placed) x m h is more ad pace,
-        λ _. ended-own s (b .now) (w .current) (w .ended) e' (w .tallies) (b .says) (few s a) (f .level) (r .placed) x m h is more ad pace
+        kept-close s (b .now) (w .current) (w .ended) e' (w .tallies) (b .says) few (f .level) (r .placed) x m h is more ad pace,
+        λ _. ended-own s (b .now) (w .current) (w .ended) e' (w .tallies) (b .says) few (f .level) (r .placed) x m h is more ad pace
             ∙ ap (λ t. inserted (λ h. h .stamp) (historyOf h) (t .ended)) (b .own),
       )
 
@@ -201,44 +209,25 @@ module _ (s masks index : List ℕ) (a : Read s masks index) (left : ℕ) (f : F
   runs : Runnable s (suc (left - 1)) f
   runs = rw (sym own-level) r
 
-  again : Runnable s (left - 1 + 1) f
-  again =
-      let e : left - 1 + 1 ≡ left = omega (arith, some) in
-      rw e r
+  pub run-starts : (w : Words) (c : Course) (k : List ℕ) → Keeps s (w .current) (w .ended) (w .tallies) → stackWords ≤ length k → managerOf c (framesOf k) ≡ begun (f .level) (getD (w .tallies) (maxLevels + f .level) 0) (f .message) → Looped s (left - 1) f (getD (w .tallies) (maxLevels + f .level) 0) w w c k
+  run-starts w c k q room e = looped-start s (left - 1) f runs w c k q room e
 
-  pub run-starts : (w : Words) (m : Manager) → Keeps s (w .current) (w .ended) (w .tallies) → m ≡ started (programOf s) (f .level) (getD (w .tallies) (maxLevels + f .level) 0) (f .message) → Looped s (left - 1) f (getD (w .tallies) (maxLevels + f .level) 0) w w m
-  run-starts w m q e = looped-start s (a .accepted) (left - 1) f runs (q .0) w m (q .1) e
-
-  module _ (next : ℕ) (w₀ w : Words) (m : Manager) (q : Keeps s (w₀ .current) (w₀ .ended) (w₀ .tallies)) (l : Looped s (left - 1) f next w₀ w m) where
+  module _ (next : ℕ) (w₀ w : Words) (c : Course) (k : List ℕ) (q : Keeps s (w₀ .current) (w₀ .ended) (w₀ .tallies)) (l : Looped s (left - 1) f next w₀ w c k) where
     -- the words of the manager on its way, and its counts, which are those at its start
-    here : Ahead s (left - 1) f m w (q .0) (bare f)
+    here : Ahead s (left - 1) f (managed s c k) w (q .0) (bare f)
     here = l .ahead (q .0) (bare f) (q .1) (bare-same f)
 
     pub run-keeps : Keeps s (w .current) (w .ended) (w .tallies)
     run-keeps = (here .now, here .says)
 
-    pub run-steps : isRunning (m .ending) ≡ true → Steps s masks index (left - 1) f m
-    run-steps run =
-        record {
-          ready = record {
-            indexed = record { accepted = a .accepted; index-is = a .index-is };
-            leveled = record { accepted = a .accepted; masks-are = a .masks-are };
-            valid = l .valid;
-            running = run;
-          };
-          level = l .level;
-          fork = again;
-        }
+    pub run-again : (w' : Words) (c' : Course) (k' : List ℕ) → Gone s (left - 1) f c k k' w w' c' → Looped s (left - 1) f next w₀ w' c' k'
+    run-again w' c' k' d = looped-again s (left - 1) f runs next w₀ w w' c c' k k' l d
 
-    pub run-again : (w' : Words) (m' : Manager) → isRunning (m .ending) ≡ true → StepDone s (left - 1) f m w w' m' → Looped s (left - 1) f next w₀ w' m'
-    run-again w' m' run d = looped-step s (a .accepted) (left - 1) f runs next w₀ w w' m m' (q .0) (q .1) l run d
-
-    pub run-less : (w' : Words) (m' : Manager) → isRunning (m .ending) ≡ true → StepDone s (left - 1) f m w w' m' → maxScriptSteps - m' .steps < maxScriptSteps - m .steps
-    run-less w' m' run d =
-        let read = fieldNow (programOf s) (here .now) in
-        let made : m' ≡ stepped (programOf s) read m .manager = d (here .now) (bare f) (here .says) (bare-same f) .0 in
-        let steps : m' .steps ≡ m .steps + 1 = ap (λ m. m .steps) made ∙ ap (λ c. c .steps) (stepped-counts (programOf s) read m) ∙ more-steps (counts m) (stepped (programOf s) read m .effect) in
-        omega (arith, steps, l .valid .few run)
+    pub run-less : (w' : Words) (c' : Course) (k' : List ℕ) → isRunning (c .ending) ≡ true → Gone s (left - 1) f c k k' w w' c' → pausesLeft c' < pausesLeft c
+    run-less w' c' k' run d = elim (truth (isRunning (c' .ending))) [
+      | holds e ↦ rw (run, e) (omega (arith, d .more e, d .still e .made))
+      | fails e ↦ rw (run, e) (omega (arith, l .still run .made))
+    ]
 
     same-count : getD (w .tallies) (f .level) 0 ≡ getD (w₀ .tallies) (f .level) 0
     same-count =
@@ -249,21 +238,30 @@ module _ (s masks index : List ℕ) (a : Read s masks index) (left : ℕ) (f : F
     pub run-more : getD (w₀ .tallies) (f .level) 0 < maxManagers → getD (w .tallies) (f .level) 0 < maxManagers
     run-more h = rw same-count h
 
-    pub run-stamp : m .stamp + 1 < 2 ^ 16
-    run-stamp = omega (arith, l .valid .stamped, l .valid .forked, l .valid .fits)
+    pub run-stamp : next ≡ getD (w₀ .tallies) (maxLevels + f .level) 0 → c .first + c .forks + 1 < 2 ^ 16
+    run-stamp e =
+        omega (arith, e, l .first, l .forked, next-fits s (f .level) (w₀ .current) (w₀ .ended) (w₀ .tallies) (r .placed) q)
 
-    pub run-room : (h : Ended) → getD (w₀ .tallies) (f .level) 0 < maxManagers → isRunning (m .ending) ≡ false → HistoryIs (f .stamp) m h → HistoryRoom (w .ended) (f .level) (getD (w .tallies) (f .level) 0) h
+    -- what its history says of its last write stamp
+    last-is : (h : Ended) → HistoryIs (f .stamp) (managerOf c (framesOf k)) h → h .last ≡ c .first + c .forks
+    last-is h is = ap (λ h. h .last) (is (bare f) refl)
+
+    pub run-last : (h : Ended) → next ≡ getD (w₀ .tallies) (maxLevels + f .level) 0 → HistoryIs (f .stamp) (managerOf c (framesOf k)) h → h .last + 1 < 2 ^ 16
+    run-last h e is = rw (last-is h is) (run-stamp e)
+
+    pub run-room : (h : Ended) → getD (w₀ .tallies) (f .level) 0 < maxManagers → isRunning (c .ending) ≡ false → HistoryIs (f .stamp) (managerOf c (framesOf k)) h → HistoryRoom (w .ended) (f .level) (getD (w .tallies) (f .level) 0) h
     run-room h more over is =
-        let k = here .says .counted (f .level) (r .placed) in
+        let t = here .says .counted (f .level) (r .placed) in
         record {
           room = here .says .histories-there;
           level = level-small s masks index (f .level) a (r .placed);
           more = run-more more;
-          rises = rw (k .count, k .histories) (k .rises);
+          rises = rw (t .count, t .histories) (t .rises);
           ended = ap (λ h. isRunning (h .ending)) (is (bare f) refl) ∙ over;
         }
 
-    pub run-ends : (e' : List ℕ) (h : Ended) → next ≡ getD (w₀ .tallies) (maxLevels + f .level) 0 → getD (w₀ .tallies) (f .level) 0 < maxManagers → isRunning (m .ending) ≡ false → HistoryIs (f .stamp) m h → Added (w .ended) e' (f .level) (getD (w .tallies) (f .level) 0) h → RunDone s left f w₀ (record { current = w .current; ended = e'; tallies = tallied (f .level) (getD (w .tallies) (f .level) 0 + 1) (m .stamp + 1) (w .tallies) }) h
+    pub run-ends : (e' : List ℕ) (h : Ended) → next ≡ getD (w₀ .tallies) (maxLevels + f .level) 0 → getD (w₀ .tallies) (f .level) 0 < maxManagers → isRunning (c .ending) ≡ false → HistoryIs (f .stamp) (managerOf c (framesOf k)) h → Added (w .ended) e' (f .level) (getD (w .tallies) (f .level) 0) h → RunDone s left f w₀ (record { current = w .current; ended = e'; tallies = tallied (f .level) (getD (w .tallies) (f .level) 0 + 1) (h .last + 1) (w .tallies) }) h
     run-ends e' h nx room over is ad =
-        let done : RunDone s (suc (left - 1)) f w₀ (record { current = w .current; ended = e'; tallies = tallied (f .level) (getD (w .tallies) (f .level) 0 + 1) (m .stamp + 1) (w .tallies) }) h = looped-end s (a .accepted) (left - 1) f runs next w₀ w e' m h nx room l over is ad in
-        rw own-level done
+        let done : RunDone s (suc (left - 1)) f w₀ (record { current = w .current; ended = e'; tallies = tallied (f .level) (getD (w .tallies) (f .level) 0 + 1) (c .first + c .forks + 1) (w .tallies) }) h =
+        looped-end s (left - 1) f runs (few s (a .accepted)) next w₀ w e' c k h nx room l over is ad in
+        subst (λ n. RunDone s left f w₀ (record { current = w .current; ended = e'; tallies = tallied (f .level) (getD (w .tallies) (f .level) 0 + 1) (n + 1) (w .tallies) }) h) (sym (last-is h is)) (rw own-level done)

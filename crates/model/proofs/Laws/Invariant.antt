@@ -12,3 +12,4 @@ pub mod Tame
 pub mod WriteStamps
 pub mod Became
 pub mod Stamped
+pub mod Versions

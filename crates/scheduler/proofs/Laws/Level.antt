@@ -18,7 +18,7 @@ use Rattle.managers.specs.declared.Manager.{Manager}
 use Rattle.model.specs.Limits.{maxManagers}
 use Rattle.model.specs.Level.{Activity, idle, busy, Level, hasManager}
 use Rattle.model.specs.Step.{State, levelAt, stepAt}
-use Rattle.model.specs.Schedule.{question14, stepRefusal, Leads}
+use Rattle.model.specs.Schedule.{stepRefusal}
 use Rattle.model.proofs.Laws.Order.Accepted.{sound}
 use Rattle.model.proofs.Laws.Invariant.Measure.{left, cost}
 use Rattle.model.proofs.Laws.Invariant.Tame.{move-falls}
@@ -29,6 +29,7 @@ use Rattle.scheduler.specs.Kept.{Words, busyPlace, tallyNumbers, Runs, L
 use Rattle.scheduler.specs.Permits.{managed}
 use Rattle.scheduler.specs.Steps.{startedOf, Stepping, MayStep, StepDone}
 use Rattle.scheduler.specs.Runs.{Rests, SameRest, LevelReady, LevelRun, LevelDone}
+use Rattle.scheduler.specs.Running.{Draining}
 use Rattle.scheduler.proofs.Laws.Told.{started-is, told-idle}
 use Rattle.scheduler.proofs.Laws.Settle.{placed-own, placed-other}
 use Rattle.scheduler.proofs.Laws.Step.{says-live}
@@ -50,15 +51,6 @@ cost-is n w l m v t =
 
 told-placed : (n : ℕ) (w : Words) (l : ℕ) (m m' : Manager) (v : Level) → m' ≡ m → LevelTold n w l m' v → LevelTold n w l m v
 told-placed n w l m m' v e t = rw (sym e) t
-
--- the level is being run, from state from: m is the only manager that may run
-pub record Draining (s : List ℕ) (from : State) (w : Words) (l : ℕ) (m : Manager) : Type 0 where
-  pub state : State
-  pub list : List ℕ
-  pub leads : Leads (programOf s) from list state
-  pub says : (ms : ℕ → Manager) → Says s w (placed l m ms) state
-  pub others : (k : ℕ) → k < levelCount s → (k ≡ l → ⊥) → levelAt state k .activity ≡ idle
-  pub clear : question14 (programOf s) state l ≡ true
 
 module _ (s : List ℕ) (a : verdictOf s ≡ Accepted) (l : ℕ) (h : l < levelCount s) where
   pub drain-start : (from : State) (w : Words) (m : Manager) → Rests s w from → stepRefusal (programOf s) from l ≡ 0 → Draining s from w l m
@@ -104,16 +96,24 @@ module _ (s : List ℕ) (a : verdictOf s ≡ Accepted) (l : ℕ) (h : l < levelC
         | no q ↦ placed-other l r ms k q ∙ sym (placed-other l r (placed l m ms) k q ∙ placed-other l m ms k q)
       ]
 
-      pub drain-step : (w' : Words) (r : Manager) → StepDone s l m w w' r → Draining s from w' l r
-      drain-step w' r d =
+      -- a step of the level, whose words say the state after it
+      pub drain-on : (w' : Words) (r : Manager) → ((ms : ℕ → Manager) → Says s w' (placed l r (placed l m ms)) (stepAt (programOf s) l st)) → Draining s from w' l r
+      drain-on w' r says =
           record {
             state = stepAt (programOf s) l st;
             list = g .list ++ (l ∷ []);
             leads = leads-more (programOf s) from (g .list) st l (g .leads) drain-allowed;
-            says = λ ms. says-held s w' (placed l r (placed l m ms)) (placed l r ms) (stepAt (programOf s) l st) (twice r ms) (d .says (placed l m ms) st (drain-stepping ms));
+            says = λ ms. says-held s w' (placed l r (placed l m ms)) (placed l r ms) (stepAt (programOf s) l st) (twice r ms) (says ms);
             others = λ k hk z. activity-stays (programOf s) (sound s a) st (live .reachable .steady .orderly) l k (present s l h) z ∙ g .others k hk z;
             clear = clear-stays (programOf s) (sound s a) st (live .reachable .steady .orderly) l l (present s l h) (g .clear) drain-allowed;
           }
+
+      pub drain-on-state : (w' : Words) (r : Manager) (says : (ms : ℕ → Manager) → Says s w' (placed l r (placed l m ms)) (stepAt (programOf s) l st)) → drain-on w' r says .state ≡ stepAt (programOf s) l st
+      unfolding drain-on
+      drain-on-state w' r says = refl
+
+      pub drain-step : (w' : Words) (r : Manager) → StepDone s l m w w' r → Draining s from w' l r
+      drain-step w' r d = drain-on w' r (λ ms. d .says (placed l m ms) st (drain-stepping ms))
 
       -- and fewer steps are left
       pub drain-less : (w' : Words) (r : Manager) → StepDone s l m w w' r → costIn (w' .tallies) l r < costIn (w .tallies) l m

@@ -23,10 +23,12 @@ use Rattle.model.specs.Level.{Version, newestTo}
 use Rattle.model.specs.Step.{State, levelAt, readBound}
 use Rattle.model.proofs.Laws.Safe.Reads.{read-own, read-below}
 use Rattle.model.proofs.Laws.Code.Live.{Live}
-use Rattle.model.proofs.Laws.Code.Needs.{live-ends, live-versions}
+use Rattle.model.proofs.Laws.Code.Needs.{live-ends, live-versions, live-falling}
 use Rattle.records.specs.Fields.{fieldAt, FieldThere}
 use Rattle.records.specs.Histories.{historiesAt}
 use Rattle.versions.specs.Log.{logStart, logOf, Within}
+use Rattle.versions.specs.Order.{StampsRise}
+use Rattle.versions.proofs.Laws.Order.{stamps-rise}
 use Rattle.scheduler.specs.Kept.{Words, versionsPlace, LevelTold}
 use Rattle.scheduler.specs.Steps.{Busy, IsBusy, runningFork, BoundReady, boundIn, ReadIs}
 use Rattle.scheduler.proofs.Laws.Ready.{told-fork, busy-settles}
@@ -87,6 +89,10 @@ module _ {s masks : List ℕ} (a : Leveled s masks) {w : Words} {l : ℕ} {ms : 
         long = b .says .told .roomy .work;
       }
 
+  versions-rise : StampsRise (w .work) (logStart j) (getD (w .tallies) (versionsPlace j) 0)
+  versions-rise =
+      stamps-rise (w .work) (logStart j) (getD (w .tallies) (versionsPlace j) 0) (rw versions-are (live-falling s (a .accepted) st live j h))
+
 -- a read of field k of object o, which lies at level j
 module _ {s masks : List ℕ} (a : Leveled s masks) {w : Words} {l : ℕ} (q : IsBusy s w l) {o k : ℕ} (here : (o < objectCount s) × (k < fields)) {j : ℕ} (lies : j ≡ levelOf s o) where
   placed : j < levelCount s
@@ -104,8 +110,9 @@ module _ {s masks : List ℕ} (a : Leveled s masks) {w : Words} {l : ℕ} (q : I
   pub bound-ready : BoundReady (w .ended) (w .tallies) (w .queue) l j
   bound-ready = bound-there a (q .1 .1 .1 .1) placed
 
-  pub versions-ready : Within (w .work) j (getD (w .tallies) (versionsPlace j) 0) k
-  versions-ready = versions-there a (q .1 .1 .1 .1) placed k (here .1)
+  -- and the versions are in order of write stamp
+  pub versions-ready : Within (w .work) j (getD (w .tallies) (versionsPlace j) 0) k × StampsRise (w .work) (logStart j) (getD (w .tallies) (versionsPlace j) 0)
+  versions-ready = (versions-there a (q .1 .1 .1 .1) placed k (here .1), versions-rise a (q .1 .1 .1 .1) placed)
 
   -- at the manager's level it is the current field
   pub read-current : {r : Value} → j ≡ l → r ≡ fieldAt (w .current) o k → ReadIs s w l o k r

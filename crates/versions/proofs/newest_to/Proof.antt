@@ -1,21 +1,23 @@
--- `versions::newest_to` meets its contract. The invariant: the versions not yet passed answer as all of them do. Assumes nothing.
+-- `versions::newest_to` meets its contract. The invariant: the newest of the versions not yet passed is the newest up to
+-- the bound of all. Assumes nothing.
 use Prim.Native.Nat.{suc, _+_, _-_, _*_, _≤_}
-use mathlib.Core.Path.{_≡_, refl, sym, _∙_, ap}
+use mathlib.Core.Path.{_≡_, sym, _∙_, ap}
 use native.Mathlib.Omega.{arith}
 use borrow.Author.Needs.{needs}
 use lib.ListN.{getD}
-use Rattle.model.specs.Level.{newestTo}
+use Rattle.model.specs.Level.{newest, newestTo}
 use Rattle.versions.specs.Log.{logStart, logOf}
-use Rattle.versions.proofs.Laws.Scan.{Distance, near-serves, far-fails, scan-none, scan-found, scan-past}
+use Rattle.versions.proofs.Laws.Scan.{Distance, near-is, far-is-not, scan-none, scan-found, scan-past}
+use Rattle.versions.proofs.Laws.Order.{newest-before}
 use Rattle.versions.proofs.newest_to.Statement.{statement}
 use Rattle.versions.proofs.newest_to.Tie as tie
 
 abbrev Inv-loop : tie.InvT-loop
-Inv-loop work level count bound object field initial start key span n₀ n =
-    (n ≤ count) × (newestTo bound initial object field (logOf work (logStart level) n) ≡ newestTo bound initial object field (logOf work (logStart level) count))
+Inv-loop work level count bound object field initial start key n₀ n =
+    (n ≤ count) × (newest initial object field (logOf work (logStart level) n) ≡ newestTo bound initial object field (logOf work (logStart level) count))
 
 abbrev μ-loop : tie.MeasureT-loop
-μ-loop work level count bound object field initial start key span n₀ n = n
+μ-loop work level count bound object field initial start key n₀ n = n
 
 mul-start : tie.Need-mul-start Inv-loop μ-loop
 mul-start c = omega arith
@@ -23,14 +25,16 @@ mul-start c = omega arith
 key-of-requires : tie.Need-key-of-requires Inv-loop μ-loop
 key-of-requires c κs = search needs
 
-mul-span : tie.Need-mul-span Inv-loop μ-loop
-mul-span c = omega arith
-
-add-span : tie.Need-add-span Inv-loop μ-loop
-add-span c = omega arith
+count-to-requires : tie.Need-count-to-requires Inv-loop μ-loop
+count-to-requires c κs =
+    let s = c .before .before in
+    ((s .pre .0 .level-present, s .pre .0 .fits, s .pre .0 .long), s .pre .1)
 
 loop-holds : tie.Need-loop-holds Inv-loop μ-loop
-loop-holds c = (omega arith, refl)
+loop-holds c =
+    let a = c .before .before .before .args in
+    let p = c .count-to .ensures in
+    (p .within, newest-before (a .work .now) (logStart (a .level)) (a .bound) (a .initial) (a .object) (a .field) (a .count) _ p)
 
 sub-n : tie.Need-sub-n Inv-loop μ-loop
 sub-n c = omega arith
@@ -62,35 +66,35 @@ value-at-requires c κs = omega arith
 -- how far the number read lies above the key
 distance-there : (u : tie.After-wrapping-sub-u32 Inv-loop μ-loop)
     → Distance
-    (getD (u .before .before .before .before .before .before .args .work .now)
-    (1024 * u .before .before .before .before .before .before .args .level + 2 * (u .before .before .before .loop .n - 1))
+    (getD (u .before .before .before .before .before .before .before .args .work .now)
+    (1024 * u .before .before .before .before .before .before .before .args .level + 2 * (u .before .before .before .loop .n - 1))
     0)
-    (u .before .before .before .before .before .before .args .object)
-    (u .before .before .before .before .before .before .args .field)
+    (u .before .before .before .before .before .before .before .args .object)
+    (u .before .before .before .before .before .before .before .args .field)
     (u .wrapping-sub-u32 .result)
 distance-there u =
-    let s = u .before .before .before .before .before .before in
+    let s = u .before .before .before .before .before .before .before in
     record {
       object-fits = omega arith;
       field-fits = omega arith;
       packed-fits = omega (arith, u .before .shared-slice-known2 .given (1024 * s .args .level + 2 * (u .before .before .before .loop .n - 1)));
       fits = omega arith;
-      distance = rw (u .before .before .before .before .key-of .ensures) at (u .wrapping-sub-u32 .ensures);
+      distance = rw (u .before .before .before .before .before .key-of .ensures) at (u .wrapping-sub-u32 .ensures);
     }
 
 returns : tie.Need-returns Inv-loop μ-loop
 returns c =
     let u = c .before .before in
-    let s = u .before .before .before .before .before .before in
+    let s = u .before .before .before .before .before .before .before in
     let a = s .args in
     let at = u .before .before .before .loop in
     let n = at .n - 1 in
     let last : at .n ≡ suc n = omega arith in
     let far = distance-there u in
     c .value-at .ensures
-    ∙ sym (scan-found (a .work .now) (logStart (a .level)) n (a .bound) (a .initial) (a .object) (a .field)
-    (near-serves _ _ (a .object) (a .field) _ (a .bound) far (omega arith) (c .before .if1 .taken)))
-    ∙ ap (λ m. newestTo (a .bound) (a .initial) (a .object) (a .field) (logOf (a .work .now) (logStart (a .level)) m)) (sym last)
+    ∙ sym (scan-found (a .work .now) (logStart (a .level)) n (a .initial) (a .object) (a .field)
+    (near-is _ _ (a .object) (a .field) _ far (c .before .if1 .taken)))
+    ∙ ap (λ m. newest (a .initial) (a .object) (a .field) (logOf (a .work .now) (logStart (a .level)) m)) (sym last)
     ∙ at .inv .1
 
 loop-less : tie.Need-loop-less Inv-loop μ-loop
@@ -99,27 +103,27 @@ loop-less c = omega arith
 loop-again : tie.Need-loop-again Inv-loop μ-loop
 loop-again c =
     let u = c .before in
-    let s = u .before .before .before .before .before .before in
+    let s = u .before .before .before .before .before .before .before in
     let a = s .args in
     let at = u .before .before .before .loop in
     let n = at .n - 1 in
     let last : at .n ≡ suc n = omega arith in
     let far = distance-there u in (
       omega arith,
-      sym (scan-past (a .work .now) (logStart (a .level)) n (a .bound) (a .initial) (a .object) (a .field)
-          (far-fails _ _ (a .object) (a .field) _ (a .bound) far (omega arith) (c .if1 .left)))
-          ∙ ap (λ m. newestTo (a .bound) (a .initial) (a .object) (a .field) (logOf (a .work .now) (logStart (a .level)) m)) (sym last)
+      sym (scan-past (a .work .now) (logStart (a .level)) n (a .initial) (a .object) (a .field)
+          (far-is-not _ _ (a .object) (a .field) _ far (c .if1 .left)))
+          ∙ ap (λ m. newest (a .initial) (a .object) (a .field) (logOf (a .work .now) (logStart (a .level)) m)) (sym last)
           ∙ at .inv .1,
     )
 
 returns-2 : tie.Need-returns-2 Inv-loop μ-loop
 returns-2 c =
-    let s = c .before .before .before .before in
+    let s = c .before .before .before .before .before in
     let a = s .args in
     let at = c .before .loop in
     let none : 0 ≡ at .n = omega arith in
-    sym (scan-none (a .work .now) (logStart (a .level)) 0 (a .bound) (a .initial) (a .object) (a .field))
-    ∙ ap (λ m. newestTo (a .bound) (a .initial) (a .object) (a .field) (logOf (a .work .now) (logStart (a .level)) m)) none
+    sym (scan-none (a .work .now) (logStart (a .level)) 0 (a .initial) (a .object) (a .field))
+    ∙ ap (λ m. newest (a .initial) (a .object) (a .field) (logOf (a .work .now) (logStart (a .level)) m)) none
     ∙ at .inv .1
 
 pub newest-to-spec : {M : Type 1} → statement M
@@ -130,8 +134,7 @@ newest-to-spec =
     μ-loop
     mul-start
     key-of-requires
-    mul-span
-    add-span
+    count-to-requires
     loop-holds
     sub-n
     mul-packed

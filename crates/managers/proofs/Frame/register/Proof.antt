@@ -3,15 +3,14 @@ use Prim.Native.Nat.{ℕ, _≤_}
 use mathlib.Core.Path.{_≡_, sym}
 use mathlib.Core.List.{[], _∷_}
 use lib.ListN.{List·getD-eq-default}
-use Rattle.session.specs.declared.Value.the-variants.{Nil}
 use borrow.Author.Needs.{needs}
 use native.Mathlib.Omega.{arith}
 use Rattle.managers.proofs.Frame.register.Statement.{statement}
 use Rattle.managers.proofs.Frame.register.Tie as tie
 
--- what is none of 0 to 3 is at least 4
-four : (k : ℕ) → ((((Unit {0} × (k ≡ 0 → ⊥)) × (k ≡ 1 → ⊥)) × (k ≡ 2 → ⊥)) × (k ≡ 3 → ⊥)) → 4 ≤ k
-four k h = omega (arith, h .0 .0 .0 .1, h .0 .0 .1, h .0 .1, h .1)
+-- what is none of 0 to 2 is at least 3
+three : (k : ℕ) → (((Unit {0} × (k ≡ 0 → ⊥)) × (k ≡ 1 → ⊥)) × (k ≡ 2 → ⊥)) → 3 ≤ k
+three k h = omega (arith, h .0 .0 .1, h .0 .1, h .1)
 
 returns : tie.Need-returns
 returns c = search needs
@@ -23,12 +22,9 @@ returns-3 : tie.Need-returns-3
 returns-3 c = search needs
 
 returns-4 : tie.Need-returns-4
-returns-4 c = search needs
-
-returns-5 : tie.Need-returns-5
-returns-5 c =
-    let k = c .before .args .k in
-    sym (List·getD-eq-default (c .before .args .self .r0 ∷ c .before .args .self .r1 ∷ c .before .args .self .r2 ∷ c .before .args .self .r3 ∷ []) Nil (four k (c .match .rest)))
+returns-4 c =
+    let f = c .before .args .self in
+    sym (List·getD-eq-default (f .r0 ∷ f .r1 ∷ f .r2 ∷ []) (f .r3) (three (c .before .args .k) (c .match .rest)))
 
 pub register-spec : {M : Type 1} → statement M
-register-spec = tie.close (tie.spec returns returns-2 returns-3 returns-4 returns-5)
+register-spec = tie.close (tie.spec returns returns-2 returns-3 returns-4)

@@ -34,6 +34,7 @@ use Rattle.model.proofs.Laws.Invariant.Orderly.{entriesIn}
 use Rattle.model.proofs.Laws.Invariant.Keeps.{first-of, other-level}
 use Rattle.model.proofs.Laws.Invariant.Measure.{Tame}
 use Rattle.model.proofs.Laws.Invariant.WriteStamps.{stampBy, writeStamp}
+use Rattle.model.proofs.Laws.Invariant.Versions.{Falling}
 use Rattle.model.proofs.Laws.Safe.Reads.{last-below}
 use Rattle.model.proofs.Laws.Order.Accepted.{sound}
 use Rattle.model.proofs.Laws.Code.Bounds.{Fits32, PacedBy, Paced}
@@ -72,6 +73,10 @@ module _ (s : List ℕ) (a : verdictOf s ≡ Accepted) (st : State) (i : Live s 
   pub live-versions : length (levelAt st l .versions) ≤ 512
   live-versions =
       versions-low (levelAt st l .activity) (levelAt st l .next) (length (levelAt st l .ended)) (length (levelAt st l .versions)) (omega (arith, live-room)) paced
+
+  -- newest first, their write stamps never rise
+  pub live-falling : Falling (levelAt st l .versions)
+  live-falling = i .reachable .dated l (present s l h) .falling
 
   -- the end stamps of its managers fit 16 bits
   pub live-ends : (y : ℕ) → endBefore y (levelAt st l .ended) < 2 ^ 16

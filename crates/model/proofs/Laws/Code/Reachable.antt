@@ -10,10 +10,11 @@ use Rattle.managers.proofs.Laws.Effects.{Sound}
 use Rattle.model.specs.Level.{hasManager}
 use Rattle.model.specs.Step.{State, levelAt, stepAt}
 use Rattle.model.specs.Schedule.{readIn}
-use Rattle.model.proofs.Laws.Each.{Each}
+use Rattle.model.proofs.Laws.Each.{Each, Pairwise}
 use Rattle.model.proofs.Laws.Invariant.Orderly.{entriesIn}
 use Rattle.model.proofs.Laws.Invariant.Entries.{entriesOf}
 use Rattle.model.proofs.Laws.Invariant.Stamped.{Steady, steady-keeps}
+use Rattle.model.proofs.Laws.Invariant.Versions.{Dated, step-dated}
 use Rattle.model.proofs.Laws.Deep.Root.{root-is, other-is, each-level, root-steady}
 use Rattle.model.proofs.Laws.Code.Direct.{Contained, step-contained}
 use Rattle.model.proofs.Laws.Code.Bounds.{Fits32, step-fits, Paced, step-paced}
@@ -23,6 +24,7 @@ pub record Reachable (p : Program) (st : State) : Type 0 where
   pub contained : (l : ℕ) → l < p .levels → Contained p l (levelAt st l)
   pub fits : (l : ℕ) → l < p .levels → Each Fits32 (entriesIn st l)
   pub paced : (l : ℕ) → l < p .levels → Paced (levelAt st l)
+  pub dated : (l : ℕ) → l < p .levels → Dated (levelAt st l)
 
 -- the session as read in
 pub reachable-start : (p : Program) → Sound p → p .levels ≤ 8 → (root : Message) → Reachable p (readIn p root)
@@ -32,6 +34,8 @@ reachable-start p so few root =
       contained = λ l h. contained l;
       fits = λ l h. each-level p so few root (λ v. Each Fits32 (entriesOf l v)) (unfold Each in (omega arith, tt)) (unfold Each in tt) l;
       paced = λ l h. each-level p so few root Paced (omega arith, omega arith) (omega arith, omega arith) l;
+      dated = λ l h.
+          each-level p so few root Dated (record { falling = unfold Pairwise in tt; low = unfold Each in tt }) (record { falling = unfold Pairwise in tt; low = unfold Each in tt }) l;
     }
   where
     contained : (l : ℕ) → Contained p l (levelAt (readIn p root) l)
@@ -49,4 +53,5 @@ reachable-step p so st r l h m =
       contained = step-contained p so st (r .steady .orderly) (r .contained) l h;
       fits = step-fits p so st (r .steady .orderly) (r .fits) l h;
       paced = step-paced p so st (r .steady .orderly) (r .paced) l h;
+      dated = step-dated p so st (r .steady .orderly) (r .dated) l h;
     }

@@ -1,0 +1,217 @@
+-- The manager of a level makes its steps in a row; that it has ended is seen late. Assumes nothing.
+use Prim.Native.Nat.{ℕ, zero, suc, _+_, _-_, _≤_, _<_}
+use mathlib.Core.Path.{_≡_, refl, sym, _∙_, ap, subst}
+use mathlib.Core.Bool.{Bool, true, false, cond}
+use mathlib.Core.List.{List}
+use native.Mathlib.Decide.{ℕ-discrete}
+use native.Mathlib.Omega.{arith}
+use borrow.Author.Tests.{eq-eqb, eqb-true}
+use lib.Dec.{eqb}
+use lib.ListN.{length, getD}
+use Rattle.lattice.proofs.Laws.Range.{not-both}
+use Rattle.session.specs.Limits.{maxLevels, fields}
+use Rattle.session.specs.Parts.{levelCount, objectCount}
+use Rattle.session.specs.Meaning.{levelOf}
+use Rattle.session.specs.Program.{Program, programOf}
+use Rattle.session.specs.Questions.{verdictOf}
+use Rattle.session.specs.declared.Verdict.the-variants.{Accepted}
+use Rattle.session.specs.declared.Value.{Value}
+use Rattle.session.specs.declared.Step.{Step}
+use Rattle.session.specs.declared.Step.the-variants as op
+use Rattle.session.proofs.Laws.Contents.{level-limit, object-limit}
+use Rattle.session.proofs.Laws.Lists.{holds, fails, truth}
+use Rattle.managers.specs.Frame.{atStep}
+use Rattle.managers.specs.Manager.{isRunning, top, nextStep, operated, stepped, counted}
+use Rattle.managers.specs.declared.Frame.{Frame}
+use Rattle.managers.specs.declared.Manager.{Manager}
+use Rattle.managers.specs.declared.Stepped.{Stepped}
+use Rattle.managers.specs.declared.Effect.{Effect}
+use Rattle.managers.specs.declared.Effect.the-variants as effect
+use Rattle.model.specs.Fork.{Fork}
+use Rattle.model.specs.Lists.{modify}
+use Rattle.model.specs.Level.{Activity, busy, newLevel, after}
+use Rattle.model.specs.Step.{State, levelAt, readAt, delivered, stepAt}
+use Rattle.model.proofs.Laws.Lists.{modify-at, modify-other}
+use Rattle.model.proofs.Laws.Order.Accepted.{sound}
+use Rattle.model.proofs.Laws.Code.Live.{Live, present}
+use Rattle.model.proofs.Laws.Code.Direct.{step-advance}
+use Rattle.stacks.specs.Pauses.{Quietly}
+use Rattle.stacks.specs.Moves.{Sees}
+use Rattle.records.specs.Fields.{fieldAt}
+use Rattle.scheduler.specs.Kept.{Words, busyPlace, Runs, LevelTold, Says, placed}
+use Rattle.scheduler.specs.Permits.{managed}
+use Rattle.scheduler.specs.Steps.{Busy, IsBusy, Parts, EffectReady, EffectDone, Settled, SettleReady}
+use Rattle.scheduler.specs.Running.{Draining, Lagging}
+use Rattle.scheduler.proofs.Laws.Made.{partsOf, settled-on}
+use Rattle.scheduler.proofs.Laws.Ready.{told-runs, effect-ready}
+use Rattle.scheduler.proofs.Laws.Settle.{placed-own, placed-other}
+use Rattle.scheduler.proofs.Laws.Step.{says-live, says-advance}
+use Rattle.scheduler.proofs.Laws.Level.{drain-on, drain-on-state, drain-allowed}
+
+-- a step depends on what is read only
+operated-reads : (p : Program) (read read' : ℕ → ℕ → Value) → ((o k : ℕ) → read o k ≡ read' o k) → (m : Manager) (f : Frame) (i : Step) → operated p read m f i ≡ operated p read' m f i
+unfolding operated
+operated-reads p read read' e m f op.End = refl
+operated-reads p read read' e m f (op.Set a n) = refl
+operated-reads p read read' e m f (op.Add a b) = refl
+operated-reads p read read' e m f (op.Jump a b) = refl
+operated-reads p read read' e m f (op.Read a b) = rw (e (f .object) b) refl
+operated-reads p read read' e m f (op.Write a b) = refl
+operated-reads p read read' e m f (op.Send a b c) = refl
+operated-reads p read read' e m f (op.Quit a) = refl
+
+pub stepped-reads : (p : Program) (read read' : ℕ → ℕ → Value) → ((o k : ℕ) → read o k ≡ read' o k) → (m : Manager) → stepped p read m ≡ stepped p read' m
+unfolding stepped
+stepped-reads p read read' e m =
+    ap (λ d. record { manager = counted p (d .manager); effect = d .effect }) (operated-reads p read read' e m (atStep (top m) (top m .next + 1)) (nextStep p (top m)))
+
+-- one of which a manager that runs is made ran
+pub quiet-runs : (p : Program) (read : ℕ → ℕ → Value) (k : ℕ) (m b : Manager) → Quietly p read k m b → isRunning (b .ending) ≡ true → isRunning (m .ending) ≡ true
+unfolding Quietly
+quiet-runs p read zero m b e r = rw e r
+quiet-runs p read (suc k) m b (h, q) r = h
+
+-- while m runs
+module _ (s : List ℕ) (a : verdictOf s ≡ Accepted) (l : ℕ) (h : l < levelCount s) (from : State) where
+  abbrev p : Program
+  p = programOf s
+
+  few : levelCount s ≤ maxLevels
+  few = level-limit s a
+
+  -- m runs in the state that the words say, as the manager of fork x, and reads this
+  pub record Running (w : Words) (m : Manager) (x : Fork) (read : ℕ → ℕ → Value) : Type 0 where
+    pub drain : Draining s from w l m
+    pub runs : levelAt (drain .state) l .activity ≡ busy x m
+    pub reads : (o k : ℕ) → readAt p (drain .state) l x o k ≡ read o k
+
+  module _ (w : Words) (m : Manager) (x : Fork) (read : ℕ → ℕ → Value) (g : Running w m x read) where
+    abbrev st : State
+    st = g .drain .state
+
+    says : (ms : ℕ → Manager) → Says s w (placed l m ms) st
+    says = g .drain .says
+
+    live : Live s st
+    live = says-live s a w (placed l m (λ _. m)) st (says (λ _. m))
+
+    told : LevelTold (levelCount s) w l m (levelAt st l)
+    told = subst (λ y. LevelTold (levelCount s) w l y (levelAt st l)) (placed-own l m (λ _. m)) (says (λ _. m) .told .level l h)
+
+    counted-busy : getD (w .tallies) (busyPlace l) 0 ≡ 1
+    counted-busy = by (levelAt st l .activity) (g .runs) (told .activity)
+      where
+        by : (y : Activity) → y ≡ busy x m → Runs (levelCount s) w l m (length (levelAt st l .ended)) y → getD (w .tallies) (busyPlace l) 0 ≡ 1
+        by y e r = (subst (Runs (levelCount s) w l m (length (levelAt st l .ended))) e r) .0
+
+    has : managed (w .tallies) l ≡ true
+    has = rw counted-busy refl
+
+    pub running-busy : (ms : ℕ → Manager) → Busy s w l (placed l m ms) st x m
+    running-busy ms = record { says = says ms; present = h; runs = g .runs }
+
+    pub running-reads : stepped p (readAt p st l x) m ≡ stepped p read m
+    running-reads = stepped-reads p (readAt p st l x) read (g .reads) m
+
+    pub running-effect : (e : Effect) → stepped p read m .effect ≡ e → EffectReady (w .current) (w .tallies) (w .queue) (w .work) l (m .forks) e
+    running-effect e is =
+        effect-ready s a few (object-limit s a) w (placed l m (λ _. m)) st (says (λ _. m) .told) live l h x m (g .runs) read e is
+
+    -- a step that it makes, whatever it does
+    pub running-step : (n : Stepped) → stepped p read m ≡ n → (q : Parts) → EffectDone (partsOf w) q l (m .stamp) (m .forks) (n .effect) → Lagging s from (record { current = q .current; ended = w .ended; tallies = q .tallies; queue = q .queue; work = q .work }) l (n .manager)
+    running-step n is q d ended' tallies' z =
+        drain-on s a l h from w m (g .drain) has (record { current = q .current; ended = ended'; tallies = tallies'; queue = q .queue; work = q .work }) (n .manager)
+        (λ ms. says-advance s a few w (placed l m ms) st (says ms) l h (drain-allowed s a l h from w m (g .drain) has) x m (g .runs) n (running-reads ∙ is) q ended' tallies' d z)
+
+    pub running-step-state : (n : Stepped) (is : stepped p read m ≡ n) (q : Parts) (d : EffectDone (partsOf w) q l (m .stamp) (m .forks) (n .effect)) (ended' tallies' : List ℕ) (z : Settled (w .ended) ended' (q .tallies) tallies' (q .queue) l (n .manager)) → running-step n is q d ended' tallies' z .state ≡ stepAt p l st
+    unfolding running-step
+    running-step-state n is q d ended' tallies' z = drain-on-state s a l h from w m (g .drain) has _ (n .manager) _
+
+    -- one that concerns nobody else, after which it runs on: nothing else of the state changes
+    module _ (m' : Manager) (is : stepped p read m ≡ record { manager = m'; effect = effect.Nothing }) (run : isRunning (m' .ending) ≡ true) where
+      state-is : stepAt p l st ≡ modify l (λ _. after (levelAt st l) (levelAt st l .waiting) (levelAt st l .versions) x m') st
+      unfolding delivered
+      state-is =
+          step-advance p (sound s a) st (live .reachable .steady .orderly) (live .reachable .contained) l (present s l h) x m (record { manager = m'; effect = effect.Nothing }) (g .runs) (running-reads ∙ is)
+
+      there : l < length st
+      there = rw (says (λ _. m) .told .levels) h
+
+      own : levelAt (stepAt p l st) l ≡ record { waiting = levelAt st l .waiting; activity = busy x m'; ended = levelAt st l .ended; next = levelAt st l .next; versions = levelAt st l .versions }
+      unfolding after
+      own =
+          ap (λ z. levelAt z l) state-is
+          ∙ modify-at newLevel l (λ _. after (levelAt st l) (levelAt st l .waiting) (levelAt st l .versions) x m') st there
+          ∙ rw run refl
+
+      other : (j : ℕ) → (l ≡ j → ⊥) → levelAt (stepAt p l st) j ≡ levelAt st j
+      other j d =
+          ap (λ z. levelAt z j) state-is
+          ∙ modify-other newLevel l j (λ _. after (levelAt st l) (levelAt st l .waiting) (levelAt st l .versions) x m') st d
+
+      versions-same : (j : ℕ) → levelAt (stepAt p l st) j .versions ≡ levelAt st j .versions
+      versions-same j = elim (ℕ-discrete l j) [
+        | yes e ↦ ap (λ i. levelAt (stepAt p l st) i .versions) (sym e) ∙ ap (λ v. v .versions) own ∙ ap (λ i. levelAt st i .versions) e
+        | no d ↦ ap (λ v. v .versions) (other j d)
+      ]
+
+      ended-same : (j : ℕ) → levelAt (stepAt p l st) j .ended ≡ levelAt st j .ended
+      ended-same j = elim (ℕ-discrete l j) [
+        | yes e ↦ ap (λ i. levelAt (stepAt p l st) i .ended) (sym e) ∙ ap (λ v. v .ended) own ∙ ap (λ i. levelAt st i .ended) e
+        | no d ↦ ap (λ v. v .ended) (other j d)
+      ]
+
+      reads-same : (o k : ℕ) → readAt p (stepAt p l st) l x o k ≡ readAt p st l x o k
+      unfolding readAt
+      reads-same o k = rw (versions-same (p .level o), ended-same (p .level o)) refl
+
+      pub running-on : Running w m' x read
+      running-on =
+          let z = settled-on (w .ended) (w .tallies) (w .queue) l m' run in
+          let n : Stepped = record { manager = m'; effect = effect.Nothing } in
+          let at = running-step-state n is (partsOf w) refl (w .ended) (w .tallies) z in
+          record {
+            drain = running-step n is (partsOf w) refl (w .ended) (w .tallies) z;
+            runs = ap (λ y. levelAt y l .activity) at ∙ ap (λ v. v .activity) own;
+            reads = λ o k. ap (λ y. readAt p y l x o k) at ∙ reads-same o k ∙ g .reads o k;
+          }
+
+  -- steps that concern nobody else, up to a manager that runs
+  pub running-quiet : (w : Words) (x : Fork) (read : ℕ → ℕ → Value) (k : ℕ) (m b : Manager) → Running w m x read → Quietly p read k m b → isRunning (b .ending) ≡ true → Running w b x read
+  unfolding Quietly
+  running-quiet w x read zero m b g e r = subst (λ y. Running w y x read) e g
+  running-quiet w x read (suc k) m b g (run, (none, q)) r =
+      running-quiet w x read k (stepped p read m .manager) b
+      (running-on w m x read g (stepped p read m .manager) (ap (λ e. record { manager = stepped p read m .manager; effect = e }) none) (quiet-runs p read k (stepped p read m .manager) b q r))
+      q r
+
+  -- and up to any
+  pub lag-quiet : (w : Words) (x : Fork) (read : ℕ → ℕ → Value) (k : ℕ) (m b : Manager) → Lagging s from w l m → (isRunning (m .ending) ≡ true → Running w m x read) → Quietly p read k m b → Lagging s from w l b
+  unfolding Quietly
+  lag-quiet w x read zero m b lag g e = subst (Lagging s from w l) e lag
+  lag-quiet w x read (suc k) m b lag g (run, (none, q)) =
+      let m' = stepped p read m .manager in
+      let is : stepped p read m ≡ record { manager = m'; effect = effect.Nothing } = ap (λ e. record { manager = stepped p read m .manager; effect = e }) none in
+      lag-quiet w x read k m' b
+      (running-step w m x read (g run) (record { manager = m'; effect = effect.Nothing }) is (partsOf w) refl)
+      (λ r. running-on w m x read (g run) m' is r)
+      q
+
+  -- the words of a manager that runs do not lag
+  pub lag-running : (w : Words) (m : Manager) → Lagging s from w l m → isRunning (m .ending) ≡ true → Draining s from w l m
+  lag-running w m lag r = lag (w .ended) (w .tallies) (settled-on (w .ended) (w .tallies) (w .queue) l m r)
+
+  -- one runs where the words say so
+  pub running-start : (w : Words) (m : Manager) (g : Draining s from w l m) → getD (w .tallies) (busyPlace l) 0 ≡ 1 → (x : Fork) × Running w m x (readAt p (g .state) l x)
+  running-start w m g one =
+      let told : LevelTold (levelCount s) w l m (levelAt (g .state) l) = subst (λ y. LevelTold (levelCount s) w l y (levelAt (g .state) l)) (placed-own l m (λ _. m)) (g .says (λ _. m) .told .level l h) in
+      let (x, e) = told-runs (levelCount s) w l m (levelAt (g .state) l) told (λ z. omega (arith, z, one)) in
+      (x, record { drain = g; runs = e; reads = λ o k. refl })
+
+  -- at its level it reads what the words of the fields say
+  pub running-sees : (w : Words) (m : Manager) (x : Fork) (read : ℕ → ℕ → Value) → Running w m x read → Sees s (w .current) false l read
+  unfolding readAt programOf
+  running-sees w m x read g o k ho hk e =
+      let own : levelOf s o ≡ l = eqb-true (levelOf s o) l e in
+      sym (g .reads o k)
+      ∙ rw (eq-eqb (levelOf s o) l own) (sym (g .drain .says (λ _. m) .told .field o k ho hk))
