@@ -1,12 +1,13 @@
-//! Measures the library next to the tuned variant, in rounds that alternate
-//! between the two: check, plain, timetabled and depth-first run of session W,
-//! of a typical one and of largest ones. Argument: number of rounds (501).
+//! Measures the library next to the reference and next to the tuned variant, in
+//! rounds that alternate between the two: check, plain, timetabled and depth-first
+//! run of session W, of a typical one and of largest ones. Prints a table.
+//! Argument: number of rounds (201).
 
 use lupinpause_tests::ffi::Compiled;
 use lupinpause_tests::library::{Answer, Library};
 use lupinpause_tests::limits::{RESULT_LENGTH, WORK_LENGTH};
 use lupinpause_tests::random::Random;
-use lupinpause_tests::reference::{self, Session};
+use lupinpause_tests::reference::{self, Reference, Session};
 use lupinpause_tests::tally::Tally;
 use lupinpause_tests::tuned::Tuned;
 use lupinpause_tests::{reader, sessions, timetables};
@@ -68,14 +69,15 @@ fn depth_first(library: &dyn Library, case: &Case, lent: &mut Buffers) -> Answer
 }
 
 fn main() -> ExitCode {
-    let rounds = match env::args().nth(1).map_or(Ok(501), |text| text.parse()) {
+    let rounds = match env::args().nth(1).map_or(Ok(201), |text| text.parse()) {
         Ok(rounds) if rounds > 0 => rounds,
         _ => {
             eprintln!("the argument is the number of rounds, at least 1");
             return ExitCode::FAILURE;
         }
     };
-    println!("{rounds} rounds; median ns a call; ratio: median (quartiles; least to largest)");
+    println!("{rounds} rounds; ratio: the library's time by the other's, median (quartiles)");
+    println!();
     for (name, session) in [
         ("session W", sessions::example_w()),
         ("typical", sessions::typical()),
@@ -111,6 +113,9 @@ fn measure_session(name: &str, bytes: Vec<u8>, rounds: usize) -> Result<(), Stri
         outcome.script_steps(),
         case.timetable.len(),
     );
+    println!();
+    println!("| entry | library, ns | reference, ns | ratio | tuned variant, ns | ratio |");
+    println!("|---|---|---|---|---|---|");
     let entries: [(&str, Entry); 4] = [
         ("check", check),
         ("plain", plain),
@@ -118,7 +123,7 @@ fn measure_session(name: &str, bytes: Vec<u8>, rounds: usize) -> Result<(), Stri
         ("depth-first", depth_first),
     ];
     for (name, entry) in entries {
-        for library in [&Compiled as &dyn Library, &Tuned] {
+        for library in [&Compiled as &dyn Library, &Reference, &Tuned] {
             let mut lent = Buffers::cleared();
             let answer = entry(library, &case, &mut lent);
             let expected = if name == "check" { &[] } else { &shown[..] };
@@ -127,16 +132,29 @@ fn measure_session(name: &str, bytes: Vec<u8>, rounds: usize) -> Result<(), Stri
             }
             reader::compare(&lent.result[..answer.count], expected)?;
         }
-        println!("  {name}: {}", measure(entry, &case, rounds));
+        let plain = measure(entry, &Reference, &case, rounds);
+        let tuned = measure(entry, &Tuned, &case, rounds);
+        println!(
+            "| {name} | {:.0} | {:.0} | {} | {:.0} | {} |",
+            tuned.library, plain.other, plain.ratio, tuned.other, tuned.ratio,
+        );
     }
+    println!();
     Ok(())
 }
 
-fn measure(entry: Entry, case: &Case, rounds: usize) -> String {
+/// Median nanoseconds of a call, the library's and the other's, and their ratio.
+struct Measured {
+    library: f64,
+    other: f64,
+    ratio: String,
+}
+
+fn measure(entry: Entry, other: &dyn Library, case: &Case, rounds: usize) -> Measured {
     let library = |calls| time(entry, &Compiled, case, calls);
-    let tuned = |calls| time(entry, &Tuned, case, calls);
+    let compared = |calls| time(entry, other, case, calls);
     // Also warms up.
-    let slower = library(10).max(tuned(10));
+    let slower = library(3).max(compared(3));
     let calls = (NANOSECONDS / slower).ceil() as u32;
 
     let mut ours = Vec::new();
@@ -145,9 +163,9 @@ fn measure(entry: Entry, case: &Case, rounds: usize) -> String {
         // Neither is always the first.
         if round % 2 == 0 {
             ours.push(library(calls));
-            theirs.push(tuned(calls));
+            theirs.push(compared(calls));
         } else {
-            theirs.push(tuned(calls));
+            theirs.push(compared(calls));
             ours.push(library(calls));
         }
     }
@@ -155,16 +173,16 @@ fn measure(entry: Entry, case: &Case, rounds: usize) -> String {
     for values in [&mut ours, &mut theirs, &mut ratios] {
         values.sort_by(f64::total_cmp);
     }
-    format!(
-        "library {:.1}, tuned variant {:.1}, ratio {:.3} ({:.3} to {:.3}; {:.3} to {:.3})",
-        quantile(&ours, 0.5),
-        quantile(&theirs, 0.5),
-        quantile(&ratios, 0.5),
-        quantile(&ratios, 0.25),
-        quantile(&ratios, 0.75),
-        quantile(&ratios, 0.0),
-        quantile(&ratios, 1.0),
-    )
+    Measured {
+        library: quantile(&ours, 0.5),
+        other: quantile(&theirs, 0.5),
+        ratio: format!(
+            "{:.2} ({:.2} to {:.2})",
+            quantile(&ratios, 0.5),
+            quantile(&ratios, 0.25),
+            quantile(&ratios, 0.75),
+        ),
+    }
 }
 
 /// Mean nanoseconds of one call, with buffers cleared before the first.

@@ -1,0 +1,83 @@
+/*
+ * The entries of the library for C, and for every language that calls C.
+ *
+ * Link libexports.a, which `rt staticlib exports` makes in target/staticlib/.
+ *
+ * Every function takes any bytes, of any length and content: no input makes it
+ * trap or run for ever. It returns document 01's number: 0, or the lowest
+ * question that says no:
+ *
+ *    1 to 8   the session
+ *    9        the clearance is no present level
+ *   10        the work slice has fewer than 8,192 numbers
+ *   11        the result buffer has fewer than 4,624 bytes
+ *   12 to 14  a step of the timetable
+ *   15        at the timetable's end a manager has not ended
+ *
+ * A slice is a pointer and the number of its elements. The pointer is not NULL
+ * and is aligned for its type, also where the number is 0. No two slices of one
+ * call overlap.
+ *
+ * After a run the slices hold this:
+ *
+ *   number    work                            result
+ *   0         its first 8,192 numbers are 0   the records, `count` bytes at its start
+ *   1 to 11   as it was                       as it was
+ *   12 to 15  its first 8,192 numbers are 0   as it was
+ *
+ * Nothing beyond is written to. What `work` held before makes no difference.
+ *
+ * `rest` gets two numbers: the place, which is the position in the timetable of
+ * the step that 12, 13 or 14 refuses and else 0, and the count of result bytes.
+ * Where it has room for fewer than two it is left as it was.
+ */
+#ifndef LUPINPAUSE_H
+#define LUPINPAUSE_H
+
+#include <stddef.h>
+#include <stdint.h>
+
+/* What a run asks for: numbers of `work`, bytes of `result`, numbers of `rest`. */
+#define LUPINPAUSE_WORK 8192
+#define LUPINPAUSE_RESULT 4624
+#define LUPINPAUSE_REST 2
+
+#ifdef __cplusplus
+extern "C" {
+#endif
+
+/* Questions 1 to 8 of a session. */
+uint32_t lupinpause_check(const uint8_t *session, size_t session_length);
+
+/* The timetabled run: one scheduler step for each byte of the timetable. It
+ * writes the records that a reader cleared to level `clearance` is shown. */
+uint32_t lupinpause_run_timetable(
+    const uint8_t *session, size_t session_length,
+    const uint8_t *timetable, size_t timetable_length,
+    size_t clearance,
+    uint32_t *work, size_t work_length,
+    uint8_t *result, size_t result_length,
+    uint32_t *rest, size_t rest_length);
+
+/* The plain run: each scheduler step by the lowest-numbered level that may step.
+ * Never refused by 12 to 15. */
+uint32_t lupinpause_run_plain(
+    const uint8_t *session, size_t session_length,
+    size_t clearance,
+    uint32_t *work, size_t work_length,
+    uint8_t *result, size_t result_length,
+    uint32_t *rest, size_t rest_length);
+
+/* The depth-first run: a fork runs whole before its sender continues. It asks
+ * for no work slice, so it is never refused by 10, nor by 12 to 15. */
+uint32_t lupinpause_run_depth_first(
+    const uint8_t *session, size_t session_length,
+    size_t clearance,
+    uint8_t *result, size_t result_length,
+    uint32_t *rest, size_t rest_length);
+
+#ifdef __cplusplus
+}
+#endif
+
+#endif

@@ -1,0 +1,72 @@
+/* Calls the library from C by way of its header: session W of document 01, by
+ * all three runs and the check, and a refusal. */
+
+#include "../../include/lupinpause.h"
+
+#include <stdio.h>
+#include <string.h>
+
+/* Two levels, two objects, ten steps, the root: see examples/README.md. */
+static uint8_t session[LUPINPAUSE_RESULT];
+
+static uint32_t work[LUPINPAUSE_WORK];
+static uint8_t result[LUPINPAUSE_RESULT];
+static uint32_t rest[LUPINPAUSE_REST];
+
+static const uint8_t six_and_six[] = {0, 0, 0, 0, 0, 0, 1, 1, 1, 1, 1, 1};
+
+/* What a reader cleared to level 0 is shown. */
+static const uint8_t shown[] = {
+    0x05, 0x00, 0x00, 0x01, 0x09, 0, 0, 0, 0, 0, 0, 0, 0, 0, 0, 0,
+    0x06, 0x00, 0x00, 0x01, 0x00, 0, 0, 0, 1, 0, 2, 0, 5, 0, 0, 0,
+    0x07, 0x00, 0x00, 0x01, 0x09, 0, 0, 0, 0, 0, 0, 0, 0, 0, 0, 0,
+};
+
+static int failures;
+
+static void expect(const char *what, uint32_t number, uint32_t wanted)
+{
+    if (number != wanted) {
+        fprintf(stderr, "%s: %u, not %u\n", what, (unsigned)number, (unsigned)wanted);
+        failures++;
+    }
+}
+
+static void expect_records(const char *what, uint32_t number)
+{
+    expect(what, number, 0);
+    expect(what, rest[0], 0);
+    expect(what, rest[1], sizeof shown);
+    if (memcmp(result, shown, sizeof shown) != 0) {
+        fprintf(stderr, "%s: other records\n", what);
+        failures++;
+    }
+    memset(result, 0xa5, sizeof result);
+}
+
+int main(int count, char **arguments)
+{
+    FILE *file = count == 2 ? fopen(arguments[1], "rb") : NULL;
+    if (file == NULL) {
+        fprintf(stderr, "the argument is session W\n");
+        return 2;
+    }
+    size_t length = fread(session, 1, sizeof session, file);
+    fclose(file);
+
+    expect("check", lupinpause_check(session, length), 0);
+    expect("check cut short", lupinpause_check(session, length - 1), 1);
+    expect_records("plain", lupinpause_run_plain(session, length, 0,
+        work, LUPINPAUSE_WORK, result, LUPINPAUSE_RESULT, rest, LUPINPAUSE_REST));
+    expect_records("timetabled", lupinpause_run_timetable(session, length,
+        six_and_six, sizeof six_and_six, 0,
+        work, LUPINPAUSE_WORK, result, LUPINPAUSE_RESULT, rest, LUPINPAUSE_REST));
+    expect_records("depth-first", lupinpause_run_depth_first(session, length, 0,
+        result, LUPINPAUSE_RESULT, rest, LUPINPAUSE_REST));
+    expect("a first step by level 1", lupinpause_run_timetable(session, length,
+        six_and_six + 6, 6, 0,
+        work, LUPINPAUSE_WORK, result, LUPINPAUSE_RESULT, rest, LUPINPAUSE_REST), 13);
+    expect("work too short", lupinpause_run_plain(session, length, 0,
+        work, LUPINPAUSE_WORK - 1, result, LUPINPAUSE_RESULT, rest, LUPINPAUSE_REST), 10);
+    return failures != 0;
+}
