@@ -1,4 +1,4 @@
--- Document 01's wall chart as the program prints it, computed from the definitions. Assumes nothing.
+-- What the program prints of session W (document 01: wall chart) and of some refusals, computed from the definitions. Assumes nothing.
 use Prim.Native.Nat.{ℕ}
 use Prim.Native.Char.{code}
 use Prim.Native.String.{String, [] as []ᵗ, _∷_ as _∷ᵗ_}
@@ -53,7 +53,7 @@ printed a = textOf (a .number) (a .place) (take (a .count) (a .buffer))
 
 pub record Examples : Type 0 where
   order : ordersShown (programOf sessionW) (levelOf sessionW (rootObject sessionW)) (0 ∷ []) ≡ true
-  wall-chart : printed (plain (lent sessionW) (0 ∷ []))
+  session-w : printed (plain (lent sessionW) (0 ∷ []))
       ≡ codes "05000001090000000000000000000000\n06000001000000000100020005000000\n07000001090000000000000000000000\n"
   -- M8
   empty-file : printed (plain (lent []) []) ≡ codes "1 0\n"
@@ -62,4 +62,4 @@ pub record Examples : Type 0 where
 
 pub examples : Examples
 unfolding codes lineOf linesOf decimalIn refusalLine textOf all first reflexive antisymmetric transitive isOrder isLeast join hasJoins dominates namesPresent isOrdered every select risingFrom countsFrom tab joined recordAt recordsOf wordOf zeroAt stepOf ofKind masksOf methodRecords question1 kindsRise question2 question3 objectValid question6 operandsFit unusedBytes stepValid scriptValid scriptsValid rootValid firstNo verdictOf methodOf sessionW programOf seenBy fateOf sum isNilOr0 withRegister popped settled concluded started written called forked sent operated stepped inserted modify lastOr childOf endBefore arrived after newest newestTo viewOf readAt advanced begun moved delivered moveAt stepAt readIn question14 question15 stepRefusal runFrom runOf lowest plainFrom plainOrder objectRecord historyRecord replyRecord objectsShown historiesShown replyShown bytesOf ordersShown entryRefusal cleared answerOf timetabled plain
-examples = record { order = refl; wall-chart = refl; empty-file = refl; place = refl; largest = refl }
+examples = record { order = refl; session-w = refl; empty-file = refl; place = refl; largest = refl }

@@ -12,7 +12,7 @@ use lupinpause_tests::request::{perform, Fill};
 use lupinpause_tests::trial::Trial;
 use lupinpause_tests::tuned::Tuned;
 use lupinpause_tests::vectors::Vector;
-use lupinpause_tests::{vectors, wall_chart};
+use lupinpause_tests::{stated, vectors};
 use std::fmt::Display;
 use std::process::ExitCode;
 use std::sync::atomic::{AtomicU64, Ordering};
@@ -36,7 +36,7 @@ fn run() -> Result<(), String> {
     let seed = argument(2, 1)?;
     let first = argument(3, 0)?;
     fixed("vector", &numbered(vectors::read()?))?;
-    fixed("wall chart", &wall_chart::cases())?;
+    fixed("stated case", &stated::cases())?;
     let start = Instant::now();
     let counts = generated(first, count, seed)?;
     print!("{}", counts.report());

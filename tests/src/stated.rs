@@ -1,5 +1,5 @@
-//! The cases M1 to M12 of document 01's wall chart, with the answers that stand
-//! there.
+//! The cases M1 to M12 that document 01 states with their answers (document 01:
+//! wall chart).
 
 use crate::library::Answer;
 use crate::limits::*;
