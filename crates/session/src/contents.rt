@@ -9,7 +9,6 @@ use crate::Verdict;
 use crate::kinds;
 use crate::levels;
 use crate::record;
-use crate::scripts;
 ghost use mathlib.Core.Path.{_≡_};
 ghost use mathlib.Core.List.{_++_};
 ghost use Prim.Native.Nat.{_+_, _≤_, _<_};
@@ -48,7 +47,7 @@ fn method_start(session: &[u8], at: usize, end: usize, key: usize) -> usize
     ensures { λ r. ⌜ r ≡ methodStart (now (session .entry)) key ⌝ }
 {
     for r in at..end {
-        if key <= scripts::key_at(session, r) {
+        if key <= record::key_at(session, r) {
             return r;
         }
     }

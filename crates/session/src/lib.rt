@@ -3,6 +3,7 @@ pub mod contents;
 mod kinds;
 mod levels;
 mod objects;
+mod reader;
 mod record;
 mod root;
 mod scripts;

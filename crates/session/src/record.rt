@@ -1,9 +1,11 @@
-// One record of a session: its bytes, its words, the test that unused bytes are 0, and its step.
+// One record of a session: its bytes, its words, its (object, name), the test that unused bytes are 0,
+// and its step.
 use crate::Step;
 ghost use mathlib.Core.Path.{_≡_};
 ghost use Prim.Native.Nat.{_+_, _≤_, _<_};
 ghost use Rattle.session.specs.Limits.{recordBytes};
 ghost use Rattle.session.specs.Record.{recordAt, recordCount, byteOf, wordOf, zeroAt, between, from, stepOf};
+ghost use Rattle.session.specs.Parts.{keyOf};
 
 // A byte as a 32-bit number.
 fn wide(b: u8) -> u32
@@ -18,6 +20,16 @@ pub fn byte_at(session: &[u8], r: usize, k: usize) -> u8
     ensures { λ x. ⌜ x ≡ byteOf (recordAt (now (session .entry)) r) k ⌝ }
 {
     session[16 * r + k]
+}
+
+// The pair (object, name) of the step in record `r`, as one number.
+pub fn key_at(session: &[u8], r: usize) -> usize
+    requires { ⌜ r < recordCount (now session) ⌝ }
+    ensures { λ x. ⌜ x ≡ keyOf (recordAt (now (session .entry)) r) ⌝ }
+{
+    let object = byte_at(session, r, 1) as usize;
+    let name = byte_at(session, r, 2) as usize;
+    256 * object + name
 }
 
 // The 32-bit number in the bytes from `k` on of record `r`.

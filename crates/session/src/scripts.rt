@@ -1,5 +1,6 @@
 // Question 7: the script steps.
 use crate::Step;
+use crate::reader;
 use crate::record;
 ghost use mathlib.Core.Path.{_≡_};
 ghost use mathlib.Core.Bool.{_&&_, _||_};
@@ -11,16 +12,6 @@ ghost use Rattle.session.specs.Record.{recordAt, recordCount, zeroAt, be
 ghost use Rattle.session.specs.Parts.{keyOf};
 ghost use Rattle.session.specs.Questions.{operandsFit, unusedBytes, stepValid, scriptsValid};
 ghost use Rattle.session.specs.Reading.{methodEnd, recordsFrom};
-
-// The pair (object, name) of the step in record `r`, as one number.
-pub fn key_at(session: &[u8], r: usize) -> usize
-    requires { ⌜ r < recordCount (now session) ⌝ }
-    ensures { λ x. ⌜ x ≡ keyOf (recordAt (now (session .entry)) r) ⌝ }
-{
-    let object = record::byte_at(session, r, 1) as usize;
-    let name = record::byte_at(session, r, 2) as usize;
-    256 * object + name
-}
 
 // Whether `a` is a register, `b` is below `limit`, and the bytes of record `r` from 6 on are 0.
 fn are_two_valid(session: &[u8], r: usize, a: u8, b: u8, limit: usize) -> bool
@@ -115,9 +106,9 @@ fn method_end(session: &[u8], r: usize, end: usize) -> usize
     requires { ⌜ (r < end) × (end ≤ recordCount (now session)) ⌝ }
     ensures { λ x. ⌜ x ≡ methodEnd (now (session .entry)) r end ⌝ }
 {
-    let key = key_at(session, r);
+    let key = record::key_at(session, r);
     for i in r + 1..end {
-        if key_at(session, i) != key {
+        if record::key_at(session, i) != key {
             return i;
         }
     }
@@ -139,11 +130,11 @@ fn is_method_valid(session: &[u8], first: usize, end: usize, objects: usize) -> 
 
 // Whether record `next` is before `end` and its (object, name) below that of record `at`.
 fn falls(session: &[u8], at: usize, next: usize, end: usize) -> bool
-    requires { ⌜ (at < end) × (end ≤ recordCount (now session)) ⌝ }
+    requires { ⌜ (at ≤ next) × (end ≤ recordCount (now session)) ⌝ }
     ensures { λ x. ⌜ x ≡ (ltb next end && ltb (keyOf (recordAt (now (session .entry)) next)) (keyOf (recordAt (now (session .entry)) at))) ⌝ }
 {
     if next < end {
-        key_at(session, next) < key_at(session, at)
+        reader::falls_after(session, at, next - at)
     } else {
         false
     }

@@ -52,7 +52,11 @@ returns-2 c =
     (rw e at (sym (c .before .is-method-valid .ensures) ∙ not-true _ (c .if2 .taken))))
 
 falls-requires : tie.Need-falls-requires Inv-loop μ-loop
-falls-requires c κs = (c .before .before .before .before .loop-test .taken, c .before .before .before .before .before .before .before .pre .1)
+falls-requires c κs =
+    let m = c .before .before .before in
+    let s = m .before .before .before .before in
+    let after = end-after (s .args .session .now) (m .before .before .loop .at) (s .args .end) (m .before .loop-test .taken) in
+    (omega (arith, m .method-end .ensures), s .pre .1)
 
 returns-3 : tie.Need-returns-3 Inv-loop μ-loop
 returns-3 c =
