@@ -85,7 +85,7 @@ fn go_on(
             field,
             into,
         } => {
-            let seen = reads::field_of(
+            let found = reads::field_of(
                 session,
                 masks,
                 current,
@@ -96,9 +96,14 @@ fn go_on(
                 level,
                 object,
                 field,
+                n.near,
             );
+            let seen = found.value;
             frames::set_register(stack, n.height as usize - 1, into, seen);
-            n
+            Course {
+                near: found.reach,
+                ..n
+            }
         }
         Event::Fork {
             level: above,

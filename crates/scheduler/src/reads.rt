@@ -4,6 +4,7 @@ use records::fields;
 use records::histories;
 use session::Value;
 use session::contents;
+use versions::Found;
 ghost use Prim.Native.Nat.{ℕ, _<_};
 ghost use mathlib.Core.Path.{_≡_};
 ghost use Rattle.session.specs.Limits.{fields};
@@ -27,7 +28,8 @@ fn bound_of(ended: &[u32], tallies: &[usize], queue: &[u32], level: usize, j: us
 }
 
 // What the manager that runs at a level reads of a field: at its level the newest version, which is the
-// current field; below the newest one up to its bound there.
+// current field; below the newest one up to its bound there. `near` may be any number: the reach of its
+// last read saves a search.
 pub fn field_of(
     session: &[u8],
     masks: &[u16],
@@ -39,19 +41,30 @@ pub fn field_of(
     level: usize,
     object: u8,
     field: u8,
-) -> Value
+    near: u16,
+) -> Found
     requires { ⌜ Leveled (now session) (now masks) ⌝ }
     requires { ⌜ IsBusy (now session) (record { current = now current; ended = now ended; tallies = now tallies; queue = now queue; work = now work }) level ⌝ }
     requires { ⌜ (object < objectCount (now session)) × (field < fields) ⌝ }
-    ensures { λ r. ⌜ ReadIs (now (session .entry)) (record { current = now (current .entry); ended = now (ended .entry); tallies = now (tallies .entry); queue = now (queue .entry); work = now (work .entry) }) level object field r ⌝ }
+    ensures { λ r. ⌜ ReadIs (now (session .entry)) (record { current = now (current .entry); ended = now (ended .entry); tallies = now (tallies .entry); queue = now (queue .entry); work = now (work .entry) }) level object field (r .value) ⌝ }
 {
     let j = contents::level_of(session, masks, object as usize);
     if j == level {
-        return fields::get(current, object as usize, field as usize);
+        let value = fields::get(current, object as usize, field as usize);
+        return Found { value, reach: near };
     }
     let initial = contents::field_of(session, masks, object as usize, field as usize);
     let bound = bound_of(ended, tallies, queue, level, j);
-    versions::newest_to(work, j, tallies[24 + j], bound, object, field, initial)
+    versions::newest_to(
+        work,
+        j,
+        tallies[24 + j],
+        bound,
+        object,
+        field,
+        initial,
+        near,
+    )
 }
 
 // What its script step sees of the field that it asks.
@@ -73,17 +86,21 @@ pub fn seen_by(
 {
     match ask {
         Ask::Nothing => Value::Nil,
-        Ask::Field { object, field } => field_of(
-            session,
-            masks,
-            current,
-            ended,
-            tallies,
-            queue,
-            work,
-            level,
-            object,
-            field,
-        ),
+        Ask::Field { object, field } => {
+            let found = field_of(
+                session,
+                masks,
+                current,
+                ended,
+                tallies,
+                queue,
+                work,
+                level,
+                object,
+                field,
+                0,
+            );
+            found.value
+        }
     }
 }

@@ -5,7 +5,7 @@ use mathlib.Core.Bool.{Bool, true, false, cond, _||_}
 use mathlib.Core.List.{List}
 use lib.Dec.{eqb, ltb}
 use lib.ListN.{length, getD, set}
-use Rattle.session.specs.Limits.{names, fields}
+use Rattle.session.specs.Limits.{names, registers, fields}
 use Rattle.session.specs.Parts.{levelCount, objectCount}
 use Rattle.session.specs.Meaning.{levelOf}
 use Rattle.session.specs.Program.{programOf}
@@ -91,16 +91,16 @@ abbrev pub Sees : List ℕ → List ℕ → Bool → ℕ → (ℕ → ℕ → Va
 Sees s current all level read =
     (o k : ℕ) → o < objectCount s → k < fields → (all || eqb (levelOf s o) level) ≡ true → read o k ≡ fieldAt current o k
 
--- a READ and a WRITE name a field that an object has, a SEND a name that a method may have
+-- a step names registers that a frame has, a READ and a WRITE a field that an object has, a SEND a name that a method may have
 abbrev pub Named : Step → Type 0
 Named End = Unit
-Named (Set a n) = Unit
-Named (Add a b) = Unit
-Named (Jump a b) = Unit
-Named (Read a b) = b < fields
-Named (Write a b) = b < fields
-Named (Send a b c) = b < names
-Named (Quit a) = Unit
+Named (Set a n) = a < registers
+Named (Add a b) = (a < registers) × (b < registers)
+Named (Jump a b) = a < registers
+Named (Read a b) = (a < registers) × (b < fields)
+Named (Write a b) = (a < registers) × (b < fields)
+Named (Send a b c) = (a < registers) × (b < names)
+Named (Quit a) = a < registers
 
 -- an accepted session with its level table, words for its fields, and a known frame of a manager at a present level
 pub record Operable (s masks current w : List ℕ) (level at : ℕ) : Type 0 where
@@ -117,12 +117,12 @@ isPause move.Up = false
 isPause move.Down = false
 isPause (move.Pause e) = true
 
--- what concerns others is a field of a present object, or a method of one
+-- what concerns others is a field of a present object, or a method of one; what is read goes to a register that a frame has
 abbrev pub EventPresent : List ℕ → Event → Type 0
 EventPresent s (event.Finished v) = Unit
 EventPresent s event.OutOfSteps = Unit
 EventPresent s (event.Write o k v) = (o < objectCount s) × (k < fields)
-EventPresent s (event.Read o k a) = (o < objectCount s) × (k < fields)
+EventPresent s (event.Read o k a) = (o < objectCount s) × (k < fields) × (a < registers)
 EventPresent s (event.Fork u o b v) = (o < objectCount s) × (b < names)
 
 abbrev pub MovePresent : List ℕ → Move → Type 0

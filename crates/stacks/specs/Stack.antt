@@ -1,10 +1,11 @@
 -- The frames of a manager in words. Assumes nothing.
 use Prim.Native.Nat.{ℕ, _+_, _*_, _%_, _≤_, _<_}
 use mathlib.Core.Path.{_≡_}
-use mathlib.Core.Bool.{Bool, cond}
+use mathlib.Core.Bool.{Bool}
 use mathlib.Core.List.{List}
-use lib.Dec.{eqb, ltb}
+use lib.Dec.{eqb}
 use lib.ListN.{length, getD, set}
+use Rattle.session.specs.Limits.{registers}
 use Rattle.session.specs.Lists.{tab}
 use Rattle.session.specs.declared.Value.{Value}
 use Rattle.managers.specs.Limits.{maxFrames}
@@ -33,7 +34,7 @@ frameAt w i =
       object = getD w (frameWords * i) 0 % 256;
       name = getD w (frameWords * i + 1) 0 % 256;
       next = getD w (frameWords * i + 2) 0 % 256;
-      into = getD w (frameWords * i + 3) 0 % 256;
+      into = getD w (frameWords * i + 3) 0 % registers;
       returns = eqb (getD w (frameWords * i + 4) 0) 1;
       r0 = registerAt w i 0;
       r1 = registerAt w i 1;
@@ -48,10 +49,6 @@ framesOf w = tab maxFrames (frameAt w)
 -- the one at a place
 abbrev pub frameIn : List ℕ → ℕ → Frame
 frameIn w at = getD (framesOf w) at noFrame
-
--- the smaller of two numbers
-abbrev pub least : ℕ → ℕ → ℕ
-least a b = cond (ltb a b) a b
 
 -- a frame made one of another message, with the registers that it has
 abbrev pub headed : Frame → ℕ → ℕ → ℕ → Bool → Frame

@@ -11,24 +11,20 @@ ghost use Prim.Native.Nat.{_+_, _-_, _*_, _≤_, _<_};
 ghost use mathlib.Core.Path.{_≡_};
 ghost use mathlib.Core.Bool.{cond};
 ghost use lib.Dec.{eqb};
-ghost use Rattle.session.specs.Limits.{maxMethod};
+ghost use Rattle.session.specs.Limits.{maxMethod, registers};
 ghost use Rattle.session.specs.Program.{programOf};
 ghost use Rattle.session.specs.declared.Value.the-variants.{Nil};
 ghost use Rattle.managers.specs.Frame.{frameFor, register, withRegister, atStep};
 ghost use Rattle.managers.specs.Manager.{nextStep};
 ghost use Rattle.managers.specs.Valid.{Indexed, Known};
-ghost use Rattle.stacks.specs.Stack.{registerPlace, least, headed, frameIn, There, Replaced};
+ghost use Rattle.stacks.specs.Stack.{registerPlace, headed, frameIn, There, Replaced};
 
 // Where the words of register `k` of frame `at` stand.
 fn place(at: usize, k: u8) -> usize
-    requires { ⌜ at < 8 ⌝ }
-    ensures { λ r. ⌜ r ≡ registerPlace at (least k 3) ⌝ }
+    requires { ⌜ (at < 8) × (k < registers) ⌝ }
+    ensures { λ r. ⌜ r ≡ registerPlace at k ⌝ }
 {
-    if k < 3 {
-        16 * at + 8 + 2 * k as usize
-    } else {
-        16 * at + 14
-    }
+    16 * at + 8 + 2 * k as usize
 }
 
 // The object of frame `at`.
@@ -53,7 +49,7 @@ pub fn next_step(session: &[u8], index: &[u16], stack: &[u32], at: usize) -> Ste
 
 // What its register `k` holds.
 pub fn register(stack: &[u32], at: usize, k: u8) -> Value
-    requires { ⌜ There (now stack) at ⌝ }
+    requires { ⌜ There (now stack) at × (k < registers) ⌝ }
     ensures { λ r. ⌜ r ≡ register (frameIn (now (stack .entry)) at) k ⌝ }
 {
     let i = place(at, k);
@@ -62,7 +58,7 @@ pub fn register(stack: &[u32], at: usize, k: u8) -> Value
 
 // Its register `k` gets a value.
 pub fn set_register(stack: &mut [u32], at: usize, k: u8, v: Value)
-    requires { ⌜ There (now stack) at ⌝ }
+    requires { ⌜ There (now stack) at × (k < registers) ⌝ }
     ensures { λ _. ⌜ Replaced (now (stack .entry)) (now (stack .exit)) at (withRegister (frameIn (now (stack .entry)) at) k v) ⌝ }
 {
     let i = place(at, k);
@@ -96,7 +92,7 @@ fn flag_of(returns: bool) -> u32
 
 // It becomes one of another message, with the registers that it has.
 fn head(stack: &mut [u32], at: usize, object: u8, name: u8, into: u8, returns: bool)
-    requires { ⌜ There (now stack) at ⌝ }
+    requires { ⌜ There (now stack) at × (into < registers) ⌝ }
     ensures { λ _. ⌜ Replaced (now (stack .entry)) (now (stack .exit)) at (headed (frameIn (now (stack .entry)) at) object name into returns) ⌝ }
 {
     let i = 16 * at;
@@ -117,7 +113,7 @@ pub fn put(
     returns: bool,
     parameter: Value,
 )
-    requires { ⌜ There (now stack) at ⌝ }
+    requires { ⌜ There (now stack) at × (into < registers) ⌝ }
     ensures { λ _. ⌜ Replaced (now (stack .entry)) (now (stack .exit)) at (frameFor object name into returns parameter) ⌝ }
 {
     head(stack, at, object, name, into, returns);
@@ -132,7 +128,7 @@ pub fn answer(stack: &mut [u32], at: usize, reply: Value)
     requires { ⌜ There (now stack) at × (0 < at) ⌝ }
     ensures { λ _. ⌜ Replaced (now (stack .entry)) (now (stack .exit)) (at - 1) (withRegister (frameIn (now (stack .entry)) (at - 1)) (frameIn (now (stack .entry)) at .into) (cond (frameIn (now (stack .entry)) at .returns) reply Nil)) ⌝ }
 {
-    let into = (stack[16 * at + 3] % 256) as u8;
+    let into = (stack[16 * at + 3] % 4) as u8;
     if stack[16 * at + 4] == 1 {
         set_register(stack, at - 1, into, reply);
     } else {

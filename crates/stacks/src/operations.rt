@@ -9,7 +9,7 @@ use session::Value;
 use session::contents;
 ghost use Prim.Native.Nat.{_<_};
 ghost use mathlib.Core.Bool.{cond};
-ghost use Rattle.session.specs.Limits.{fields as fieldCount};
+ghost use Rattle.session.specs.Limits.{registers, fields as fieldCount};
 ghost use Rattle.managers.specs.Value.{isNilOr0};
 ghost use Rattle.managers.specs.Frame.{frameFor, register, atStep};
 ghost use Rattle.managers.specs.Manager.{top, withTop, popped, called, forked};
@@ -32,7 +32,7 @@ pub enum Move {
 
 // JUMP to step `b`, if register `a` is NIL or 0.
 fn jump(stack: &mut [u32], at: usize, a: u8, b: u8)
-    requires { ⌜ There (now stack) at ⌝ }
+    requires { ⌜ There (now stack) at × (a < registers) ⌝ }
     ensures { λ _. ⌜ Replaced (now (stack .entry)) (now (stack .exit)) at (cond (isNilOr0 (register (frameIn (now (stack .entry)) at) a)) (atStep (frameIn (now (stack .entry)) at) b) (frameIn (now (stack .entry)) at)) ⌝ }
 {
     if values::is_nil_or_0(frames::register(stack, at, a)) {
@@ -52,20 +52,20 @@ fn read(
     b: u8,
     all: bool,
 ) -> Move
-    requires { ⌜ Operable (now session) (now masks) (now current) (now stack) level at × (b < fieldCount) ⌝ }
+    requires { ⌜ Operable (now session) (now masks) (now current) (now stack) level at × (a < registers) × (b < fieldCount) ⌝ }
     ensures { λ r. ⌜ Operated (now (session .entry)) (now (current .entry)) all level at (now (stack .entry)) (now (stack .exit)) (Step.Read a b) r ⌝ }
 {
     let object = frames::object(stack, at);
-    if all || contents::level_of(session, masks, object as usize) == level as usize {
-        let seen = fields::get(current, object as usize, b as usize);
-        frames::set_register(stack, at, a, seen);
-        return Move::Stay;
+    if !all && contents::level_of(session, masks, object as usize) != level as usize {
+        return Move::Pause(Event::Read {
+            object,
+            field: b,
+            into: a,
+        });
     }
-    Move::Pause(Event::Read {
-        object,
-        field: b,
-        into: a,
-    })
+    let seen = fields::get(current, object as usize, b as usize);
+    frames::set_register(stack, at, a, seen);
+    Move::Stay
 }
 
 // WRITE register `a` to field `b`: of an object of the level.
@@ -80,7 +80,7 @@ fn write(
     b: u8,
     all: bool,
 ) -> Move
-    requires { ⌜ Operable (now session) (now masks) (now current) (now stack) level at × (b < fieldCount) ⌝ }
+    requires { ⌜ Operable (now session) (now masks) (now current) (now stack) level at × (a < registers) × (b < fieldCount) ⌝ }
     ensures { λ r. ⌜ Operated (now (session .entry)) (now (current .entry)) all level at (now (stack .entry)) (now (stack .entry)) (Step.Write a b) r ⌝ }
 {
     let object = frames::object(stack, at);
@@ -96,7 +96,7 @@ fn write(
 
 // A frame above frame `at`, of name `b` of object `c`, whose reply goes to register `a`. A ninth is not made.
 fn call(stack: &mut [u32], at: usize, a: u8, b: u8, c: u8, returns: bool) -> Move
-    requires { ⌜ There (now stack) at ⌝ }
+    requires { ⌜ There (now stack) at × (a < registers) ⌝ }
     ensures { λ r. ⌜ Does (Method c b) at (now (stack .entry)) (now (stack .exit)) (λ m. called m (top m) a (frameFor c b a returns (register (top m) a))) r ⌝ }
 {
     if at >= 7 {
@@ -110,7 +110,7 @@ fn call(stack: &mut [u32], at: usize, a: u8, b: u8, c: u8, returns: bool) -> Mov
 
 // A fork of name `b` of object `c` at a level, which replies NIL to register `a`.
 fn fork(stack: &mut [u32], at: usize, a: u8, b: u8, c: u8, level: u8) -> Move
-    requires { ⌜ There (now stack) at ⌝ }
+    requires { ⌜ There (now stack) at × (a < registers) ⌝ }
     ensures { λ r. ⌜ Does (Method c b) at (now (stack .entry)) (now (stack .exit)) (λ m. forked m (top m) a level (record { object = c; name = b; parameter = register (top m) a })) r ⌝ }
 {
     let parameter = frames::register(stack, at, a);
@@ -136,7 +136,7 @@ fn send(
     c: u8,
     all: bool,
 ) -> Move
-    requires { ⌜ Operable (now session) (now masks) (now current) (now stack) level at × Method c b (now session) ⌝ }
+    requires { ⌜ Operable (now session) (now masks) (now current) (now stack) level at × (a < registers) × Method c b (now session) ⌝ }
     ensures { λ r. ⌜ Operated (now (session .entry)) (now (current .entry)) all level at (now (stack .entry)) (now (stack .exit)) (Step.Send a b c) r ⌝ }
 {
     let sender = contents::level_of(session, masks, frames::object(stack, at) as usize);
@@ -155,7 +155,7 @@ fn send(
 
 // QUIT with register `a`.
 fn quit(stack: &mut [u32], at: usize, a: u8) -> Move
-    requires { ⌜ There (now stack) at ⌝ }
+    requires { ⌜ There (now stack) at × (a < registers) ⌝ }
     ensures { λ r. ⌜ Does (λ _. Unit) at (now (stack .entry)) (now (stack .exit)) (λ m. record { manager = popped (withTop m (top m)) (register (top m) a); effect = effect.Nothing }) r ⌝ }
 {
     let reply = frames::register(stack, at, a);

@@ -4,6 +4,8 @@
 // read finds by halving which versions are not above its bound, and goes through those backward.
 use session::Value;
 ghost use mathlib.Core.Path.{_≡_};
+ghost use mathlib.Core.Bool.{true};
+ghost use lib.Dec.{ltb};
 ghost use Prim.Native.Nat.{_+_, _≤_, _<_};
 ghost use lib.ListN.{length};
 ghost use Rattle.session.specs.Limits.{maxLevels};
@@ -11,7 +13,7 @@ ghost use Rattle.model.specs.Limits.{workNumbers};
 ghost use Rattle.model.specs.Level.{newestTo};
 ghost use Rattle.model.specs.Entries.{cleared};
 ghost use Rattle.versions.specs.Log.{maxVersions, logStart, keyOf, versionAt, logOf, Within};
-ghost use Rattle.versions.specs.Order.{StampsRise, PartitionPoint};
+ghost use Rattle.versions.specs.Order.{stampAt, StampsRise, PartitionPoint};
 ghost use Rattle.versions.specs.Changes.{Appended};
 
 // How many numbers a level's log has: two for each version that fits.
@@ -72,33 +74,66 @@ fn value_at(work: &[u32], at: usize) -> Value
     }
 }
 
-// How many versions, the oldest ones, of the log of a level, which has `count` versions, are not above a
-// write stamp.
+// Whether version `i`, counted from the oldest on, of the log of a level is above a write stamp.
 //
 // Below its field and object, a version's first number holds the write stamp and the tag: at most
 // 2 * bound + 1 exactly where the version is not above the bound.
-fn count_to(work: &[u32], level: usize, count: usize, bound: u16) -> usize
+fn is_above(work: &[u32], level: usize, i: usize, bound: u16) -> bool
+    requires { ⌜ (level < maxLevels) × (i < maxVersions) × (workNumbers ≤ length (now work)) ⌝ }
+    ensures { λ r. ⌜ r ≡ ltb bound (stampAt (now (work .entry)) (logStart level) i) ⌝ }
+{
+    let span = 2 * bound as u32 + 1;
+    work[LOG_NUMBERS * level + 2 * i] % FIELD > span
+}
+
+// Whether the `n` oldest versions of the log of a level, which has `count` versions, are those not above
+// a write stamp. Where stamps never fall, the two beside that place tell.
+fn is_partition(work: &[u32], level: usize, count: usize, bound: u16, n: usize) -> bool
+    requires { ⌜ (level < maxLevels) × (count ≤ maxVersions) × (workNumbers ≤ length (now work)) ⌝ }
+    requires { ⌜ StampsRise (now work) (logStart level) count ⌝ }
+    ensures { λ r. ⌜ (r ≡ true → PartitionPoint (now (work .entry)) (logStart level) count bound n) ⌝ }
+{
+    if n > count {
+        return false;
+    }
+    if n > 0 && is_above(work, level, n - 1, bound) {
+        return false;
+    }
+    n == count || is_above(work, level, n, bound)
+}
+
+// How many versions, the oldest ones, of the log of a level, which has `count` versions, are not above a
+// write stamp. `near` is tried first; any number may be given.
+fn count_to(work: &[u32], level: usize, count: usize, bound: u16, near: usize) -> usize
     requires { ⌜ (level < maxLevels) × (count ≤ maxVersions) × (workNumbers ≤ length (now work)) ⌝ }
     requires { ⌜ StampsRise (now work) (logStart level) count ⌝ }
     ensures { λ r. ⌜ PartitionPoint (now (work .entry)) (logStart level) count bound r ⌝ }
 {
-    let start = LOG_NUMBERS * level;
-    let span = 2 * bound as u32 + 1;
+    if is_partition(work, level, count, bound, near) {
+        return near;
+    }
     let mut low = 0;
     let mut high = count;
     while low < high {
         let middle = (low + high) / 2;
-        if work[start + 2 * middle] % FIELD <= span {
-            low = middle + 1;
-        } else {
+        if is_above(work, level, middle, bound) {
             high = middle;
+        } else {
+            low = middle + 1;
         }
     }
     low
 }
 
+// What a read finds: the value, and how many versions, the oldest ones, were not above its bound.
+pub struct Found {
+    pub value: Value,
+    pub reach: u16,
+}
+
 // The newest version of a field not above a write stamp, in the log of a level, which has `count`
-// versions in order of write stamp; or the initial value.
+// versions in order of write stamp; or the initial value. `near` may be any number: the reach of the last
+// read with this bound saves the search.
 //
 // A version's first number lies less than FIELD above the field's key exactly where it is one of the
 // field. Below the key the difference wraps and is too large. So each version passed costs one
@@ -111,22 +146,28 @@ pub fn newest_to(
     object: u8,
     field: u8,
     initial: Value,
-) -> Value
+    near: u16,
+) -> Found
     requires { ⌜ Within (now work) level count field ⌝ }
     requires { ⌜ StampsRise (now work) (logStart level) count ⌝ }
-    ensures { λ r. ⌜ r ≡ newestTo bound initial object field (logOf (now (work .entry)) (logStart level) count) ⌝ }
+    ensures { λ r. ⌜ (r .value ≡ newestTo bound initial object field (logOf (now (work .entry)) (logStart level) count)) × PartitionPoint (now (work .entry)) (logStart level) count bound (r .reach) ⌝ }
 {
     let start = LOG_NUMBERS * level;
     let key = key_of(object, field);
-    let mut n = count_to(work, level, count, bound);
+    let mut n = count_to(work, level, count, bound, near as usize);
+    let reach = n as u16;
     while 0 < n {
         n -= 1;
         let packed = work[start + 2 * n];
         if std::num::wrapping_sub_u32(packed, key) < FIELD {
-            return value_at(work, start + 2 * n);
+            let value = value_at(work, start + 2 * n);
+            return Found { value, reach };
         }
     }
-    initial
+    Found {
+        value: initial,
+        reach,
+    }
 }
 
 // Makes the numbers of all logs 0.

@@ -8,7 +8,7 @@ use native.Mathlib.Omega.{arith}
 use borrow.Author.Tests.{lt-ltb, le-ltb}
 use lib.ListN.{length, getD, set}
 use Rattle.lattice.proofs.Laws.Range.{not-both}
-use Rattle.session.specs.Limits.{fields}
+use Rattle.session.specs.Limits.{registers, fields}
 use Rattle.session.specs.Parts.{objectCount}
 use Rattle.session.specs.Questions.{verdictOf}
 use Rattle.session.specs.Program.{Program, programOf}
@@ -101,6 +101,7 @@ after c r writes forks ending =
       ending = ending;
       reply = c .reply;
       height = r .height;
+      near = c .near;
     }
 
 -- the manager after a step that concerns others, and its effect, by the event
@@ -201,9 +202,9 @@ module _ (s masks index : List ℕ) (a : Read s masks index) (left : ℕ) (f : F
           long = ad .long;
         }
 
-    pub go-finishes : (v : Value) → r .event ≡ event.Finished v → Gone s left f c k k' w w (record { level = c .level; first = c .first; steps = r .steps; writes = c .writes; forks = c .forks; ending = Finished; reply = v; height = 0 })
+    pub go-finishes : (v : Value) → r .event ≡ event.Finished v → Gone s left f c k k' w w (record { level = c .level; first = c .first; steps = r .steps; writes = c .writes; forks = c .forks; ending = Finished; reply = v; height = 0; near = c .near })
     go-finishes v is =
-        over-gone (record { level = c .level; first = c .first; steps = r .steps; writes = c .writes; forks = c .forks; ending = Finished; reply = v; height = 0 }) refl refl refl refl (λ g h. paused g h (event.Finished v) is)
+        over-gone (record { level = c .level; first = c .first; steps = r .steps; writes = c .writes; forks = c .forks; ending = Finished; reply = v; height = 0; near = c .near }) refl refl refl refl (λ g h. paused g h (event.Finished v) is)
 
     pub go-out : r .event ≡ event.OutOfSteps → Gone s left f c k k' w w (after c r (c .writes) (c .forks) OutOfSteps)
     go-out is =
@@ -303,9 +304,9 @@ module _ (s masks index : List ℕ) (a : Read s masks index) (left : ℕ) (f : F
       pub read-live : 0 < r .height
       read-live = last-read (q .0) (q .1) .live
 
-      pub read-frame : There k' (r .height - 1)
+      pub read-frame : There k' (r .height - 1) × (j < registers)
       read-frame =
-          record { room = rw (ad .long) (go .room); low = omega (arith, read-live, stack-read .low) }
+          (record { room = rw (ad .long) (go .room); low = omega (arith, read-live, stack-read .low) }, present-read .2)
 
       pub go-reads : (v : Value) → v ≡ fieldAt (w .current) o i → (k'' : List ℕ) → Replaced k' k'' (r .height - 1) (withRegister (frameIn k' (r .height - 1)) j v) → Gone s left f c k k'' w w (after c r (c .writes) (c .forks) (c .ending))
       unfolding effected

@@ -32,6 +32,22 @@ on c h n writes forks =
       ending = c .ending;
       reply = c .reply;
       height = h;
+      near = c .near;
+    }
+
+-- the course, of which the last read below saw so many versions
+abbrev pub nearBy : Course → ℕ → Course
+nearBy c reach =
+    record {
+      level = c .level;
+      first = c .first;
+      steps = c .steps;
+      writes = c .writes;
+      forks = c .forks;
+      ending = c .ending;
+      reply = c .reply;
+      height = c .height;
+      near = reach;
     }
 
 -- out of writes
@@ -46,6 +62,7 @@ spent c h n =
       ending = OutOfWrites;
       reply = c .reply;
       height = h;
+      near = c .near;
     }
 
 module _ (p : Program) (read : ℕ → ℕ → Value) (c : Course) (run : isRunning (c .ending) ≡ true) (fs₀ frames fs : List Frame) (h steps n : ℕ) (one : n ≡ steps + 1) where

@@ -47,7 +47,7 @@ use Rattle.scheduler.proofs.Laws.Ready.{settle-after}
 use Rattle.scheduler.proofs.Laws.Step.{rest-effect}
 use Rattle.scheduler.proofs.Laws.Made.{partsOf}
 use Rattle.scheduler.proofs.Laws.Lagging.{Running, quiet-runs, running-busy, running-effect, running-step, running-quiet, lag-quiet, lag-running, running-start, running-sees}
-use Rattle.scheduler.proofs.Laws.Events.{on, spent, writes-field, writes-none, reads-field, forks-message, forks-none}
+use Rattle.scheduler.proofs.Laws.Events.{on, nearBy, spent, writes-field, writes-none, reads-field, forks-message, forks-none}
 
 -- an effect leaves how many managers have ended at a level, and that one runs there
 effect-count : (a b : Parts) (l stamp forks : ℕ) (e : Effect) → l < maxLevels → EffectDone a b l stamp forks e → getD (b .tallies) l 0 ≡ getD (a .tallies) l 0
@@ -232,11 +232,11 @@ module _ (s masks index : List ℕ) (rd : Read s masks index) (w : Words) (l : �
           rest = refl;
         }
 
-    pub gone-finished : (v : Value) → r .event ≡ event.Finished v → Gone s l c k k₁ w w (record { level = c .level; first = c .first; steps = r .steps; writes = c .writes; forks = c .forks; ending = Finished; reply = v; height = 0 })
+    pub gone-finished : (v : Value) → r .event ≡ event.Finished v → Gone s l c k k₁ w w (record { level = c .level; first = c .first; steps = r .steps; writes = c .writes; forks = c .forks; ending = Finished; reply = v; height = 0; near = c .near })
     gone-finished v is =
         over-gone _ refl refl refl (λ from lag. ends from lag _ (λ read see. subst (Paused p read (managerOf c (framesOf k)) (r .height) (r .steps) (framesOf k₁)) is (paused read see)))
 
-    pub gone-out : r .event ≡ event.OutOfSteps → Gone s l c k k₁ w w (record { level = c .level; first = c .first; steps = r .steps; writes = c .writes; forks = c .forks; ending = OutOfSteps; reply = c .reply; height = r .height })
+    pub gone-out : r .event ≡ event.OutOfSteps → Gone s l c k k₁ w w (record { level = c .level; first = c .first; steps = r .steps; writes = c .writes; forks = c .forks; ending = OutOfSteps; reply = c .reply; height = r .height; near = c .near })
     gone-out is =
         over-gone _ refl refl refl (λ from lag. ends from lag _ (λ read see. subst (Paused p read (managerOf c (framesOf k)) (r .height) (r .steps) (framesOf k₁)) is (paused read see)))
 
@@ -306,13 +306,13 @@ module _ (s masks index : List ℕ) (rd : Read s masks index) (w : Words) (l : �
       pub read-busy : IsBusy s w l
       read-busy = busy-now (there .from) (there .lagging) (event.Read o i a) (now (event.Read o i a) is refl)
 
-      pub gone-read : (v : Value) → ReadIs s w l o i v → (k₂ : List ℕ) → Replaced k₁ k₂ (r .height - 1) (withRegister (frameIn k₁ (r .height - 1)) a v) → Gone s l c k k₂ w w (on c (r .height) (r .steps) (c .writes) (c .forks))
-      gone-read v sees k₂ z =
+      pub gone-read : (v : Value) (reach : ℕ) → ReadIs s w l o i v → (k₂ : List ℕ) → Replaced k₁ k₂ (r .height - 1) (withRegister (frameIn k₁ (r .height - 1)) a v) → Gone s l c k k₂ w w (nearBy (on c (r .height) (r .steps) (c .writes) (c .forks)) reach)
+      gone-read v reach sees k₂ z =
           let live = event-live (event.Read o i a) is refl in
           let known = event-known (event.Read o i a) is refl in
           let top-known : Known s (frameIn k₁ (r .height - 1)) = known .each (r .height - 1) (omega (arith, live)) in
           let then : Stack (Known s) (r .height) (framesOf k₂) = rw (z .frames) (replaced-stack (Known s) (managerOf (on c (r .height) (r .steps) (c .writes) (c .forks)) (framesOf k₁)) (withRegister (frameIn k₁ (r .height - 1)) a v) known (known-register s (frameIn k₁ (r .height - 1)) a v top-known)) in
-          on-gone (event.Read o i a) is refl (on c (r .height) (r .steps) (c .writes) (c .forks)) k₂ (partsOf w) effect.Nothing refl refl refl refl refl (goes .wrote) (goes .forked) (z .long ∙ ad .long) then refl (λ u message e. absurd (nothing-fork u message e))
+          on-gone (event.Read o i a) is refl (nearBy (on c (r .height) (r .steps) (c .writes) (c .forks)) reach) k₂ (partsOf w) effect.Nothing refl refl refl refl refl (goes .wrote) (goes .forked) (z .long ∙ ad .long) then refl (λ u message e. absurd (nothing-fork u message e))
           (λ from lag g.
           reads-field p (g .read) c (goes .running) (framesOf k) (g .last .frames) (framesOf k₁) (r .height) (g .last .steps) (r .steps) (g .last .one-more) o i a v (reads-now from lag (event.Read o i a) g o i v sees)
           ∙ ap (λ fs. record { manager = concluded p (managerOf (on c (r .height) (r .steps) (c .writes) (c .forks)) fs); effect = effect.Nothing }) (sym (z .frames)))

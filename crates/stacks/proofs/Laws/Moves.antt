@@ -10,7 +10,7 @@ use lib.Dec.{eqb, ltb}
 use lib.ListN.{length, getD, set}
 use Rattle.lattice.specs.Table.{dominates}
 use Rattle.lattice.proofs.Laws.Range.{not-both}
-use Rattle.session.specs.Limits.{fields}
+use Rattle.session.specs.Limits.{registers, fields}
 use Rattle.session.specs.Parts.{objectCount}
 use Rattle.session.specs.Meaning.{levelOf}
 use Rattle.session.specs.Program.{Program, programOf}
@@ -265,9 +265,9 @@ module _ (s current : List ℕ) (all : Bool) (level at : ℕ) (w : List ℕ) whe
   unfolding operated moved
   end-operated = record { moves = λ m read h sees. ap (λ fs. quiet (with m fs)) (h .frames-are); live = λ _. omega arith; present = tt; long = refl }
 
-  pub read-left : (a b o : ℕ) → o ≡ frameIn w at .object → frameIn w at .object < objectCount s → b < fields → Operated s current all level at w w (op.Read a b) (move.Pause (event.Read o b a))
+  pub read-left : (a b o : ℕ) → o ≡ frameIn w at .object → frameIn w at .object < objectCount s → a < registers → b < fields → Operated s current all level at w w (op.Read a b) (move.Pause (event.Read o b a))
   unfolding operated moved caused
-  read-left a b o e present field =
+  read-left a b o e present into field =
       record {
         moves = λ m read h sees.
             let i = m .height - 1 in
@@ -276,7 +276,7 @@ module _ (s current : List ℕ) (all : Bool) (level at : ℕ) (w : List ℕ) whe
             ap (λ fs. quiet (with m (set fs i (withRegister (getD fs i noFrame) a (read (getD fs i noFrame .object) b))))) (h .frames-are)
             ∙ ap (λ x. quiet (with m (set (framesOf w) i (withRegister f a (read x b))))) own;
         live = λ x. absurd (not-both true refl x);
-        present = (rw e present, field);
+        present = (rw e present, field, into);
         long = refl;
       }
 

@@ -5,10 +5,10 @@ use mathlib.Core.Bool.{Bool}
 use mathlib.Core.List.{List, _∷_}
 use native.Mathlib.Omega.{arith}
 use native.Mathlib.Nat.{mod-eq-of-lt}
-use borrow.Author.Tests.{le-ltb}
 use lib.Dec.{eqb}
 use lib.ListN.{length, getD, set, replicate, length-set}
 use lib.Seq.{getD-set-same, getD-set-other, set-set}
+use Rattle.session.specs.Limits.{registers}
 use Rattle.session.specs.Lists.{tab}
 use Rattle.session.specs.declared.Value.{Value}
 use Rattle.session.specs.declared.Value.the-variants.{Nil}
@@ -24,7 +24,7 @@ use Rattle.rows.proofs.Laws.Outside.{Apart, before, behind, word-apart, outside
 use Rattle.rows.proofs.Laws.Moves.{outside-set}
 use Rattle.records.specs.Fields.{valueOf}
 use Rattle.records.proofs.Laws.Fields.{value-back}
-use Rattle.stacks.specs.Stack.{frameWords, stackWords, registerPlace, registerAt, frameAt, framesOf, frameIn, least, headed, There, Replaced}
+use Rattle.stacks.specs.Stack.{frameWords, stackWords, registerPlace, registerAt, frameAt, framesOf, frameIn, headed, There, Replaced}
 
 -- a table that differs from another at one place
 tab-set : {A : Type 0} (n k : ℕ) (v : A) (f g : ℕ → A) → f k ≡ v → ((i : ℕ) → i < n → (i ≡ k → ⊥) → f i ≡ g i) → tab n f ≡ set (tab n g) k v
@@ -54,7 +54,7 @@ module _ (w : List ℕ) (at : ℕ) (h : at < maxFrames) where
   unfolding frameAt
   next-in = ap (λ f. f .next) (frame-in w at h)
 
-  pub into-in : frameIn w at .into ≡ getD w (frameWords * at + 3) 0 % 256
+  pub into-in : frameIn w at .into ≡ getD w (frameWords * at + 3) 0 % registers
   unfolding frameAt
   into-in = ap (λ f. f .into) (frame-in w at h)
 
@@ -67,7 +67,7 @@ record Says (w : List ℕ) (at : ℕ) (f : Frame) : Type 0 where
   object : getD w (frameWords * at) 0 % 256 ≡ f .object
   name : getD w (frameWords * at + 1) 0 % 256 ≡ f .name
   next : getD w (frameWords * at + 2) 0 % 256 ≡ f .next
-  into : getD w (frameWords * at + 3) 0 % 256 ≡ f .into
+  into : getD w (frameWords * at + 3) 0 % registers ≡ f .into
   returns : eqb (getD w (frameWords * at + 4) 0) 1 ≡ f .returns
   r0 : registerAt w at 0 ≡ f .r0
   r1 : registerAt w at 1 ≡ f .r1
@@ -82,6 +82,9 @@ said w at f s = rw (s .object, s .name, s .next, s .into, s .returns, s .r0, s .
 module _ (w w' : List ℕ) (a e at : ℕ) (o : Outside w w' a e) where
   byte-kept : (p : ℕ) → Apart a e p (p + 1) → getD w' p 0 % 256 ≡ getD w p 0 % 256
   byte-kept p s = ap (λ x. x % 256) (word-apart w w' a e o p (p + 1) s p (omega arith) (omega arith))
+
+  number-kept : (p : ℕ) → Apart a e p (p + 1) → getD w' p 0 % registers ≡ getD w p 0 % registers
+  number-kept p s = ap (λ x. x % registers) (word-apart w w' a e o p (p + 1) s p (omega arith) (omega arith))
 
   flag-kept : (p : ℕ) → Apart a e p (p + 1) → eqb (getD w' p 0) 1 ≡ eqb (getD w p 0) 1
   flag-kept p s = ap (λ x. eqb x 1) (word-apart w w' a e o p (p + 1) s p (omega arith) (omega arith))
@@ -103,7 +106,7 @@ module _ (w w' : List ℕ) (a e at : ℕ) (o : Outside w w' a e) where
         object = byte-kept i (part i (i + 1) s (omega arith) (omega arith));
         name = byte-kept (i + 1) (part (i + 1) (i + 1 + 1) s (omega arith) (omega arith));
         next = byte-kept (i + 2) (part (i + 2) (i + 2 + 1) s (omega arith) (omega arith));
-        into = byte-kept (i + 3) (part (i + 3) (i + 3 + 1) s (omega arith) (omega arith));
+        into = number-kept (i + 3) (part (i + 3) (i + 3 + 1) s (omega arith) (omega arith));
         returns = flag-kept (i + 4) (part (i + 4) (i + 4 + 1) s (omega arith) (omega arith));
         r0 = register-kept 0 (part (registerPlace at 0) (registerPlace at 0 + 2) s (omega arith) (omega arith));
         r1 = register-kept 1 (part (registerPlace at 1) (registerPlace at 1 + 2) s (omega arith) (omega arith));
@@ -150,27 +153,21 @@ replaced-then w w' w'' at f g r s =
       long = s .long ∙ r .long;
     }
 
--- the smaller of a number and 3 is at most 3
-least-three : (k : ℕ) → least k 3 ≤ 3
-least-three zero = omega arith
-least-three (suc zero) = omega arith
-least-three (suc (suc zero)) = omega arith
-least-three (suc (suc (suc k))) = rw (le-ltb (suc (suc (suc k))) 3 (omega arith)) (omega arith)
-
 -- a register's two words are within the stack
-pub place-within : (at k p : ℕ) → at < maxFrames → p ≡ registerPlace at (least k 3) → p + 2 ≤ stackWords
-place-within at k p h e = omega (arith, least-three k)
+pub place-within : (at k p : ℕ) → at < maxFrames → k < registers → p ≡ registerPlace at k → p + 2 ≤ stackWords
+place-within at k p h l e = omega arith
 
 -- a register by its words
-register-at : (w : List ℕ) (at k : ℕ) → registerAt w at (least k 3) ≡ register (frameAt w at) k
+register-at : (w : List ℕ) (at k : ℕ) → k < registers → registerAt w at k ≡ register (frameAt w at) k
 unfolding frameAt
-register-at w at zero = refl
-register-at w at (suc zero) = refl
-register-at w at (suc (suc zero)) = refl
-register-at w at (suc (suc (suc k))) = rw (le-ltb (suc (suc (suc k))) 3 (omega arith)) refl
+register-at w at zero l = refl
+register-at w at (suc zero) l = refl
+register-at w at (suc (suc zero)) l = refl
+register-at w at (suc (suc (suc zero))) l = refl
+register-at w at (suc (suc (suc (suc k)))) l = absurd (omega arith)
 
-pub register-in : (w : List ℕ) (at k p : ℕ) → at < maxFrames → p ≡ registerPlace at (least k 3) → valueOf (getD w p 0) (getD w (p + 1) 0) ≡ register (frameIn w at) k
-register-in w at k p h e = rw e (register-at w at k ∙ ap (λ f. register f k) (sym (frame-in w at h)))
+pub register-in : (w : List ℕ) (at k p : ℕ) → at < maxFrames → k < registers → p ≡ registerPlace at k → valueOf (getD w p 0) (getD w (p + 1) 0) ≡ register (frameIn w at) k
+register-in w at k p h l e = rw e (register-at w at k l ∙ ap (λ f. register f k) (sym (frame-in w at h)))
 
 -- the words of one register changed
 module _ (w w' : List ℕ) (at m : ℕ) (v : Value) (o : Outside w w' (registerPlace at m) (registerPlace at m + 2)) (e : registerAt w' at m ≡ v) where
@@ -195,7 +192,7 @@ module _ (w w' : List ℕ) (at m : ℕ) (v : Value) (o : Outside w w' (registerP
         object = byte-kept w w' a (a + 2) at o (frameWords * at) (before (omega arith)) ∙ sym e0;
         name = byte-kept w w' a (a + 2) at o (frameWords * at + 1) (before (omega arith)) ∙ sym e1;
         next = byte-kept w w' a (a + 2) at o (frameWords * at + 2) (before (omega arith)) ∙ sym e2;
-        into = byte-kept w w' a (a + 2) at o (frameWords * at + 3) (before (omega arith)) ∙ sym e3;
+        into = number-kept w w' a (a + 2) at o (frameWords * at + 3) (before (omega arith)) ∙ sym e3;
         returns = flag-kept w w' a (a + 2) at o (frameWords * at + 4) (before (omega arith)) ∙ sym e4;
         r0 = q0;
         r1 = q1;
@@ -203,24 +200,23 @@ module _ (w w' : List ℕ) (at m : ℕ) (v : Value) (o : Outside w w' (registerP
         r3 = q3;
       })
 
-  register-is : (k : ℕ) → m ≡ least k 3 → frameAt w' at ≡ withRegister (frameAt w at) k v
+  register-is : (k : ℕ) → k < registers → m ≡ k → frameAt w' at ≡ withRegister (frameAt w at) k v
   unfolding frameAt withRegister
-  register-is zero q =
+  register-is zero l q =
       with-registers (withRegister (frameAt w at) 0 v) refl refl refl refl refl (this 0 q) (other 1 (omega arith)) (other 2 (omega arith)) (other 3 (omega arith))
-  register-is (suc zero) q =
+  register-is (suc zero) l q =
       with-registers (withRegister (frameAt w at) 1 v) refl refl refl refl refl (other 0 (omega arith)) (this 1 q) (other 2 (omega arith)) (other 3 (omega arith))
-  register-is (suc (suc zero)) q =
+  register-is (suc (suc zero)) l q =
       with-registers (withRegister (frameAt w at) 2 v) refl refl refl refl refl (other 0 (omega arith)) (other 1 (omega arith)) (this 2 q) (other 3 (omega arith))
-  register-is (suc (suc (suc k))) q =
-      let three : m ≡ 3 = rw (le-ltb (suc (suc (suc k))) 3 (omega arith)) at q in
-      with-registers (withRegister (frameAt w at) 3 v) refl refl refl refl refl (other 0 (omega arith)) (other 1 (omega arith)) (other 2 (omega arith)) (this 3 three)
+  register-is (suc (suc (suc zero))) l q =
+      with-registers (withRegister (frameAt w at) 3 v) refl refl refl refl refl (other 0 (omega arith)) (other 1 (omega arith)) (other 2 (omega arith)) (this 3 q)
+  register-is (suc (suc (suc (suc k)))) l q = absurd (omega arith)
 
 -- a value's two words stored at a register's place set the register
-register-stored : (w : List ℕ) (at k t n : ℕ) (v : Value) → There w at → t ≡ tag v → n ≡ numberIn v
-    → Replaced w (set (set w (registerPlace at (least k 3)) t) (registerPlace at (least k 3) + 1) n) at (withRegister (frameIn w at) k v)
-register-stored w at k t n v h et en =
-    let low = least-three k in
-    let p = registerPlace at (least k 3) in
+register-stored : (w : List ℕ) (at k t n : ℕ) (v : Value) → There w at → k < registers → t ≡ tag v → n ≡ numberIn v
+    → Replaced w (set (set w (registerPlace at k) t) (registerPlace at k + 1) n) at (withRegister (frameIn w at) k v)
+register-stored w at k t n v h l et en =
+    let p = registerPlace at k in
     let one = set w p t in
     let w' = set one (p + 1) n in
     let o : Outside w w' p (p + 2) =
@@ -229,12 +225,12 @@ register-stored w at k t n v h et en =
     let first : getD w' p 0 ≡ t = getD-set-other one (p + 1) p n 0 (omega arith) ∙ getD-set-same w p t 0 (omega (arith, h .room, h .low)) in
     let second : getD w' (p + 1) 0 ≡ n = getD-set-same one (p + 1) n 0 (omega (arith, length-set w p t, h .room, h .low)) in
     replaced w w' at (withRegister (frameIn w at) k v) (h .low) (outside-wider w w' p (p + 2) (frameWords * at) (frameWords * at + 16) (omega arith) (omega arith) o)
-    (register-is w w' at (least k 3) v o (ap₂ valueOf (first ∙ et) (second ∙ en) ∙ value-back v) k refl
+    (register-is w w' at k v o (ap₂ valueOf (first ∙ et) (second ∙ en) ∙ value-back v) k l refl
     ∙ ap (λ f. withRegister f k v) (sym (frame-in w at (h .low))))
 
-pub register-set : (w : List ℕ) (at k p t n : ℕ) (v : Value) → There w at → p ≡ registerPlace at (least k 3) → t ≡ tag v → n ≡ numberIn v
+pub register-set : (w : List ℕ) (at k p t n : ℕ) (v : Value) → There w at → k < registers → p ≡ registerPlace at k → t ≡ tag v → n ≡ numberIn v
     → Replaced w (set (set w p t) (p + 1) n) at (withRegister (frameIn w at) k v)
-register-set w at k p t n v h ep et en = rw ep (register-stored w at k t n v h et en)
+register-set w at k p t n v h l ep et en = rw ep (register-stored w at k t n v h l et en)
 
 -- a step stored as the next
 pub step-set : (w : List ℕ) (at j : ℕ) → There w at → j < 256 → Replaced w (set w (frameWords * at + 2) j) at (atStep (frameIn w at) j)
@@ -249,7 +245,7 @@ step-set w at j h small =
       object = byte-kept w w' a (a + 1) at o (frameWords * at) (before (omega arith));
       name = byte-kept w w' a (a + 1) at o (frameWords * at + 1) (before (omega arith));
       next = ap (λ x. x % 256) (getD-set-same w a j 0 (omega (arith, h .room, h .low))) ∙ mod-eq-of-lt small;
-      into = byte-kept w w' a (a + 1) at o (frameWords * at + 3) (behind (omega arith));
+      into = number-kept w w' a (a + 1) at o (frameWords * at + 3) (behind (omega arith));
       returns = flag-kept w w' a (a + 1) at o (frameWords * at + 4) (behind (omega arith));
       r0 = register-kept w w' a (a + 1) at o 0 (behind (omega arith));
       r1 = register-kept w w' a (a + 1) at o 1 (behind (omega arith));
@@ -317,7 +313,7 @@ module _ (w : List ℕ) (i v0 v1 v2 v3 v4 : ℕ) where
       getD-set-same w4 (i + 4) v4 0 (omega (arith, h, long))
 
 -- the five words of another message's head
-pub head-set : (w : List ℕ) (at object name into flag : ℕ) (returns : Bool) → There w at → object < 256 → name < 256 → into < 256 → eqb flag 1 ≡ returns
+pub head-set : (w : List ℕ) (at object name into flag : ℕ) (returns : Bool) → There w at → object < 256 → name < 256 → into < registers → eqb flag 1 ≡ returns
     → Replaced w (five w (frameWords * at) object name 0 into flag) at (headed (frameIn w at) object name into returns)
 unfolding frameAt
 head-set w at object name into flag returns h so sn si ef =
@@ -331,7 +327,7 @@ head-set w at object name into flag returns h so sn si ef =
       object = ap (λ x. x % 256) (word-0 w i object name 0 into flag room) ∙ mod-eq-of-lt so;
       name = ap (λ x. x % 256) (word-1 w i object name 0 into flag room) ∙ mod-eq-of-lt sn;
       next = ap (λ x. x % 256) (word-2 w i object name 0 into flag room);
-      into = ap (λ x. x % 256) (word-3 w i object name 0 into flag room) ∙ mod-eq-of-lt si;
+      into = ap (λ x. x % registers) (word-3 w i object name 0 into flag room) ∙ mod-eq-of-lt si;
       returns = ap (λ x. eqb x 1) (word-4 w i object name 0 into flag room) ∙ ef;
       r0 = register-kept w w' i (i + 5) at o 0 (behind (omega arith));
       r1 = register-kept w w' i (i + 5) at o 1 (behind (omega arith));

@@ -8,7 +8,7 @@ use native.Mathlib.Omega.{arith}
 use borrow.Author.Tests.{ltb-true}
 use lib.ListN.{length, getD, set, List·getD-eq-default}
 use Rattle.lattice.proofs.Laws.Range.{not-both, and-left, and-right}
-use Rattle.session.specs.Limits.{names, fields}
+use Rattle.session.specs.Limits.{names, registers, fields}
 use Rattle.session.specs.Parts.{objectCount}
 use Rattle.session.specs.Meaning.{methodOf, stepAt}
 use Rattle.session.specs.Program.{Program, programOf}
@@ -58,17 +58,17 @@ last-height h move.Up e = absurd (not-both false e refl)
 last-height h move.Down e = absurd (not-both false e refl)
 last-height h (move.Pause x) e = refl
 
--- steps whose operands fit name fields and methods that there are
+-- steps whose operands fit name registers, fields and methods that there are
 fits-named : (count objects : ℕ) (i : Step) → operandsFit objects count i ≡ true → Named i
 unfolding operandsFit
 fits-named count objects op.End q = tt
-fits-named count objects (op.Set a n) q = tt
-fits-named count objects (op.Add a b) q = tt
-fits-named count objects (op.Jump a b) q = tt
-fits-named count objects (op.Read a b) q = ltb-true b fields (search (and-left, and-right, q))
-fits-named count objects (op.Write a b) q = ltb-true b fields (search (and-left, and-right, q))
-fits-named count objects (op.Send a b c) q = ltb-true b names (search (and-left, and-right, q))
-fits-named count objects (op.Quit a) q = tt
+fits-named count objects (op.Set a n) q = ltb-true a registers q
+fits-named count objects (op.Add a b) q = (ltb-true a registers (search (and-left, q)), ltb-true b registers (search (and-left, and-right, q)))
+fits-named count objects (op.Jump a b) q = ltb-true a registers (search (and-left, q))
+fits-named count objects (op.Read a b) q = (ltb-true a registers (search (and-left, q)), ltb-true b fields (search (and-left, and-right, q)))
+fits-named count objects (op.Write a b) q = (ltb-true a registers (search (and-left, q)), ltb-true b fields (search (and-left, and-right, q)))
+fits-named count objects (op.Send a b c) q = (ltb-true a registers (search (and-left, q)), ltb-true b names (search (and-left, and-right, q)))
+fits-named count objects (op.Quit a) q = ltb-true a registers q
 
 pub next-named : (s : List ℕ) → verdictOf s ≡ Accepted → (f : Frame) → Named (nextStep (programOf s) f)
 unfolding programOf

@@ -1,13 +1,14 @@
 -- The order of a log by write stamp: how halving finds the versions not above a bound, and that a read up to the bound takes the newest of
 -- those. Assumes nothing.
-use Prim.Native.Nat.{ℕ, zero, suc, _+_, _*_, _/_, _%_, _^_, _≤_, _<_}
-use mathlib.Core.Path.{_≡_, refl, _∙_, ap}
+use Prim.Native.Nat.{ℕ, zero, suc, _+_, _-_, _*_, _/_, _%_, _^_, _≤_, _<_}
+use mathlib.Core.Path.{_≡_, refl, sym, _∙_, ap}
 use mathlib.Core.Bool.{Bool, true, false, _&&_}
 use mathlib.Core.List.{List}
 use native.Mathlib.Decide.{decLt}
 use native.Mathlib.Nat.{le-trans}
 use native.Mathlib.Omega.{arith}
-use borrow.Author.Tests.{le-leb, lt-leb}
+use borrow.Author.Tests.{lt-ltb, le-ltb, le-leb, lt-leb}
+use lib.Dec.{ltb}
 use lib.ListN.{getD}
 use Rattle.session.specs.declared.Value.{Value}
 use Rattle.model.specs.Level.{isOf, newest, newestTo}
@@ -28,6 +29,12 @@ module _ (w : List ℕ) (start i bound : ℕ) where
   unfolding versionOf
   stamp-high h = rw stamp-of (omega arith)
 
+  pub stamp-test : ltb (2 * bound + 1) (getD w (start + 2 * i) 0 % 2 ^ 17) ≡ ltb bound (stampAt w start i)
+  stamp-test = elim (decLt (2 * bound + 1) (getD w (start + 2 * i) 0 % 2 ^ 17)) [
+    | yes h ↦ lt-ltb (2 * bound + 1) (getD w (start + 2 * i) 0 % 2 ^ 17) h ∙ sym (lt-ltb bound (stampAt w start i) (stamp-high h))
+    | no h ↦ le-ltb (2 * bound + 1) (getD w (start + 2 * i) 0 % 2 ^ 17) (omega (arith, h)) ∙ sym (le-ltb bound (stampAt w start i) (stamp-low (omega (arith, h))))
+  ]
+
 -- the versions before `low` are not above the bound, and those from `high` on are
 pub record Bracket (w : List ℕ) (start n bound low high : ℕ) : Type 0 where
   pub ordered : low ≤ high
@@ -42,6 +49,15 @@ bracket-all w start n bound =
       within = omega arith;
       before = λ i h. absurd (omega arith);
       after = λ i h l. absurd (omega arith);
+    }
+
+-- where stamps never fall, the versions beside a place tell whether it is the one
+pub partition-beside : (w : List ℕ) (start n bound r : ℕ) → StampsRise w start n → r ≤ n → (0 < r → stampAt w start (r - 1) ≤ bound) → (r < n → bound < stampAt w start r) → PartitionPoint w start n bound r
+partition-beside w start n bound r rise h low high =
+    record {
+      within = h;
+      before = λ i l. le-trans (rise i (r - 1) (omega arith) (omega arith)) (low (omega arith));
+      after = λ i l k. le-trans (high (omega arith)) (rise r i l k);
     }
 
 module _ {w : List ℕ} {start n bound low high : ℕ} (b : Bracket w start n bound low high) where

@@ -45,8 +45,8 @@ write-requires c κs =
     let s = c .before .before .before .before .before .before .before .before .before .before .before .before .before .before .before .before .before .before .before .before .before .before .before .before in
     write-ready (s .args .session .now) (s .args .masks .now) (s .args .index .now) (s .pre .0) (record { current = s .args .current .now; ended = s .args .ended .now; tallies = s .args .tallies .now; queue = s .args .queue .now; work = s .args .work .now }) (s .args .level) (s .args .m) (s .args .stack .now) (s .pre .1 .0) (s .pre .1 .1) _ (c .before .before .before .before .before .before .before .before .before .before .before .before .advance .result) (c .before .before .before .before .before .before .before .before .before .before .before .before .advance .ensures) (c .before .before .before .before .before .before .before .before .event2 .given .0 .0) (c .before .before .before .before .before .before .before .before .event2 .given .0 .1 .0) (c .before .before .before .before .before .before .before .before .event2 .given .0 .1 .1 .0) (c .before .before .before .before .before .before .before .before .event2 .given .1) (omega (arith, c .before .before .before .before .before .if1 .left))
 
-add-t72 : tie.Need-add-t72
-add-t72 c = search needs
+add-t77 : tie.Need-add-t77
+add-t77 c = search needs
 
 enum-known-event-3 : tie.Need-enum-known-event-3
 enum-known-event-3 c = search needs
@@ -54,7 +54,8 @@ enum-known-event-3 c = search needs
 field-of-requires : tie.Need-field-of-requires
 field-of-requires c κs =
     let s = c .before .before .before .before .before .before .before .before .before .before .before .before .before .before .before .before .before .before .before .before .before in
-    (s .pre .0 .leveled, (read-busy (s .args .session .now) (s .args .masks .now) (s .args .index .now) (s .pre .0) (record { current = s .args .current .now; ended = s .args .ended .now; tallies = s .args .tallies .now; queue = s .args .queue .now; work = s .args .work .now }) (s .args .level) (s .args .m) (s .args .stack .now) (s .pre .1 .0) (s .pre .1 .1) _ (c .before .before .before .before .before .before .before .before .before .advance .result) (c .before .before .before .before .before .before .before .before .before .advance .ensures) (c .before .before .before .before .before .event3 .given .0 .0) (c .before .before .before .before .before .event3 .given .0 .1 .0) (c .before .before .before .before .before .event3 .given .0 .1 .1 .0) (c .before .before .before .before .before .event3 .given .1), event-present (s .args .session .now) (s .args .masks .now) (s .args .index .now) (s .pre .0) (record { current = s .args .current .now; ended = s .args .ended .now; tallies = s .args .tallies .now; queue = s .args .queue .now; work = s .args .work .now }) (s .args .level) (s .args .m) (s .args .stack .now) (s .pre .1 .0) (s .pre .1 .1) _ (c .before .before .before .before .before .before .before .before .before .advance .result) (c .before .before .before .before .before .before .before .before .before .advance .ensures) (Read (c .before .before .before .before .before .event3 .given .0 .0) (c .before .before .before .before .before .event3 .given .0 .1 .0) (c .before .before .before .before .before .event3 .given .0 .1 .1 .0)) (c .before .before .before .before .before .event3 .given .1)))
+    let there = event-present (s .args .session .now) (s .args .masks .now) (s .args .index .now) (s .pre .0) (record { current = s .args .current .now; ended = s .args .ended .now; tallies = s .args .tallies .now; queue = s .args .queue .now; work = s .args .work .now }) (s .args .level) (s .args .m) (s .args .stack .now) (s .pre .1 .0) (s .pre .1 .1) _ (c .before .before .before .before .before .before .before .before .before .advance .result) (c .before .before .before .before .before .before .before .before .before .advance .ensures) (Read (c .before .before .before .before .before .event3 .given .0 .0) (c .before .before .before .before .before .event3 .given .0 .1 .0) (c .before .before .before .before .before .event3 .given .0 .1 .1 .0)) (c .before .before .before .before .before .event3 .given .1) in
+    (s .pre .0 .leveled, (read-busy (s .args .session .now) (s .args .masks .now) (s .args .index .now) (s .pre .0) (record { current = s .args .current .now; ended = s .args .ended .now; tallies = s .args .tallies .now; queue = s .args .queue .now; work = s .args .work .now }) (s .args .level) (s .args .m) (s .args .stack .now) (s .pre .1 .0) (s .pre .1 .1) _ (c .before .before .before .before .before .before .before .before .before .advance .result) (c .before .before .before .before .before .before .before .before .before .advance .ensures) (c .before .before .before .before .before .event3 .given .0 .0) (c .before .before .before .before .before .event3 .given .0 .1 .0) (c .before .before .before .before .before .event3 .given .0 .1 .1 .0) (c .before .before .before .before .before .event3 .given .1), (there .0, there .1)))
 
 cast-set-register : tie.Need-cast-set-register
 cast-set-register c = search needs
@@ -68,7 +69,8 @@ sub-set-register c =
 set-register-requires : tie.Need-set-register-requires
 set-register-requires c κs =
     let s = c .before .before .before .before .before .before .before .before .before .before .before .before .before .before .before .before .before .before .before .before .before .before .before .before in
-    event-there (s .args .session .now) (s .args .masks .now) (s .args .index .now) (s .pre .0) (record { current = s .args .current .now; ended = s .args .ended .now; tallies = s .args .tallies .now; queue = s .args .queue .now; work = s .args .work .now }) (s .args .level) (s .args .m) (s .args .stack .now) (s .pre .1 .0) (s .pre .1 .1) _ (c .before .before .before .before .before .before .before .before .before .before .before .before .advance .result) (c .before .before .before .before .before .before .before .before .before .before .before .before .advance .ensures) (Read (c .before .before .before .before .before .before .before .before .event3 .given .0 .0) (c .before .before .before .before .before .before .before .before .event3 .given .0 .1 .0) (c .before .before .before .before .before .before .before .before .event3 .given .0 .1 .1 .0)) (c .before .before .before .before .before .before .before .before .event3 .given .1) refl
+    let named = event-present (s .args .session .now) (s .args .masks .now) (s .args .index .now) (s .pre .0) (record { current = s .args .current .now; ended = s .args .ended .now; tallies = s .args .tallies .now; queue = s .args .queue .now; work = s .args .work .now }) (s .args .level) (s .args .m) (s .args .stack .now) (s .pre .1 .0) (s .pre .1 .1) _ (c .before .before .before .before .before .before .before .before .before .before .before .before .advance .result) (c .before .before .before .before .before .before .before .before .before .before .before .before .advance .ensures) (Read (c .before .before .before .before .before .before .before .before .event3 .given .0 .0) (c .before .before .before .before .before .before .before .before .event3 .given .0 .1 .0) (c .before .before .before .before .before .before .before .before .event3 .given .0 .1 .1 .0)) (c .before .before .before .before .before .before .before .before .event3 .given .1) in
+    (event-there (s .args .session .now) (s .args .masks .now) (s .args .index .now) (s .pre .0) (record { current = s .args .current .now; ended = s .args .ended .now; tallies = s .args .tallies .now; queue = s .args .queue .now; work = s .args .work .now }) (s .args .level) (s .args .m) (s .args .stack .now) (s .pre .1 .0) (s .pre .1 .1) _ (c .before .before .before .before .before .before .before .before .before .before .before .before .advance .result) (c .before .before .before .before .before .before .before .before .before .before .before .before .advance .ensures) (Read (c .before .before .before .before .before .before .before .before .event3 .given .0 .0) (c .before .before .before .before .before .before .before .before .event3 .given .0 .1 .0) (c .before .before .before .before .before .before .before .before .event3 .given .0 .1 .1 .0)) (c .before .before .before .before .before .before .before .before .event3 .given .1) refl, named .2)
 
 enum-known-event-4 : tie.Need-enum-known-event-4
 enum-known-event-4 c = search needs
@@ -100,8 +102,8 @@ fork-requires c κs =
     let s = c .before .before .before .before .before .before .before .before .before .before .before .before .before .before .before .before .before .before .before .before .before .before .before in
     fork-ready (s .args .session .now) (s .args .masks .now) (s .args .index .now) (s .pre .0) (record { current = s .args .current .now; ended = s .args .ended .now; tallies = s .args .tallies .now; queue = s .args .queue .now; work = s .args .work .now }) (s .args .level) (s .args .m) (s .args .stack .now) (s .pre .1 .0) (s .pre .1 .1) _ (c .before .before .before .before .before .before .before .before .before .before .before .advance .result) (c .before .before .before .before .before .before .before .before .before .before .before .advance .ensures) (c .before .before .before .before .before .before .before .event4 .given .0 .0) (c .before .before .before .before .before .before .before .event4 .given .0 .1 .0) (c .before .before .before .before .before .before .before .event4 .given .0 .1 .1 .0) (c .before .before .before .before .before .before .before .event4 .given .0 .1 .1 .1 .0) (c .before .before .before .before .before .before .before .event4 .given .1) (omega (arith, c .before .before .before .before .if2 .left))
 
-add-t101 : tie.Need-add-t101
-add-t101 c = search needs
+add-t115 : tie.Need-add-t115
+add-t115 c = search needs
 
 same-length-5 : tie.Need-same-length-5
 same-length-5 c = search needs
@@ -160,7 +162,7 @@ same-length-17 c = search needs
 returns-6 : tie.Need-returns-6
 returns-6 c =
     let s = c .before .before .before .before .before .before .before .before .before .before .before .before .before .before .before .before .before .before .before .before .before .before .before .before .before .before .before in
-    gone-read (s .args .session .now) (s .args .masks .now) (s .args .index .now) (s .pre .0) (record { current = s .args .current .now; ended = s .args .ended .now; tallies = s .args .tallies .now; queue = s .args .queue .now; work = s .args .work .now }) (s .args .level) (s .args .m) (s .args .stack .now) (s .pre .1 .0) (s .pre .1 .1) _ (c .before .before .before .before .before .before .before .before .before .before .before .before .before .before .before .advance .result) (c .before .before .before .before .before .before .before .before .before .before .before .before .before .before .before .advance .ensures) (c .before .before .before .before .before .before .before .before .before .before .before .event3 .given .0 .0) (c .before .before .before .before .before .before .before .before .before .before .before .event3 .given .0 .1 .0) (c .before .before .before .before .before .before .before .before .before .before .before .event3 .given .0 .1 .1 .0) (c .before .before .before .before .before .before .before .before .before .before .before .event3 .given .1) (c .before .before .before .before .before .field-of .result) (c .before .before .before .before .before .field-of .ensures) _ (c .before .before .set-register .ensures)
+    gone-read (s .args .session .now) (s .args .masks .now) (s .args .index .now) (s .pre .0) (record { current = s .args .current .now; ended = s .args .ended .now; tallies = s .args .tallies .now; queue = s .args .queue .now; work = s .args .work .now }) (s .args .level) (s .args .m) (s .args .stack .now) (s .pre .1 .0) (s .pre .1 .1) _ (c .before .before .before .before .before .before .before .before .before .before .before .before .before .before .before .advance .result) (c .before .before .before .before .before .before .before .before .before .before .before .before .before .before .before .advance .ensures) (c .before .before .before .before .before .before .before .before .before .before .before .event3 .given .0 .0) (c .before .before .before .before .before .before .before .before .before .before .before .event3 .given .0 .1 .0) (c .before .before .before .before .before .before .before .before .before .before .before .event3 .given .0 .1 .1 .0) (c .before .before .before .before .before .before .before .before .before .before .before .event3 .given .1) (c .before .before .before .before .before .field-of .result .value) (c .before .before .before .before .before .field-of .result .reach) (c .before .before .before .before .before .field-of .ensures) _ (c .before .before .set-register .ensures)
 
 same-length-18 : tie.Need-same-length-18
 same-length-18 c = search needs
@@ -193,7 +195,7 @@ go-on-spec =
     cast-stamp
     add-stamp
     write-requires
-    add-t72
+    add-t77
     enum-known-event-3
     field-of-requires
     cast-set-register
@@ -207,7 +209,7 @@ go-on-spec =
     add-stamp-2
     cast-fork
     fork-requires
-    add-t101
+    add-t115
     same-length-5
     same-length-6
     returns-3

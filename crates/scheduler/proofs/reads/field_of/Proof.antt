@@ -58,7 +58,7 @@ returns-2 : tie.Need-returns-2
 returns-2 c =
     let at = c .before .before .before .before .before in
     let p = at .before .before .before .before .before .before .before .before .pre in
-    read-version (p .0) (p .1 .0) (p .1 .1) (at .level-of .ensures) (c .before .before .before .before .if1 .left) (c .before .before .bound-of .ensures) (c .before .before .before .field-of .ensures) (c .newest-to .ensures)
+    read-version (p .0) (p .1 .0) (p .1 .1) (at .level-of .ensures) (c .before .before .before .before .if1 .left) (c .before .before .bound-of .ensures) (c .before .before .before .field-of .ensures) (c .newest-to .ensures .0)
 
 pub field-of-spec : {M : Type 1} → statement M
 field-of-spec =

@@ -22,7 +22,7 @@ mul-stack-2 : tie.Need-mul-stack-2
 mul-stack-2 c = search needs
 
 slice-write-stack-2 : tie.Need-slice-write-stack-2
-slice-write-stack-2 c = simp length-set (omega (arith, c .before .pre .room, c .before .pre .low))
+slice-write-stack-2 c = simp length-set (omega (arith, c .before .pre .0 .room, c .before .pre .0 .low))
 
 add-stack-2 : tie.Need-add-stack-2
 add-stack-2 c = search needs
@@ -31,7 +31,7 @@ mul-stack-3 : tie.Need-mul-stack-3
 mul-stack-3 c = search needs
 
 slice-write-stack-3 : tie.Need-slice-write-stack-3
-slice-write-stack-3 c = simp length-set (omega (arith, c .before .pre .room, c .before .pre .low))
+slice-write-stack-3 c = simp length-set (omega (arith, c .before .pre .0 .room, c .before .pre .0 .low))
 
 add-stack-3 : tie.Need-add-stack-3
 add-stack-3 c = search needs
@@ -40,7 +40,7 @@ mul-stack-4 : tie.Need-mul-stack-4
 mul-stack-4 c = search needs
 
 slice-write-stack-4 : tie.Need-slice-write-stack-4
-slice-write-stack-4 c = simp length-set (omega (arith, c .before .pre .room, c .before .pre .low))
+slice-write-stack-4 c = simp length-set (omega (arith, c .before .pre .0 .room, c .before .pre .0 .low))
 
 flag-of-requires : tie.Need-flag-of-requires
 flag-of-requires c κs = search needs
@@ -52,7 +52,7 @@ mul-stack-5 : tie.Need-mul-stack-5
 mul-stack-5 c = search needs
 
 slice-write-stack-5 : tie.Need-slice-write-stack-5
-slice-write-stack-5 c = simp length-set (omega (arith, c .before .before .pre .room, c .before .before .pre .low))
+slice-write-stack-5 c = simp length-set (omega (arith, c .before .before .pre .0 .room, c .before .before .pre .0 .low))
 
 same-length : tie.Need-same-length
 same-length c = search needs
@@ -60,7 +60,7 @@ same-length c = search needs
 returns : tie.Need-returns
 returns c = let s = c .before .before in
     let g = s .args in
-    head-set (g .stack .now) (g .at) (g .object) (g .name) (g .into) (c .flag-of .result) (g .returns) (s .pre) (s .fits .object .fits) (s .fits .name .fits) (s .fits .into .fits) (c .flag-of .ensures)
+    head-set (g .stack .now) (g .at) (g .object) (g .name) (g .into) (c .flag-of .result) (g .returns) (s .pre .0) (s .fits .object .fits) (s .fits .name .fits) (s .pre .1) (c .flag-of .ensures)
 
 pub head-spec : {M : Type 1} → statement M
 head-spec =

@@ -1,7 +1,5 @@
 -- `stacks::frames::place` meets its contract. Assumes nothing.
 use mathlib.Core.Path.{refl}
-use native.Mathlib.Omega.{arith}
-use borrow.Author.Tests.{lt-ltb, le-ltb}
 use borrow.Author.Needs.{needs}
 use Rattle.stacks.proofs.frames.place.Statement.{statement}
 use Rattle.stacks.proofs.frames.place.Tie as tie
@@ -18,27 +16,8 @@ mul-result-2 c = search needs
 add-result-2 : tie.Need-add-result-2
 add-result-2 c = search needs
 
-mul-result-3 : tie.Need-mul-result-3
-mul-result-3 c = search needs
-
-add-result-3 : tie.Need-add-result-3
-add-result-3 c = search needs
-
 returns : tie.Need-returns
-returns c = rw (lt-ltb (c .before .args .k) 3 (c .if1 .taken)) refl
-
-returns-2 : tie.Need-returns-2
-returns-2 c = rw (le-ltb (c .before .args .k) 3 (c .if1 .left)) (omega arith)
+returns c = refl
 
 pub place-spec : {M : Type 1} → statement M
-place-spec =
-    tie.close
-    (tie.spec
-    mul-result
-    add-result
-    mul-result-2
-    add-result-2
-    mul-result-3
-    add-result-3
-    returns
-    returns-2)
+place-spec = tie.close (tie.spec mul-result add-result mul-result-2 add-result-2 returns)

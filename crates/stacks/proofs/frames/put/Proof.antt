@@ -30,7 +30,7 @@ returns c = let e5 = c .before .before in
     let e1 = e2 .before .before .before .before in
     let s = e1 .before .before .before in
     let g = s .args in
-    frame-put (g .stack .now) (e1 .head .last .0) (e2 .set-register .last .0) (e3 .set-register2 .last .0) (e4 .set-register3 .last .0) (e5 .set-register4 .last .0) (g .at) (g .object) (g .name) (g .into) (g .returns) (g .parameter) (s .pre .low)
+    frame-put (g .stack .now) (e1 .head .last .0) (e2 .set-register .last .0) (e3 .set-register2 .last .0) (e4 .set-register3 .last .0) (e5 .set-register4 .last .0) (g .at) (g .object) (g .name) (g .into) (g .returns) (g .parameter) (s .pre .0 .low)
     (e1 .head .ensures) (e2 .set-register .ensures) (e3 .set-register2 .ensures) (e4 .set-register3 .ensures) (e5 .set-register4 .ensures)
 
 pub put-spec : {M : Type 1} → statement M

@@ -14,28 +14,43 @@ enum-known-step : tie.Need-enum-known-step
 enum-known-step c = search needs
 
 set-register-requires : tie.Need-set-register-requires
-set-register-requires c κs = search needs
+set-register-requires c κs =
+    let s = c .before .before .before .before .before .before .before .before in
+    let named = subst Named (c .before .before .step .given .1) (s .pre .1 .1) in
+    (s .pre .0 .there, named)
 
 enum-known-step-2 : tie.Need-enum-known-step-2
 enum-known-step-2 c = search needs
 
 register-requires : tie.Need-register-requires
-register-requires c κs = search needs
+register-requires c κs =
+    let s = c .before .before .before .before .before .before .before .before in
+    let named = subst Named (c .before .before .step2 .given .1) (s .pre .1 .1) in
+    (s .pre .0 .there, named .0)
 
 register-requires-2 : tie.Need-register-requires-2
-register-requires-2 c κs = search needs
+register-requires-2 c κs =
+    let s = c .before .before .before .before .before .before .before .before .before .before in
+    let named = subst Named (c .before .before .before .before .step2 .given .1) (s .pre .1 .1) in
+    (s .pre .0 .there, named .1)
 
 sum-requires : tie.Need-sum-requires
 sum-requires c κs = search needs
 
 set-register-requires-2 : tie.Need-set-register-requires-2
-set-register-requires-2 c κs = search needs
+set-register-requires-2 c κs =
+    let s = c .before .before .before .before .before .before .before .before .before .before .before .before .before in
+    let named = subst Named (c .before .before .before .before .before .before .before .step2 .given .1) (s .pre .1 .1) in
+    (s .pre .0 .there, named .0)
 
 enum-known-step-3 : tie.Need-enum-known-step-3
 enum-known-step-3 c = search needs
 
 jump-requires : tie.Need-jump-requires
-jump-requires c κs = search needs
+jump-requires c κs =
+    let s = c .before .before .before .before .before .before .before .before in
+    let named = subst Named (c .before .before .step3 .given .1) (s .pre .1 .1) in
+    (s .pre .0 .there, named)
 
 enum-known-step-4 : tie.Need-enum-known-step-4
 enum-known-step-4 c = search needs
@@ -43,7 +58,8 @@ enum-known-step-4 c = search needs
 read-requires : tie.Need-read-requires
 read-requires c κs =
     let s = c .before .before .before .before .before .before .before .before in
-    (s .pre .0, subst Named (c .before .before .step4 .given .1) (s .pre .1 .1))
+    let named = subst Named (c .before .before .step4 .given .1) (s .pre .1 .1) in
+    (s .pre .0, named .0, named .1)
 
 enum-known-step-5 : tie.Need-enum-known-step-5
 enum-known-step-5 c = search needs
@@ -51,7 +67,8 @@ enum-known-step-5 c = search needs
 write-requires : tie.Need-write-requires
 write-requires c κs =
     let s = c .before .before .before .before .before .before .before .before in
-    (s .pre .0, subst Named (c .before .before .step5 .given .1) (s .pre .1 .1))
+    let named = subst Named (c .before .before .step5 .given .1) (s .pre .1 .1) in
+    (s .pre .0, named .0, named .1)
 
 enum-known-step-6 : tie.Need-enum-known-step-6
 enum-known-step-6 c = search needs
@@ -59,13 +76,17 @@ enum-known-step-6 c = search needs
 send-requires : tie.Need-send-requires
 send-requires c κs =
     let s = c .before .before .before .before .before .before .before .before in
-    (s .pre .0, (subst (Aimed (s .args .session .now)) (c .before .before .step6 .given .1) (s .pre .1 .0), subst Named (c .before .before .step6 .given .1) (s .pre .1 .1)))
+    let named = subst Named (c .before .before .step6 .given .1) (s .pre .1 .1) in
+    (s .pre .0, named .0, (subst (Aimed (s .args .session .now)) (c .before .before .step6 .given .1) (s .pre .1 .0), named .1))
 
 enum-known-step-7 : tie.Need-enum-known-step-7
 enum-known-step-7 c = search needs
 
 quit-requires : tie.Need-quit-requires
-quit-requires c κs = search needs
+quit-requires c κs =
+    let s = c .before .before .before .before .before .before .before .before in
+    let named = subst Named (c .before .before .step7 .given .1) (s .pre .1 .1) in
+    (s .pre .0 .there, named)
 
 returns : tie.Need-returns
 returns c =

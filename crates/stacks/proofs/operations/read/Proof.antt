@@ -2,7 +2,7 @@
 use mathlib.Core.Path.{sym, _∙_}
 use mathlib.Core.Logic.{⊎-elim, inl, inr}
 use borrow.Author.Needs.{needs}
-use borrow.Author.Tests.{eqb-true}
+use borrow.Author.Tests.{eqb-true, not-false}
 use native.Mathlib.Omega.{arith}
 use Rattle.session.proofs.Laws.Contents.{object-limit}
 use Rattle.stacks.proofs.Laws.Moves.{read-operated, read-left}
@@ -18,6 +18,14 @@ cast-level-of c = search needs
 level-of-requires : tie.Need-level-of-requires
 level-of-requires c κs = search needs
 
+same-length : tie.Need-same-length
+same-length c = search needs
+
+returns : tie.Need-returns
+returns c =
+    let s = c .before .before .before .before .before .before .before .before .before in
+    read-left (s .args .session .now) (s .args .current .now) (s .args .all) (s .args .level) (s .args .at) (s .args .stack .now) (s .args .a) (s .args .b) (c .before .before .before .object .result) (c .before .before .before .object .ensures) (s .pre .0 .known .present) (s .pre .1) (s .pre .2)
+
 cast-get : tie.Need-cast-get
 cast-get c = search needs
 
@@ -28,31 +36,23 @@ get-requires c κs =
     record {
       room = k .fields-there;
       object = omega (arith, c .before .object .ensures, k .known .present, object-limit (s .args .session .now) (k .leveled .accepted));
-      field = s .pre .1;
+      field = s .pre .2;
     }
 
 set-register-requires : tie.Need-set-register-requires
 set-register-requires c κs = search needs
-
-same-length : tie.Need-same-length
-same-length c = search needs
-
-returns : tie.Need-returns
-returns c =
-    let s = c .before .before .before .before .before .before .before .before .before .before .before .before in
-    read-operated (s .args .session .now) (s .args .current .now) (s .args .all) (s .args .level) (s .args .at) (s .args .stack .now) _ (s .args .a) (s .args .b) (c .before .before .before .before .before .before .object .result) (c .before .before .before .before .get .result)
-    (c .before .before .before .before .before .before .object .ensures) (s .pre .0 .known .present) (s .pre .1)
-    (⊎-elim (λ t. inl (t .taken)) (λ t. inr (sym (t .1 .ensures) ∙ eqb-true _ _ (t .2 .taken))) (c .before .before .before .before .before .if1 .came))
-    (c .before .before .before .before .get .ensures)
-    (c .before .before .set-register .ensures)
 
 same-length-2 : tie.Need-same-length-2
 same-length-2 c = search needs
 
 returns-2 : tie.Need-returns-2
 returns-2 c =
-    let s = c .before .before .before .before .before .before .before .before .before in
-    read-left (s .args .session .now) (s .args .current .now) (s .args .all) (s .args .level) (s .args .at) (s .args .stack .now) (s .args .a) (s .args .b) (c .before .before .before .object .result) (c .before .before .before .object .ensures) (s .pre .0 .known .present) (s .pre .1)
+    let s = c .before .before .before .before .before .before .before .before .before .before .before .before in
+    read-operated (s .args .session .now) (s .args .current .now) (s .args .all) (s .args .level) (s .args .at) (s .args .stack .now) _ (s .args .a) (s .args .b) (c .before .before .before .before .before .before .object .result) (c .before .before .before .before .get .result)
+    (c .before .before .before .before .before .before .object .ensures) (s .pre .0 .known .present) (s .pre .2)
+    (⊎-elim (λ t. inr (sym (t .1 .ensures) ∙ eqb-true _ _ (not-false _ (t .2 .left)))) (λ t. inl (not-false _ (t .left))) (c .before .before .before .before .before .if1 .came))
+    (c .before .before .before .before .get .ensures)
+    (c .before .before .set-register .ensures)
 
 pub read-spec : {M : Type 1} → statement M
 read-spec =
@@ -61,10 +61,10 @@ read-spec =
     object-requires
     cast-level-of
     level-of-requires
+    same-length
+    returns
     cast-get
     get-requires
     set-register-requires
-    same-length
-    returns
     same-length-2
     returns-2)

@@ -59,7 +59,7 @@ cast-fork c =
     let e = sym (c .before .before .before .before .fate-of .ensures) ∙ c .before .before .fate .given .1 in
     omega (
       arith,
-      fork-present t (s .args .masks .now) lent _ _ (s .args .c) u (s .pre .0 .placed) (s .pre .1 .0) (rw (c .before .before .before .before .before .level-of2 .ensures) at e),
+      fork-present t (s .args .masks .now) lent _ _ (s .args .c) u (s .pre .0 .placed) (s .pre .2 .0) (rw (c .before .before .before .before .before .level-of2 .ensures) at e),
       few-levels t (accepted t (lent .accepted) .three),
     )
 
@@ -78,7 +78,7 @@ returns c =
     (c .before .before .before .before .before .before .before .before .level-of .result) (c .before .before .before .before .before .before .before .level-of2 .result) fate.Call _
     (c .before .before .before .before .before .before .before .before .level-of .ensures ∙ ap (levelOf t) (c .before .before .before .before .before .before .before .before .before .object .ensures)) (c .before .before .before .before .before .before .before .level-of2 .ensures)
     (sym (c .before .before .before .before .before .before .fate-of .ensures) ∙ c .before .before .before .before .enum-told .given .1)
-    (s .pre .1)
+    (s .pre .2)
     (c .before .before .call .ensures)
 
 same-length-2 : tie.Need-same-length-2
@@ -93,7 +93,7 @@ returns-2 c =
     (c .before .before .before .before .before .before .before .before .level-of .result) (c .before .before .before .before .before .before .before .level-of2 .result) fate.Discard _
     (c .before .before .before .before .before .before .before .before .level-of .ensures ∙ ap (levelOf t) (c .before .before .before .before .before .before .before .before .before .object .ensures)) (c .before .before .before .before .before .before .before .level-of2 .ensures)
     (sym (c .before .before .before .before .before .before .fate-of .ensures) ∙ c .before .before .before .before .enum-told2 .given .1)
-    (s .pre .1)
+    (s .pre .2)
     (c .before .before .call2 .ensures)
 
 same-length-3 : tie.Need-same-length-3
@@ -107,7 +107,7 @@ returns-3 c =
     (c .before .before .before .before .before .before .before .before .level-of .result) (c .before .before .before .before .before .before .before .level-of2 .result) fate.Block _
     (c .before .before .before .before .before .before .before .before .level-of .ensures ∙ ap (levelOf t) (c .before .before .before .before .before .before .before .before .before .object .ensures)) (c .before .before .before .before .before .before .before .level-of2 .ensures)
     (sym (c .before .before .before .before .before .before .fate-of .ensures) ∙ c .before .before .before .before .enum-told3 .given .1)
-    (s .pre .1)
+    (s .pre .2)
     (block-made (s .args .at) (s .args .stack .now) _ (s .args .a) (s .args .b) (s .args .c) (c .before .before .set-register .ensures))
 
 same-length-4 : tie.Need-same-length-4
@@ -122,7 +122,7 @@ returns-4 c =
     (c .before .before .before .before .before .before .before .before .before .level-of .result) (c .before .before .before .before .before .before .before .before .level-of2 .result) (fate.Fork (c .before .before .before .before .before .fate .given .0 .0)) _
     (c .before .before .before .before .before .before .before .before .before .level-of .ensures ∙ ap (levelOf t) (c .before .before .before .before .before .before .before .before .before .before .object .ensures)) (c .before .before .before .before .before .before .before .before .level-of2 .ensures)
     (sym (c .before .before .before .before .before .before .before .fate-of .ensures) ∙ c .before .before .before .before .before .fate .given .1)
-    (s .pre .1)
+    (s .pre .2)
     (c .before .before .fork .ensures)
 
 pub send-spec : {M : Type 1} → statement M

@@ -29,7 +29,7 @@ returns-2 c =
     let s = c .before .before .before .before .before .before .before .before in
     write-left (s .args .session .now) (s .args .current .now) (s .args .all) (s .args .level) (s .args .at) (s .args .stack .now) (s .args .a) (s .args .b) (c .before .before .before .object .result) (c .register .result)
     (ap (levelOf (s .args .session .now)) (sym (c .before .before .before .object .ensures)) ∙ sym (c .before .before .level-of .ensures) ∙ c .before .if1 .left)
-    (c .before .before .before .object .ensures) (c .register .ensures) (s .pre .0 .known .present) (s .pre .1)
+    (c .before .before .before .object .ensures) (c .register .ensures) (s .pre .0 .known .present) (s .pre .2)
 
 pub write-spec : {M : Type 1} → statement M
 write-spec =
