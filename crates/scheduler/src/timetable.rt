@@ -89,7 +89,6 @@ pub fn run(
         let Permit::Given = permit else {
             return refused_at(permit, i as u32);
         };
-        let m = managers[level];
         managers[level] = steps::step(
             session,
             masks,
@@ -100,7 +99,7 @@ pub fn run(
             queue,
             work,
             level,
-            m,
+            managers[level],
         );
     }
     if !tallies::all_ended(masks, tallies) {

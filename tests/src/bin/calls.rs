@@ -1,13 +1,15 @@
 //! Makes calls of one entry, and nothing else: for counting instructions.
-//! Arguments: library, reference or tuned; check, plain or depth-first; w,
-//! typical, forks or steps; number of calls.
+//! Arguments: library, reference or tuned; check, plain, timetabled or
+//! depth-first; w, typical, forks or steps; number of calls.
 
 use lupinpause_tests::ffi::Compiled;
 use lupinpause_tests::library::Library;
 use lupinpause_tests::limits::{RESULT_LENGTH, WORK_LENGTH};
+use lupinpause_tests::random::Random;
 use lupinpause_tests::reference::{Reference, Session};
-use lupinpause_tests::sessions;
+use lupinpause_tests::tally::Tally;
 use lupinpause_tests::tuned::Tuned;
+use lupinpause_tests::{sessions, timetables};
 use std::{env, hint::black_box, process::ExitCode};
 
 fn main() -> ExitCode {
@@ -32,7 +34,9 @@ fn main() -> ExitCode {
     let Ok(calls) = calls.parse::<u32>() else {
         return usage();
     };
-    let clearance = Session::read(&session).lattice.top().unwrap_or(0) as u32;
+    let read = Session::read(&session);
+    let clearance = read.lattice.top().unwrap_or(0) as u32;
+    let timetable = timetables::finishing(&mut Random::new(1), &read, &mut Tally::default());
     let mut work = vec![0; WORK_LENGTH];
     let mut result = vec![0; RESULT_LENGTH];
     for _ in 0..calls {
@@ -42,6 +46,11 @@ fn main() -> ExitCode {
             }
             "plain" => {
                 black_box(library.run_plain(&session, clearance, &mut work, &mut result));
+            }
+            "timetabled" => {
+                let answer =
+                    library.run_timetable(&session, &timetable, clearance, &mut work, &mut result);
+                black_box(answer);
             }
             "depth-first" => {
                 black_box(library.run_depth_first(&session, clearance, &mut result));
@@ -53,6 +62,8 @@ fn main() -> ExitCode {
 }
 
 fn usage() -> ExitCode {
-    eprintln!("library|reference|tuned check|plain|depth-first w|typical|forks|steps CALLS");
+    eprintln!(
+        "library|reference|tuned check|plain|timetabled|depth-first w|typical|forks|steps CALLS"
+    );
     ExitCode::FAILURE
 }

@@ -99,17 +99,17 @@ returns c =
     let l = c .before .before .before .before .before .before .before .before .loop in
     (list-refused (z .args .session .now) (z .args .masks .now) (z .pre .0 .leveled) (z .args .timetable .now) none (record { current = z .args .current .now; ended = z .args .ended .now; tallies = z .args .tallies .now; queue = z .args .queue .now; work = z .args .work .now }) (record { current = l .current; ended = l .ended; tallies = l .tallies; queue = l .queue; work = l .work }) (l .managers) (l .i) (l .inv) (c .before .before .before .before .before .before .before .loop-test .taken) (c .before .before .before .before .ask .result) (c .before .before .before .before .ask .ensures .0) (c .before .before .before .before .ask .last .1 .0) (c .before .before .before .before .ask .ensures .1) (not-given (c .before .before .before .before .ask .result) (c .before .match .keys2)) _ (c .refused-at .result) (c .refused-at .ensures), l .inv .rest)
 
-mul-m : tie.Need-mul-m Inv-loop μ-loop
-mul-m c =
-    let z = c .before .before .before .before .before .before .before .before .before .before .before .before .before .before .before .before .before .before .before in
-    let l = c .before .before .before .before .before .before .before .before .loop in
-    small _ (list-present (z .args .session .now) (z .args .masks .now) (z .pre .0 .leveled) (z .args .timetable .now) none (record { current = z .args .current .now; ended = z .args .ended .now; tallies = z .args .tallies .now; queue = z .args .queue .now; work = z .args .work .now }) (record { current = l .current; ended = l .ended; tallies = l .tallies; queue = l .queue; work = l .work }) (l .managers) (l .i) (l .inv) (c .before .before .before .before .before .before .before .loop-test .taken) (c .before .before .before .before .ask .result) (c .before .before .before .before .ask .ensures .0) (c .before .before .before .before .ask .last .1 .0) (c .before .before .before .before .ask .ensures .1) (c .enum-told .given .1))
+mul-step : tie.Need-mul-step Inv-loop μ-loop
+mul-step c =
+    let z = c .before .before .before .before .before .before .before .before .before .before .before .before .before .before .before .before .before .before .before .before .before .before .before .before in
+    let l = c .before .before .before .before .before .before .before .before .before .before .before .before .before .loop in
+    small _ (list-present (z .args .session .now) (z .args .masks .now) (z .pre .0 .leveled) (z .args .timetable .now) none (record { current = z .args .current .now; ended = z .args .ended .now; tallies = z .args .tallies .now; queue = z .args .queue .now; work = z .args .work .now }) (record { current = l .current; ended = l .ended; tallies = l .tallies; queue = l .queue; work = l .work }) (l .managers) (l .i) (l .inv) (c .before .before .before .before .before .before .before .before .before .before .before .before .loop-test .taken) (c .before .before .before .before .before .before .before .before .before .ask .result) (c .before .before .before .before .before .before .before .before .before .ask .ensures .0) (c .before .before .before .before .before .before .before .before .before .ask .last .1 .0) (c .before .before .before .before .before .before .before .before .before .ask .ensures .1) (c .before .before .before .before .before .enum-told .given .1))
 
-array-copy-out-m : tie.Need-array-copy-out-m Inv-loop μ-loop
-array-copy-out-m c =
-    let z = c .before .before .before .before .before .before .before .before .before .before .before .before .before .before .before .before .before .before .before in
-    let l = c .before .before .before .before .before .before .before .before .loop in
-    list-present (z .args .session .now) (z .args .masks .now) (z .pre .0 .leveled) (z .args .timetable .now) none (record { current = z .args .current .now; ended = z .args .ended .now; tallies = z .args .tallies .now; queue = z .args .queue .now; work = z .args .work .now }) (record { current = l .current; ended = l .ended; tallies = l .tallies; queue = l .queue; work = l .work }) (l .managers) (l .i) (l .inv) (c .before .before .before .before .before .before .before .loop-test .taken) (c .before .before .before .before .ask .result) (c .before .before .before .before .ask .ensures .0) (c .before .before .before .before .ask .last .1 .0) (c .before .before .before .before .ask .ensures .1) (c .enum-told .given .1)
+array-copy-out-step : tie.Need-array-copy-out-step Inv-loop μ-loop
+array-copy-out-step c =
+    let z = c .before .before .before .before .before .before .before .before .before .before .before .before .before .before .before .before .before .before .before .before .before .before .before .before in
+    let l = c .before .before .before .before .before .before .before .before .before .before .before .before .before .loop in
+    list-present (z .args .session .now) (z .args .masks .now) (z .pre .0 .leveled) (z .args .timetable .now) none (record { current = z .args .current .now; ended = z .args .ended .now; tallies = z .args .tallies .now; queue = z .args .queue .now; work = z .args .work .now }) (record { current = l .current; ended = l .ended; tallies = l .tallies; queue = l .queue; work = l .work }) (l .managers) (l .i) (l .inv) (c .before .before .before .before .before .before .before .before .before .before .before .before .loop-test .taken) (c .before .before .before .before .before .before .before .before .before .ask .result) (c .before .before .before .before .before .before .before .before .before .ask .ensures .0) (c .before .before .before .before .before .before .before .before .before .ask .last .1 .0) (c .before .before .before .before .before .before .before .before .before .ask .ensures .1) (c .before .before .before .before .before .enum-told .given .1)
 
 step-requires : tie.Need-step-requires Inv-loop μ-loop
 step-requires c κs =
@@ -196,4 +196,4 @@ returns-3 c =
 pub run-spec : {M : Type 1} → statement M
 run-spec =
     tie.close
-    (tie.spec Inv-loop μ-loop no-manager-requires loop-holds shared-slice-read-level cast-level ask-requires enum-told cast-refused-at refused-at-requires same-length same-length-2 same-length-3 same-length-4 same-length-5 returns mul-m array-copy-out-m step-requires mul-managers array-set-from-managers add-i loop-less loop-again all-ended-requires same-length-6 same-length-7 same-length-8 same-length-9 same-length-10 returns-2 same-length-11 same-length-12 same-length-13 same-length-14 same-length-15 returns-3)
+    (tie.spec Inv-loop μ-loop no-manager-requires loop-holds shared-slice-read-level cast-level ask-requires enum-told cast-refused-at refused-at-requires same-length same-length-2 same-length-3 same-length-4 same-length-5 returns mul-step array-copy-out-step step-requires mul-managers array-set-from-managers add-i loop-less loop-again all-ended-requires same-length-6 same-length-7 same-length-8 same-length-9 same-length-10 returns-2 same-length-11 same-length-12 same-length-13 same-length-14 same-length-15 returns-3)
