@@ -1,18 +1,6 @@
--- Laws of the words of a run: what the proofs of this crate cite.
-pub mod Permits
-pub mod Told
-pub mod Write
-pub mod Arrive
-pub mod Settle
-pub mod Begin
-pub mod Advance
-pub mod Ready
-pub mod Step
-pub mod Reads
-pub mod Made
+-- Laws of the runs: what the proofs of this crate cite.
 pub mod Start
 pub mod Entry
-pub mod Asked
 pub mod Listed
 pub mod Level
 pub mod Lagging

@@ -17,8 +17,8 @@ use Rattle.model.specs.Schedule.{question14, Leads}
 use Rattle.stacks.specs.Stack.{stackWords, framesOf}
 use Rattle.stacks.specs.Course.{managerOf, settledOf}
 use Rattle.stacks.specs.declared.Course.{Course}
-use Rattle.scheduler.specs.Kept.{Words, waitingPlace, busyPlace, Roomy, Says, placed}
-use Rattle.scheduler.specs.Steps.{SettleReady, Closed, Settled}
+use Rattle.level_managers.specs.Kept.{Words, waitingPlace, busyPlace, Roomy, Says, placed}
+use Rattle.level_managers.specs.Steps.{SettleReady, Closed, Settled}
 use Rattle.scheduler.specs.Runs.{SameRest}
 
 -- the level is being run, from state from: m is the only manager that may run

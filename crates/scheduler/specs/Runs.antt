@@ -21,11 +21,11 @@ use Rattle.records.specs.Limits.{fieldWords, historyWords}
 use Rattle.records.specs.Writing.{resultIn, bytesIn, Written}
 use Rattle.records.specs.declared.Answer.{Answer}
 use Rattle.queues.specs.Queue.{queueWords}
-use Rattle.scheduler.specs.Kept.{Words, Told, Says}
-use Rattle.scheduler.specs.Permits.{numberOfPermit}
+use Rattle.level_managers.specs.Kept.{Words, Told, Says}
+use Rattle.level_managers.specs.Permits.{numberOfPermit}
 use Rattle.scheduler.specs.declared.Outcome.{Outcome}
 use Rattle.scheduler.specs.declared.Outcome.the-variants as outcome
-use Rattle.scheduler.specs.declared.tallies.Permit.{Permit}
+use Rattle.level_managers.specs.declared.tallies.Permit.{Permit}
 
 -- the lowest of questions 1 to 11 that says no, or 0, of any request with this session, this clearance and slices of these lengths
 abbrev pub EntryRefusal : List ℕ → ℕ → ℕ → ℕ → ℕ → Type 0

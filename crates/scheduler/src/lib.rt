@@ -1,8 +1,5 @@
 // The timetabled run and the plain run.
 mod plain;
-mod reads;
-mod steps;
-mod tallies;
 mod timetable;
 
 use records::Answer;

@@ -1,8 +1,8 @@
 // The plain run: each scheduler step by the lowest-numbered level that may step.
-use crate::reads;
-use crate::steps;
-use crate::tallies;
-use crate::tallies::Permit;
+use level_managers::reads;
+use level_managers::steps;
+use level_managers::tallies;
+use level_managers::tallies::Permit;
 use managers::Ending;
 use records::histories;
 use session::Message;
@@ -10,8 +10,8 @@ use stacks::Course;
 use stacks::Event;
 use stacks::frames;
 ghost use mathlib.Core.Path.{_≡_};
-ghost use Rattle.scheduler.specs.Permits.{isGiven};
-ghost use Rattle.scheduler.specs.Steps.{Read};
+ghost use Rattle.level_managers.specs.Permits.{isGiven};
+ghost use Rattle.level_managers.specs.Steps.{Read};
 ghost use Rattle.scheduler.specs.Runs.{startOf, Rests, LevelReady, LevelDone, Done, SameRest};
 ghost use Rattle.scheduler.specs.Running.{Goes, Lags, Gone, CloseReady, Closes, NextReady, NextDone};
 

@@ -1,8 +1,8 @@
 // A run by a timetable: one scheduler step for each of its bytes.
 use crate::Outcome;
-use crate::steps;
-use crate::tallies;
-use crate::tallies::Permit;
+use level_managers::steps;
+use level_managers::tallies;
+use level_managers::tallies::Permit;
 use managers::Ending;
 use managers::Frame;
 use managers::Manager;
@@ -10,8 +10,8 @@ use session::Value;
 ghost use mathlib.Core.Path.{_≡_};
 ghost use mathlib.Core.Bool.{false};
 ghost use Rattle.managers.specs.Manager.{isRunning};
-ghost use Rattle.scheduler.specs.Permits.{numberOfPermit};
-ghost use Rattle.scheduler.specs.Steps.{Read};
+ghost use Rattle.level_managers.specs.Permits.{numberOfPermit};
+ghost use Rattle.level_managers.specs.Steps.{Read};
 ghost use Rattle.scheduler.specs.Runs.{startOf, Rests, RefusedAt, Ends, SameRest};
 
 // Document 01's number of what questions 12 to 14 say.

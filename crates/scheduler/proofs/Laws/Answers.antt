@@ -29,7 +29,7 @@ use Rattle.records.specs.declared.Answer.{Answer}
 use Rattle.records.proofs.Laws.Depends.{bytes-depend-by-number}
 use Rattle.records.proofs.Laws.Orders.{by-number-shown}
 use Rattle.versions.proofs.Laws.Cleared.{cleared-rest}
-use Rattle.scheduler.specs.Kept.{Words, Told}
+use Rattle.level_managers.specs.Kept.{Words, Told}
 use Rattle.scheduler.specs.Runs.{EntryRefusal, Refused, SameRest, Ends, Done, RefusedBy, Shows, ListDone, PlainDone}
 use Rattle.scheduler.specs.declared.Outcome as code
 use Rattle.scheduler.specs.declared.Outcome.the-variants as outcome

@@ -40,12 +40,12 @@ use Rattle.stacks.specs.declared.Course.{Course}
 use Rattle.stacks.specs.declared.Event.{Event}
 use Rattle.stacks.specs.declared.Event.the-variants as event
 use Rattle.stacks.specs.declared.Pause.{Pause}
-use Rattle.scheduler.specs.Kept.{Words, waitingPlace, versionsPlace, busyPlace, placed}
-use Rattle.scheduler.specs.Steps.{Read, IsBusy, ReadIs, WriteReady, Wrote, ForkReady, Forked, Parts, EffectReady, EffectDone}
+use Rattle.level_managers.specs.Kept.{Words, waitingPlace, versionsPlace, busyPlace, placed}
+use Rattle.level_managers.specs.Steps.{Read, IsBusy, ReadIs, WriteReady, Wrote, ForkReady, Forked, Parts, EffectReady, EffectDone}
 use Rattle.scheduler.specs.Running.{Draining, Lagging, courseIn, Goes, Lags, Gone}
-use Rattle.scheduler.proofs.Laws.Ready.{settle-after}
-use Rattle.scheduler.proofs.Laws.Step.{rest-effect}
-use Rattle.scheduler.proofs.Laws.Made.{partsOf}
+use Rattle.level_managers.proofs.Laws.Ready.{settle-after}
+use Rattle.level_managers.proofs.Laws.Step.{rest-effect}
+use Rattle.level_managers.proofs.Laws.Made.{partsOf}
 use Rattle.scheduler.proofs.Laws.Lagging.{Running, quiet-runs, running-busy, running-effect, running-step, running-quiet, lag-quiet, lag-running, running-start, running-sees}
 use Rattle.scheduler.proofs.Laws.Events.{on, nearBy, spent, writes-field, writes-none, reads-field, forks-message, forks-none}
 

@@ -38,14 +38,14 @@ use Rattle.model.proofs.Laws.Code.Direct.{step-advance}
 use Rattle.stacks.specs.Pauses.{Quietly}
 use Rattle.stacks.specs.Moves.{Sees}
 use Rattle.records.specs.Fields.{fieldAt}
-use Rattle.scheduler.specs.Kept.{Words, busyPlace, Runs, LevelTold, Says, placed}
-use Rattle.scheduler.specs.Permits.{managed}
-use Rattle.scheduler.specs.Steps.{Busy, IsBusy, Parts, EffectReady, EffectDone, Settled, SettleReady}
+use Rattle.level_managers.specs.Kept.{Words, busyPlace, Runs, LevelTold, Says, placed}
+use Rattle.level_managers.specs.Permits.{managed}
+use Rattle.level_managers.specs.Steps.{Busy, IsBusy, Parts, EffectReady, EffectDone, Settled, SettleReady}
 use Rattle.scheduler.specs.Running.{Draining, Lagging}
-use Rattle.scheduler.proofs.Laws.Made.{partsOf, settled-on}
-use Rattle.scheduler.proofs.Laws.Ready.{told-runs, effect-ready}
-use Rattle.scheduler.proofs.Laws.Settle.{placed-own, placed-other}
-use Rattle.scheduler.proofs.Laws.Step.{says-live, says-advance}
+use Rattle.level_managers.proofs.Laws.Made.{partsOf, settled-on}
+use Rattle.level_managers.proofs.Laws.Ready.{told-runs, effect-ready}
+use Rattle.level_managers.proofs.Laws.Settle.{placed-own, placed-other}
+use Rattle.level_managers.proofs.Laws.Step.{says-live, says-advance}
 use Rattle.scheduler.proofs.Laws.Level.{drain-on, drain-on-state, drain-allowed}
 
 -- a step depends on what is read only

@@ -25,15 +25,15 @@ use Rattle.model.proofs.Laws.Invariant.Tame.{move-falls}
 use Rattle.model.proofs.Laws.Invariant.Became.{level-stepped}
 use Rattle.model.proofs.Laws.Code.Live.{Live, present}
 use Rattle.model.proofs.Laws.Code.Progress.{allowed, refusal-none, unmanaged-idle, activity-stays, clear-stays, leads-none, leads-more}
-use Rattle.scheduler.specs.Kept.{Words, busyPlace, tallyNumbers, Runs, LevelTold, Told, Says, placed}
-use Rattle.scheduler.specs.Permits.{managed}
-use Rattle.scheduler.specs.Steps.{startedOf, Stepping, MayStep, StepDone}
+use Rattle.level_managers.specs.Kept.{Words, busyPlace, tallyNumbers, Runs, LevelTold, Told, Says, placed}
+use Rattle.level_managers.specs.Permits.{managed}
+use Rattle.level_managers.specs.Steps.{startedOf, Stepping, MayStep, StepDone}
 use Rattle.scheduler.specs.Runs.{Rests, SameRest, LevelReady, LevelRun, LevelDone}
 use Rattle.scheduler.specs.Running.{Draining}
-use Rattle.scheduler.proofs.Laws.Told.{started-is, told-idle}
-use Rattle.scheduler.proofs.Laws.Settle.{placed-own, placed-other}
-use Rattle.scheduler.proofs.Laws.Step.{says-live}
-use Rattle.scheduler.proofs.Laws.Asked.{told-managed}
+use Rattle.level_managers.proofs.Laws.Told.{started-is, told-idle}
+use Rattle.level_managers.proofs.Laws.Settle.{placed-own, placed-other}
+use Rattle.level_managers.proofs.Laws.Step.{says-live}
+use Rattle.level_managers.proofs.Laws.Asked.{told-managed}
 use Rattle.scheduler.proofs.Laws.Listed.{says-held}
 
 -- the scheduler steps that a level has left, by what is counted and the manager that runs

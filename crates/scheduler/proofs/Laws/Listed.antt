@@ -23,17 +23,17 @@ use Rattle.model.proofs.Laws.Order.Accepted.{sound}
 use Rattle.model.proofs.Laws.Order.PlainRun.{read-in-total}
 use Rattle.model.proofs.Laws.Invariant.Tame.{total, step-less}
 use Rattle.model.proofs.Laws.Code.Progress.{allowed, run-made, run-stops, run-ends, run-unended}
-use Rattle.scheduler.specs.Kept.{Words, Told, Says, placed}
-use Rattle.scheduler.specs.Permits.{numberOfPermit, endedOf, permitOf, noted, Countable}
-use Rattle.scheduler.specs.Steps.{Stepping, MayStep, StepDone}
+use Rattle.level_managers.specs.Kept.{Words, Told, Says, placed}
+use Rattle.level_managers.specs.Permits.{numberOfPermit, endedOf, permitOf, noted, Countable}
+use Rattle.level_managers.specs.Steps.{Stepping, MayStep, StepDone}
 use Rattle.scheduler.specs.Runs.{startOf, Rests, SameRest, Ends}
 use Rattle.scheduler.specs.declared.Outcome.{Outcome}
 use Rattle.scheduler.specs.declared.Outcome.the-variants as outcome
-use Rattle.scheduler.specs.declared.tallies.Permit.{Permit}
-use Rattle.scheduler.specs.declared.tallies.Permit.the-variants.{Given, Absent, Idle, Blocked}
-use Rattle.scheduler.proofs.Laws.Settle.{placed-own, placed-other}
-use Rattle.scheduler.proofs.Laws.Step.{says-live, told-held}
-use Rattle.scheduler.proofs.Laws.Asked.{asked-is, ended-is, wordsNoted, noted-says}
+use Rattle.level_managers.specs.declared.tallies.Permit.{Permit}
+use Rattle.level_managers.specs.declared.tallies.Permit.the-variants.{Given, Absent, Idle, Blocked}
+use Rattle.level_managers.proofs.Laws.Settle.{placed-own, placed-other}
+use Rattle.level_managers.proofs.Laws.Step.{says-live, told-held}
+use Rattle.level_managers.proofs.Laws.Asked.{asked-is, ended-is, wordsNoted, noted-says}
 
 -- the same managers, one by one
 pub says-held : (s : List ℕ) (w : Words) (ms ms' : ℕ → Manager) (st : State) → ((k : ℕ) → ms' k ≡ ms k) → Says s w ms st → Says s w ms' st

@@ -33,12 +33,12 @@ use Rattle.model.proofs.Laws.Code.Progress.{allowed}
 use Rattle.stacks.specs.Stack.{stackWords, framesOf}
 use Rattle.stacks.specs.Course.{managerOf, begun, settledOf}
 use Rattle.stacks.specs.declared.Course.{Course}
-use Rattle.scheduler.specs.Kept.{Words, nextPlace, waitingPlace, busyPlace, Roomy, Runs, LevelTold}
-use Rattle.scheduler.specs.Permits.{managed}
-use Rattle.scheduler.specs.Steps.{Read, runningFork, SettleReady, begunTallies, StartReady}
+use Rattle.level_managers.specs.Kept.{Words, nextPlace, waitingPlace, busyPlace, Roomy, Runs, LevelTold}
+use Rattle.level_managers.specs.Permits.{managed}
+use Rattle.level_managers.specs.Steps.{Read, runningFork, SettleReady, begunTallies, StartReady}
 use Rattle.scheduler.specs.Runs.{Rests, SameRest, LevelReady, LevelDone}
 use Rattle.scheduler.specs.Running.{Draining, Lagging, courseIn, Goes, Lags, Gone, CloseReady, Closes, NextReady, NextDone}
-use Rattle.scheduler.proofs.Laws.Made as made
+use Rattle.level_managers.proofs.Laws.Made as made
 use Rattle.scheduler.proofs.Laws.Level.{LevelLoop, drain-may, drain-step, level-start, level-done}
 
 -- what holds each time round while the manager runs, from its course c₀ on

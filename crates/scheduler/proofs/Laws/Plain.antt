@@ -25,13 +25,13 @@ use Rattle.model.proofs.Laws.Invariant.Measure.{left, cost}
 use Rattle.model.proofs.Laws.Invariant.Tame.{total, step-less}
 use Rattle.model.proofs.Laws.Code.Live.{Live, live-step}
 use Rattle.model.proofs.Laws.Code.Progress.{allowed, all-ended, leads-none, leads-run, leads-live}
-use Rattle.scheduler.specs.Kept.{Words, clearPlace, Says}
-use Rattle.scheduler.specs.Permits.{numberOfPermit, permitOf, noted, Countable, isGiven}
+use Rattle.level_managers.specs.Kept.{Words, clearPlace, Says}
+use Rattle.level_managers.specs.Permits.{numberOfPermit, permitOf, noted, Countable, isGiven}
 use Rattle.scheduler.specs.Runs.{startOf, Rests, SameRest, LevelReady, LevelDone, Done}
-use Rattle.scheduler.specs.declared.tallies.Permit.{Permit}
-use Rattle.scheduler.specs.declared.tallies.Permit.the-variants.{Given, Absent, Idle, Blocked}
-use Rattle.scheduler.proofs.Laws.Step.{says-live}
-use Rattle.scheduler.proofs.Laws.Asked.{asked-is, wordsNoted, noted-says}
+use Rattle.level_managers.specs.declared.tallies.Permit.{Permit}
+use Rattle.level_managers.specs.declared.tallies.Permit.the-variants.{Given, Absent, Idle, Blocked}
+use Rattle.level_managers.proofs.Laws.Step.{says-live}
+use Rattle.level_managers.proofs.Laws.Asked.{asked-is, wordsNoted, noted-says}
 
 -- the managers that the levels from i on, k of them, have room for still
 unfoldable pub roomFrom : List ℕ → ℕ → ℕ → ℕ

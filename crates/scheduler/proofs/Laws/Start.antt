@@ -36,11 +36,11 @@ use Rattle.queues.specs.Queue.{forkOfRow, RootRow, Room, Arrived}
 use Rattle.queues.proofs.Laws.Queue.{forks-none, rises-none}
 use Rattle.versions.specs.Log.{logStart}
 use Rattle.versions.proofs.Laws.Log.{log-none}
-use Rattle.scheduler.specs.Kept.{Words, nextPlace, waitingPlace, versionsPlace, busyPlace, clearPlace, LevelTold, Roomy, Told}
+use Rattle.level_managers.specs.Kept.{Words, nextPlace, waitingPlace, versionsPlace, busyPlace, clearPlace, LevelTold, Roomy, Told}
 use Rattle.scheduler.specs.Runs.{startOf, Rests, startTallies, Fresh, ReadIn}
-use Rattle.scheduler.proofs.Laws.Told.{Limited}
-use Rattle.scheduler.proofs.Laws.Arrive.{told-arrive}
-use Rattle.scheduler.proofs.Laws.Advance.{told-state}
+use Rattle.level_managers.proofs.Laws.Told.{Limited}
+use Rattle.level_managers.proofs.Laws.Arrive.{told-arrive}
+use Rattle.level_managers.proofs.Laws.Advance.{told-state}
 
 none-rises : InOrder []
 unfolding risingFrom

@@ -8,7 +8,7 @@ use borrow.Author.Needs.{needs}
 use Rattle.session.specs.declared.Value.the-variants.{Nil}
 use Rattle.model.specs.Fork.{Fork}
 use Rattle.stacks.specs.Course.{managerOf}
-use Rattle.scheduler.proofs.Laws.Made.{history-room, settled-off}
+use Rattle.level_managers.proofs.Laws.Made.{history-room, settled-off}
 use Rattle.scheduler.proofs.plain.close.Statement.{statement}
 use Rattle.scheduler.proofs.plain.close.Tie as tie
 

@@ -2,10 +2,10 @@
 -- does. Assumes nothing.
 use mathlib.Core.Path.{_≡_, refl, sym, _∙_, ap}
 use native.Mathlib.Omega.{arith}
-use Rattle.scheduler.specs.Permits.{isGiven}
-use Rattle.scheduler.specs.declared.tallies.Permit.{Permit}
-use Rattle.scheduler.specs.declared.tallies.Permit.the-variants.{Given, Absent, Idle, Blocked}
-use Rattle.scheduler.proofs.tallies.Permit as permit
+use Rattle.level_managers.specs.Permits.{isGiven}
+use Rattle.level_managers.specs.declared.tallies.Permit.{Permit}
+use Rattle.level_managers.specs.declared.tallies.Permit.the-variants.{Given, Absent, Idle, Blocked}
+use Rattle.level_managers.proofs.tallies.Permit as permit
 use Rattle.scheduler.proofs.Laws.Listed.{ListLoop, list-start, list-counted, list-fits, list-finished, list-unended, list-refused, list-present, list-may, list-again}
 use mathlib.Core.List.{[], _∷_}
 use types.Run.{OneOf, miss}

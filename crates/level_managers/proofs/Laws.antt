@@ -1,0 +1,13 @@
+-- Laws of the words of a run and of a scheduler step: what the proofs of this crate and of the scheduler cite.
+pub mod Permits
+pub mod Told
+pub mod Write
+pub mod Arrive
+pub mod Settle
+pub mod Begin
+pub mod Advance
+pub mod Ready
+pub mod Step
+pub mod Reads
+pub mod Made
+pub mod Asked

@@ -1,0 +1,198 @@
+-- A scheduler step that makes a script step: its stages together are what the definition's step does. Assumes nothing.
+use Prim.Native.Nat.{ℕ, zero, suc, _+_, _-_, _≤_, _<_}
+use mathlib.Core.Path.{_≡_, refl, sym, _∙_, ap}
+use mathlib.Core.List.{List, [], _∷_}
+use native.Mathlib.Decide.{ℕ-discrete}
+use native.Mathlib.Omega.{arith}
+use lib.ListN.{length, getD, set}
+use Rattle.session.specs.Limits.{maxLevels}
+use Rattle.session.specs.Parts.{levelCount}
+use Rattle.session.specs.Program.{programOf}
+use Rattle.session.specs.Questions.{verdictOf}
+use Rattle.session.specs.declared.Verdict.the-variants.{Accepted}
+use Rattle.session.specs.declared.Message.{Message}
+use Rattle.session.specs.declared.Value.{Value}
+use Rattle.managers.specs.Manager.{stepped}
+use Rattle.managers.specs.declared.Manager.{Manager}
+use Rattle.managers.specs.declared.Stepped.{Stepped}
+use Rattle.managers.specs.declared.Effect.{Effect}
+use Rattle.managers.specs.declared.Effect.the-variants as effect
+use Rattle.model.specs.Limits.{maxManagers}
+use Rattle.model.specs.Lists.{modify}
+use Rattle.model.specs.Fork.{Fork, childStamp, childOf}
+use Rattle.model.specs.Level.{Version, Activity, busy, Level, newLevel, startedCount, arrived, after}
+use Rattle.model.specs.Step.{State, levelAt, readAt, versionsAfter, none, at, arrivalOf, delivered, stepAt}
+use Rattle.model.proofs.Laws.Lists.{modify-comm, modify-twice}
+use Rattle.model.proofs.Laws.Order.Accepted.{sound}
+use Rattle.model.proofs.Laws.Invariant.Measure.{Tame, arrived-tame}
+use Rattle.model.proofs.Laws.Code.Direct.{step-advance}
+use Rattle.model.proofs.Laws.Code.Live.{Live, present}
+use Rattle.model.proofs.Laws.Code.Needs.{live-room, live-versions, live-write, live-fork}
+use Rattle.queues.specs.Queue.{forkOfRow, forkAt}
+use Rattle.versions.specs.Log.{maxVersions}
+use Rattle.level_managers.specs.Kept.{Words, Runs, Told, placed}
+use Rattle.level_managers.specs.Steps.{Parts, runningFork, Wrote, Forked, EffectDone, Settled}
+use Rattle.level_managers.proofs.Laws.Told.{Limited, at-own, at-other}
+use Rattle.level_managers.proofs.Laws.Write.{withVersions, told-write}
+use Rattle.level_managers.proofs.Laws.Arrive.{told-arrive}
+use Rattle.level_managers.proofs.Laws.Settle.{told-settle}
+
+-- an element changed by what it is
+pub modify-fixed : {A : Type 0} (d : A) (i : ℕ) (f : A → A) (xs : List A) → modify i f xs ≡ modify i (λ _. f (getD xs i d)) xs
+unfolding modify
+modify-fixed d i f [] = refl
+modify-fixed d zero f (x ∷ xs) = refl
+modify-fixed d (suc i) f (x ∷ xs) = ap (λ ys. x ∷ ys) (modify-fixed d i f xs)
+
+-- every level of a state that a run reaches is within its limits
+pub live-limited : (s : List ℕ) (a : verdictOf s ≡ Accepted) (st : State) → Live s st → (k : ℕ) → k < levelCount s → Limited (levelAt st k)
+live-limited s a st i k hk =
+    record { managers = live-room s a st i k hk; versions = live-versions s a st i k hk }
+
+-- the same words
+pub told-words : {s : List ℕ} {w w' : Words} {ms : ℕ → Manager} {st : State} → w ≡ w' → Told s w ms st → Told s w' ms st
+told-words e t = rw (sym e) t
+
+pub told-state : {s : List ℕ} {w : Words} {ms : ℕ → Manager} {st st' : State} → st ≡ st' → Told s w ms st → Told s w ms st'
+told-state e t = rw (sym e) t
+
+pub after-any : (v u : Level) (ws : List Fork) (vs : List Version) (x : Fork) (m : Manager) → u .ended ≡ v .ended → u .next ≡ v .next → after u ws vs x m ≡ after v ws vs x m
+unfolding after
+after-any v u ws vs x m e q = rw (e, q) refl
+
+delivers : (u : ℕ) (c : Fork) (st : State) → delivered (at u c) st ≡ modify u (arrived c) st
+unfolding delivered
+delivers u c st = refl
+
+delivers-none : (st : State) → delivered none st ≡ st
+unfolding delivered
+delivers-none st = refl
+
+child-of : (l : ℕ) (x : Fork) (m : Manager) (message : Message) → record { stamp = childStamp (x .stamp) (x .depth) (m .forks + 1); depth = x .depth + 1; seen = set (x .seen) l (m .stamp); message = message } ≡ childOf l x m message
+unfolding childOf
+child-of l x m message = refl
+
+module _ (s : List ℕ) (a : verdictOf s ≡ Accepted) (few : levelCount s ≤ maxLevels) (w : Words) (ms : ℕ → Manager) (st : State) (t : Told s w ms st) (i : Live s st) (l : ℕ) (h : l < levelCount s) (x : Fork) (m : Manager) (runs : levelAt st l .activity ≡ busy x m) (n : Stepped) (made : stepped (programOf s) (readAt (programOf s) st l x) m ≡ n) (q : Parts) (ended' tallies' : List ℕ) where
+  -- the words before and after the step
+  abbrev pub partsBefore : Parts
+  partsBefore = record { current = w .current; tallies = w .tallies; queue = w .queue; work = w .work }
+
+  abbrev pub wordsAfter : Words
+  wordsAfter =
+      record { current = q .current; ended = ended'; tallies = tallies'; queue = q .queue; work = q .work }
+
+  abbrev limits : (k : ℕ) → k < levelCount s → Limited (levelAt st k)
+  limits = live-limited s a st i
+
+  abbrev v : Level
+  v = levelAt st l
+
+  abbrev settled : Level → Level
+  settled v = after v (v .waiting) (v .versions) x (n .manager)
+
+  -- what the definition's step does, by its effect
+  step-is : (e : Effect) → n .effect ≡ e → stepAt (programOf s) l st ≡ delivered (arrivalOf l x m e) (modify l (λ _. after v (v .waiting) (versionsAfter m e (v .versions)) x (n .manager)) st)
+  step-is e is =
+      step-advance (programOf s) (sound s a) st (i .reachable .steady .orderly) (i .reachable .contained) l (present s l h) x m n runs made
+      ∙ ap (λ e. delivered (arrivalOf l x m e) (modify l (λ _. after v (v .waiting) (versionsAfter m e (v .versions)) x (n .manager)) st)) is
+
+  -- the words with which the manager settles
+  abbrev middle : Words
+  middle = record { current = q .current; ended = w .ended; tallies = q .tallies; queue = q .queue; work = q .work }
+
+  settles : (st1 : State) → Told s middle ms st1 → ((k : ℕ) → k < levelCount s → Limited (levelAt st1 k)) → levelAt st1 l .activity ≡ busy x m → Settled (w .ended) ended' (q .tallies) tallies' (q .queue) l (n .manager) → Told s wordsAfter (placed l (n .manager) ms) (modify l settled st1)
+  settles st1 t1 b1 r1 z = told-settle s middle ms st1 t1 b1 few l h x m r1 ended' tallies' (n .manager) z
+
+  told-nothing : n .effect ≡ effect.Nothing → q ≡ partsBefore → Settled (w .ended) ended' (q .tallies) tallies' (q .queue) l (n .manager) → Told s wordsAfter (placed l (n .manager) ms) (stepAt (programOf s) l st)
+  told-nothing is e z =
+      told-state (modify-fixed newLevel l settled st ∙ sym (delivers-none _) ∙ sym (step-is effect.Nothing is))
+      (settles st (told-words (ap (λ q. record { current = q .current; ended = w .ended; tallies = q .tallies; queue = q .queue; work = q .work }) (sym e)) t) limits runs z)
+
+  -- the manager's effect is what the definition says
+  effect-is : (e : Effect) → n .effect ≡ e → stepped (programOf s) (readAt (programOf s) st l x) m .effect ≡ e
+  effect-is e is = ap (λ n. n .effect) made ∙ is
+
+  module _ (o k : ℕ) (c : Value) (is : n .effect ≡ effect.Write o k c) (wrote : Wrote (w .current) (q .current) (w .tallies) (q .tallies) (w .work) (q .work) l (m .stamp) o k c) (same : q .queue ≡ w .queue) where
+    few-versions : length (v .versions) < maxVersions
+    few-versions = live-write s a st i l h x m runs (readAt (programOf s) st l x) o k c (effect-is (effect.Write o k c) is) .0
+
+    lies : programOf s .level o ≡ l
+    lies = live-write s a st i l h x m runs (readAt (programOf s) st l x) o k c (effect-is (effect.Write o k c) is) .1 .0
+
+    abbrev written : Level → Level
+    written v = withVersions (record { stamp = m .stamp; object = o; field = k; value = c } ∷ v .versions) v
+
+    at-l : levelAt (modify l written st) l ≡ written v
+    at-l = at-own s w w ms ms st t limits l h written
+
+    limits-written : (j : ℕ) → j < levelCount s → Limited (levelAt (modify l written st) j)
+    limits-written j hj = elim (ℕ-discrete j l) [
+      | yes e ↦ rw (e, at-l) (record { managers = limits l h .managers; versions = omega (arith, few-versions) })
+      | no d ↦ rw (at-other s w w ms ms st t limits l h written j d) (limits j hj)
+    ]
+
+    told-written : Settled (w .ended) ended' (q .tallies) tallies' (q .queue) l (n .manager) → Told s wordsAfter (placed l (n .manager) ms) (stepAt (programOf s) l st)
+    told-written z =
+        told-state
+        (modify-twice l settled written st
+        ∙ modify-fixed newLevel l (λ v. settled (written v)) st
+        ∙ ap (λ u. modify l (λ _. u) st) (after-any v (written v) (v .waiting) (written v .versions) x (n .manager) refl refl)
+        ∙ sym (delivers-none _)
+        ∙ sym (step-is (effect.Write o k c) is))
+        (settles (modify l written st) (told-words (ap (λ queue. record { current = q .current; ended = w .ended; tallies = q .tallies; queue = queue; work = q .work }) (sym same)) (told-write s w ms st t limits few l h (q .current) (q .tallies) (q .work) (m .stamp) o k c wrote lies)) limits-written (ap (λ v. v .activity) at-l ∙ runs) z)
+
+  module _ (u : ℕ) (message : Message) (is : n .effect ≡ effect.Fork u message) (forked : Forked (w .tallies) (q .tallies) (w .queue) (q .queue) l (m .stamp) (m .forks) u message) (same-current : q .current ≡ w .current) (same-work : q .work ≡ w .work) where
+    above : u < levelCount s
+    above = live-fork s a st i l h x m runs (readAt (programOf s) st l x) u message (effect-is (effect.Fork u message) is) .0
+
+    abbrev child : Fork
+    child = forkOfRow (levelCount s) (forked .row)
+
+    -- the fork of the manager that runs
+    running : runningFork (levelCount s) (w .tallies) (w .queue) l ≡ x
+    running =
+        ap (forkAt (levelCount s) (w .queue) l) (t .level l h .ended-count) ∙ by (v .activity) runs (t .level l h .activity)
+      where
+        by : (b : Activity) → b ≡ busy x m → Runs (levelCount s) w l (ms l) (length (v .ended)) b → forkAt (levelCount s) (w .queue) l (length (v .ended)) ≡ x
+        by b e r = let z : Runs (levelCount s) w l (ms l) (length (v .ended)) (busy x m) = rw e at r in z .1 .1
+
+    child-made : child ≡ childOf l x m message
+    child-made =
+        forked .child (levelCount s) h few
+        ∙ ap (λ y. record { stamp = childStamp (y .stamp) (y .depth) (m .forks + 1); depth = y .depth + 1; seen = set (y .seen) l (m .stamp); message = message }) running
+        ∙ child-of l x m message
+
+    apart : l ≡ u → ⊥
+    apart e =
+        live-fork s a st i l h x m runs (readAt (programOf s) st l x) u message (effect-is (effect.Fork u message) is) .1 .0 (sym e)
+
+    at-u : levelAt (modify u (arrived child) st) u ≡ arrived child (levelAt st u)
+    at-u = at-own s w w ms ms st t limits u above (arrived child)
+
+    limits-arrived : (j : ℕ) → j < levelCount s → Limited (levelAt (modify u (arrived child) st) j)
+    limits-arrived j hj = elim (ℕ-discrete j u) [
+      | yes e ↦ rw (e, at-u) (record { managers = arrived-tame child (levelAt st u) (i .reachable .steady .tame u) .room; versions = versions })
+      | no d ↦ rw (at-other s w w ms ms st t limits u above (arrived child) j d) (limits j hj)
+    ]
+      where
+        versions : length (arrived child (levelAt st u) .versions) ≤ maxVersions
+        versions = unfold arrived in limits u above .versions
+
+    told-forked : Settled (w .ended) ended' (q .tallies) tallies' (q .queue) l (n .manager) → Told s wordsAfter (placed l (n .manager) ms) (stepAt (programOf s) l st)
+    told-forked z =
+        told-state
+        (modify-comm l u settled (arrived child) st apart
+        ∙ ap (modify u (arrived child)) (modify-fixed newLevel l settled st)
+        ∙ ap (λ c. modify u (arrived c) (modify l (λ _. settled v) st)) child-made
+        ∙ sym (delivers u (childOf l x m message) _)
+        ∙ sym (step-is (effect.Fork u message) is))
+        (settles (modify u (arrived child) st) (told-words (ap (λ z. record { current = z; ended = w .ended; tallies = q .tallies; queue = q .queue; work = w .work }) (sym same-current) ∙ ap (λ z. record { current = q .current; ended = w .ended; tallies = q .tallies; queue = q .queue; work = z }) (sym same-work)) (told-arrive s w ms st t limits few u above (q .tallies) (q .queue) (forked .row) (forked .count) (forked .arrived) (forked .tallies-are))) limits-arrived (ap (λ v. v .activity) (at-other s w w ms ms st t limits u above (arrived child) l apart) ∙ runs) z)
+
+  -- the stages together: the words say the state after the step
+  pub told-advance : EffectDone partsBefore q l (m .stamp) (m .forks) (n .effect) → Settled (w .ended) ended' (q .tallies) tallies' (q .queue) l (n .manager) → Told s wordsAfter (placed l (n .manager) ms) (stepAt (programOf s) l st)
+  told-advance d z = by (n .effect) refl d
+    where
+      by : (e : Effect) → n .effect ≡ e → EffectDone partsBefore q l (m .stamp) (m .forks) e → Told s wordsAfter (placed l (n .manager) ms) (stepAt (programOf s) l st)
+      by effect.Nothing is d = told-nothing is d z
+      by (effect.Write o k c) is d = told-written o k c is (d .0) (d .1) z
+      by (effect.Fork u message) is d = told-forked u message is (d .0) (d .1 .0) (d .1 .1) z

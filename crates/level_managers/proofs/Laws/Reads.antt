@@ -1,0 +1,131 @@
+-- What the manager that runs at a level reads, from the words: the current field at its level, and below the newest version up to its
+-- bound there. Assumes nothing.
+use Prim.Native.Nat.{ℕ, _^_, _<_}
+use mathlib.Core.Path.{_≡_, refl, sym, _∙_, ap, ap₂}
+use mathlib.Core.Bool.{cond}
+use mathlib.Core.List.{List}
+use native.Mathlib.Omega.{arith}
+use borrow.Author.Tests.{eq-eqb, ne-eqb}
+use lib.Dec.{eqb}
+use lib.ListN.{getD}
+use Rattle.session.specs.Limits.{maxLevels, fields}
+use Rattle.session.specs.Parts.{levelCount, objectCount}
+use Rattle.session.specs.Meaning.{levelOf, fieldOf}
+use Rattle.session.specs.Program.{programOf}
+use Rattle.session.specs.declared.Value.{Value}
+use Rattle.session.proofs.Laws.Accepted.{level-present}
+use Rattle.session.proofs.Laws.Contents.{level-limit, object-limit}
+use Rattle.managers.specs.Valid.{Leveled}
+use Rattle.managers.specs.declared.Manager.{Manager}
+use Rattle.model.specs.Fork.{Fork}
+use Rattle.model.specs.History.{History, endBefore}
+use Rattle.model.specs.Level.{Version, newestTo}
+use Rattle.model.specs.Step.{State, levelAt, readBound}
+use Rattle.model.proofs.Laws.Safe.Reads.{read-own, read-below}
+use Rattle.model.proofs.Laws.Code.Live.{Live}
+use Rattle.model.proofs.Laws.Code.Needs.{live-ends, live-versions, live-falling}
+use Rattle.records.specs.Fields.{fieldAt, FieldThere}
+use Rattle.records.specs.Histories.{historiesAt}
+use Rattle.versions.specs.Log.{logStart, logOf, Within}
+use Rattle.versions.specs.Order.{StampsRise}
+use Rattle.versions.proofs.Laws.Order.{stamps-rise}
+use Rattle.level_managers.specs.Kept.{Words, versionsPlace, LevelTold}
+use Rattle.level_managers.specs.Steps.{Busy, IsBusy, runningFork, BoundReady, boundIn, ReadIs}
+use Rattle.level_managers.proofs.Laws.Ready.{told-fork, busy-settles}
+use Rattle.level_managers.proofs.Laws.Step.{says-live}
+
+-- the bound at level j of the manager that runs at level l: what its fork carries for j, or an end stamp there
+module _ {ended tallies queue : List ℕ} {l j : ℕ} (q : BoundReady ended tallies queue l j) where
+  -- a write stamp that it carries is the bound
+  pub bound-carried : {c : ℕ} → ((n : ℕ) → j < n → getD (runningFork n tallies queue l .seen) j 0 ≡ c) → (c ≡ 0 → ⊥) → (n : ℕ) → j < n → boundIn n ended tallies queue l j ≡ c
+  bound-carried {c = c} carries z n h = rw (carries n h, ne-eqb c 0 z) refl
+
+  -- where it carries none, the end stamp is, and fits 16 bits
+  module _ {stamp r : ℕ} (stamped : (n : ℕ) → runningFork n tallies queue l .stamp ≡ stamp) (is : r ≡ endBefore stamp (historiesAt ended j (getD tallies j 0))) where
+    pub bound-fits : r < 2 ^ 16
+    bound-fits = rw (is, sym (stamped 0)) (q .fits)
+
+    pub bound-ended : {c : ℕ} → ((n : ℕ) → j < n → getD (runningFork n tallies queue l .seen) j 0 ≡ c) → c ≡ 0 → (n : ℕ) → j < n → boundIn n ended tallies queue l j ≡ r
+    bound-ended {c = c} carries z n h = rw (carries n h, eq-eqb c 0 z, stamped n) (sym is)
+
+-- the words say a state in which m, of fork x, runs at level l; j is any level
+module _ {s masks : List ℕ} (a : Leveled s masks) {w : Words} {l : ℕ} {ms : ℕ → Manager} {st : State} {x : Fork} {m : Manager} (b : Busy s w l ms st x m) {j : ℕ} (h : j < levelCount s) where
+  abbrev level-told : LevelTold (levelCount s) w j (ms j) (levelAt st j)
+  level-told = b .says .told .level j h
+
+  live : Live s st
+  live = says-live s (a .accepted) w ms st (b .says)
+
+  ended-are : historiesAt (w .ended) j (getD (w .tallies) j 0) ≡ levelAt st j .ended
+  ended-are = ap (historiesAt (w .ended) j) (level-told .ended-count) ∙ level-told .ended
+
+  versions-are : logOf (w .work) (logStart j) (getD (w .tallies) (versionsPlace j) 0) ≡ levelAt st j .versions
+  versions-are = ap (logOf (w .work) (logStart j)) (level-told .version-count) ∙ level-told .versions
+
+  -- so the bound is the definition's
+  bound-is : boundIn (levelCount s) (w .ended) (w .tallies) (w .queue) l j ≡ readBound x st j
+  bound-is =
+      ap₂ (λ (y : Fork) (hs : List History). cond (eqb (getD (y .seen) j 0) 0) (endBefore (y .stamp) hs) (getD (y .seen) j 0))
+      (told-fork (levelCount s) w l (ms l) (levelAt st l) (b .says .told .level l (b .present)) x m (b .runs))
+      ended-are
+
+  bound-there : BoundReady (w .ended) (w .tallies) (w .queue) l j
+  bound-there =
+      let small : j < maxLevels = omega (arith, h, level-limit s (a .accepted)) in
+      record {
+        there = busy-settles s (a .accepted) (level-limit s (a .accepted)) (object-limit s (a .accepted)) w ms st (b .says .told) live l (b .present) x m (b .runs) .there;
+        level = small;
+        histories = record { room = b .says .told .roomy .ended; level = small; count = b .says .told .counts-few j small; rises = rw ended-are (level-told .ended-rises) };
+        counted = b .says .told .roomy .tallies;
+        fits = rw ended-are (live-ends s (a .accepted) st live j h (runningFork 0 (w .tallies) (w .queue) l .stamp));
+      }
+
+  versions-there : (k : ℕ) → k < fields → Within (w .work) j (getD (w .tallies) (versionsPlace j) 0) k
+  versions-there k hk =
+      record {
+        level-present = bound-there .level;
+        fits = omega (arith, level-told .version-count, live-versions s (a .accepted) st live j h);
+        field-fits = hk;
+        long = b .says .told .roomy .work;
+      }
+
+  versions-rise : StampsRise (w .work) (logStart j) (getD (w .tallies) (versionsPlace j) 0)
+  versions-rise =
+      stamps-rise (w .work) (logStart j) (getD (w .tallies) (versionsPlace j) 0) (rw versions-are (live-falling s (a .accepted) st live j h))
+
+-- a read of field k of object o, which lies at level j
+module _ {s masks : List ℕ} (a : Leveled s masks) {w : Words} {l : ℕ} (q : IsBusy s w l) {o k : ℕ} (here : (o < objectCount s) × (k < fields)) {j : ℕ} (lies : j ≡ levelOf s o) where
+  placed : j < levelCount s
+  placed = rw lies (level-present s (a .accepted) o (here .0))
+
+  -- the words that are read are there
+  pub read-there : FieldThere (w .current) o k
+  read-there =
+      record {
+        room = q .1 .1 .1 .1 .says .told .roomy .current;
+        object = omega (arith, here .0, object-limit s (a .accepted));
+        field = here .1;
+      }
+
+  pub bound-ready : BoundReady (w .ended) (w .tallies) (w .queue) l j
+  bound-ready = bound-there a (q .1 .1 .1 .1) placed
+
+  -- and the versions are in order of write stamp
+  pub versions-ready : Within (w .work) j (getD (w .tallies) (versionsPlace j) 0) k × StampsRise (w .work) (logStart j) (getD (w .tallies) (versionsPlace j) 0)
+  versions-ready = (versions-there a (q .1 .1 .1 .1) placed k (here .1), versions-rise a (q .1 .1 .1 .1) placed)
+
+  -- at the manager's level it is the current field
+  pub read-current : {r : Value} → j ≡ l → r ≡ fieldAt (w .current) o k → ReadIs s w l o k r
+  unfolding programOf
+  read-current e is ms st x m b =
+      read-own (programOf s) st l x o k (sym lies ∙ e) ∙ sym (b .says .told .field o k (here .0) (here .1)) ∙ sym is
+
+  -- below, the newest version up to the bound
+  pub read-version : {bound : ℕ} {initial r : Value} → (j ≡ l → ⊥) → ((n : ℕ) → j < n → boundIn n (w .ended) (w .tallies) (w .queue) l j ≡ bound) → initial ≡ fieldOf s o k → r ≡ newestTo bound initial o k (logOf (w .work) (logStart j) (getD (w .tallies) (versionsPlace j) 0)) → ReadIs s w l o k r
+  unfolding programOf
+  read-version {bound = bound} n e first is ms st x m b =
+      read-below (programOf s) st l x o k (λ z. n (lies ∙ z))
+      ∙ ap (λ i. newestTo (readBound x st i) (fieldOf s o k) o k (levelAt st i .versions)) (sym lies)
+      ∙ ap₂ (λ (v : ℕ) (vs : List Version). newestTo v (fieldOf s o k) o k vs) (sym (bound-is a b placed) ∙ e (levelCount s) placed) (sym (versions-are a b placed))
+      ∙ ap (λ i. newestTo bound i o k (logOf (w .work) (logStart j) (getD (w .tallies) (versionsPlace j) 0))) (sym first)
+      ∙ sym is

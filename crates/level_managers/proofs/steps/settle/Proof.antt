@@ -1,0 +1,105 @@
+-- `level_managers::steps::settle` meets its contract: of a manager that has ended the history is kept, and it counts as ended; one that runs on changes nothing. Assumes nothing.
+use mathlib.Core.Path.{sym, _∙_}
+use native.Mathlib.Omega.{arith}
+use lib.ListN.{length-set}
+use borrow.Author.Needs.{needs}
+use Rattle.level_managers.proofs.Laws.Made.{settled-on, history-room, settled-off}
+use Rattle.level_managers.proofs.steps.settle.Statement.{statement}
+use Rattle.level_managers.proofs.steps.settle.Tie as tie
+
+is-running-requires : tie.Need-is-running-requires
+is-running-requires c κs = search needs
+
+returns : tie.Need-returns
+returns c =
+    let z = c .before .before .before .before .before in
+    settled-on (z .args .ended .now) (z .args .tallies .now) (z .args .queue .now) (z .args .level) (z .args .m) (sym (c .before .is-running .ensures) ∙ c .if1 .taken)
+
+mul-count : tie.Need-mul-count
+mul-count c = search needs
+
+slice-read-count : tie.Need-slice-read-count
+slice-read-count c = search needs
+
+stamp-at-requires : tie.Need-stamp-at-requires
+stamp-at-requires c κs = search needs
+
+ended-of-requires : tie.Need-ended-of-requires
+ended-of-requires c κs = search needs
+
+add-requires : tie.Need-add-requires
+add-requires c κs =
+    let z = c .before .before .before .before .before .before .before .before .before in
+    history-room (z .args .ended .now) (z .args .tallies .now) (z .args .queue .now) (z .args .level) (z .args .m) (c .before .before .stamp-at .result) (c .ended-of .result) (sym (c .before .before .before .before .before .is-running .ensures) ∙ c .before .before .before .before .if1 .left) (c .before .before .stamp-at .ensures) (c .ended-of .ensures) (z .pre)
+
+add-tallies : tie.Need-add-tallies
+add-tallies c = search needs
+
+mul-tallies : tie.Need-mul-tallies
+mul-tallies c = search needs
+
+slice-write-tallies : tie.Need-slice-write-tallies
+slice-write-tallies c = search needs
+
+cast-tallies : tie.Need-cast-tallies
+cast-tallies c = search needs
+
+add-tallies-2 : tie.Need-add-tallies-2
+add-tallies-2 c = search needs
+
+add-tallies-3 : tie.Need-add-tallies-3
+add-tallies-3 c = search needs
+
+mul-tallies-2 : tie.Need-mul-tallies-2
+mul-tallies-2 c = search needs
+
+slice-write-tallies-2 : tie.Need-slice-write-tallies-2
+slice-write-tallies-2 c = simp length-set (omega arith)
+
+add-tallies-4 : tie.Need-add-tallies-4
+add-tallies-4 c = search needs
+
+mul-tallies-3 : tie.Need-mul-tallies-3
+mul-tallies-3 c = search needs
+
+slice-write-tallies-3 : tie.Need-slice-write-tallies-3
+slice-write-tallies-3 c = simp length-set (omega arith)
+
+same-length : tie.Need-same-length
+same-length c = search needs
+
+same-length-2 : tie.Need-same-length-2
+same-length-2 c = search needs
+
+returns-2 : tie.Need-returns-2
+returns-2 c =
+    let at = c .before .before .before .before in
+    let z = at .before .before .before .before .before .before .before .before .before in
+    let called = c .before .before .before .add in
+    settled-off (z .args .ended .now) (z .args .tallies .now) (z .args .queue .now) (z .args .level) (z .args .m) (at .before .before .stamp-at .result) (at .ended-of .result) (sym (at .before .before .before .before .before .is-running .ensures) ∙ at .before .before .before .before .if1 .left) (at .before .before .stamp-at .ensures) (at .ended-of .ensures) (called .last .0) (called .ensures)
+
+pub settle-spec : {M : Type 1} → statement M
+settle-spec =
+    tie.close
+    (tie.spec
+    is-running-requires
+    returns
+    mul-count
+    slice-read-count
+    stamp-at-requires
+    ended-of-requires
+    add-requires
+    add-tallies
+    mul-tallies
+    slice-write-tallies
+    cast-tallies
+    add-tallies-2
+    add-tallies-3
+    mul-tallies-2
+    slice-write-tallies-2
+    add-tallies-4
+    mul-tallies-3
+    slice-write-tallies-3
+    same-length
+    same-length-2
+    returns-2)

@@ -1,0 +1,115 @@
+-- `level_managers::steps::start` meets its contract: the fork behind those that have ended starts, with the write stamp that was kept for it, and may end at once. Assumes nothing.
+use mathlib.Core.Path.{_∙_}
+use native.Mathlib.Omega.{arith}
+use lib.ListN.{length-set}
+use borrow.Author.Needs.{needs}
+use Rattle.level_managers.proofs.Laws.Made.{start-asks, begun-settles, begun}
+use Rattle.level_managers.proofs.steps.start.Statement.{statement}
+use Rattle.level_managers.proofs.steps.start.Tie as tie
+
+mul-message-at : tie.Need-mul-message-at
+mul-message-at c = search needs
+
+slice-read-message-at : tie.Need-slice-read-message-at
+slice-read-message-at c = search needs
+
+message-at-requires : tie.Need-message-at-requires
+message-at-requires c κs = search needs
+
+add-next : tie.Need-add-next
+add-next c = search needs
+
+mul-next : tie.Need-mul-next
+mul-next c = search needs
+
+slice-read-next : tie.Need-slice-read-next
+slice-read-next c = search needs
+
+cast-next : tie.Need-cast-next
+cast-next c = search needs
+
+cast-start : tie.Need-cast-start
+cast-start c = search needs
+
+start-requires : tie.Need-start-requires
+start-requires c κs =
+    let z = c .before .before .before .before .before .before .before .before in
+    start-asks (z .args .session .now) (z .args .index .now) (z .args .ended .now) (z .args .tallies .now) (z .args .queue .now) (z .args .level) (c .before .message-at .result) (z .pre) (c .before .message-at .ensures)
+
+add-tallies : tie.Need-add-tallies
+add-tallies c = search needs
+
+mul-tallies : tie.Need-mul-tallies
+mul-tallies c = search needs
+
+slice-read-tallies : tie.Need-slice-read-tallies
+slice-read-tallies c = search needs
+
+sub-tallies : tie.Need-sub-tallies
+sub-tallies c = search needs
+
+add-tallies-2 : tie.Need-add-tallies-2
+add-tallies-2 c = search needs
+
+mul-tallies-2 : tie.Need-mul-tallies-2
+mul-tallies-2 c = search needs
+
+slice-write-tallies : tie.Need-slice-write-tallies
+slice-write-tallies c = search needs
+
+add-tallies-3 : tie.Need-add-tallies-3
+add-tallies-3 c = search needs
+
+mul-tallies-3 : tie.Need-mul-tallies-3
+mul-tallies-3 c = search needs
+
+slice-write-tallies-2 : tie.Need-slice-write-tallies-2
+slice-write-tallies-2 c = simp length-set (omega arith)
+
+settle-requires : tie.Need-settle-requires
+settle-requires c κs =
+    let at = c .before .before .before .before .before in
+    let z = at .before .before .before .before .before .before .before in
+    begun-settles (z .args .session .now) (z .args .index .now) (z .args .ended .now) (z .args .tallies .now) (z .args .queue .now) (z .args .level) (at .message-at .result) (z .pre) (at .message-at .ensures)
+
+same-length : tie.Need-same-length
+same-length c = search needs
+
+same-length-2 : tie.Need-same-length-2
+same-length-2 c = c .before .before .before .before .settle .kept .1 .0 ∙ simp length-set
+
+returns : tie.Need-returns
+returns c =
+    let at = c .before .before .before .before .before .before .before .before .before .before in
+    let z = at .before .before .before .before .before .before .before in
+    let made = c .before .before .before .before .before .before .before .before .start in
+    let called = c .before .before .before .before .settle in
+    begun (z .args .session .now) (z .args .index .now) (z .args .ended .now) (z .args .tallies .now) (z .args .queue .now) (z .args .level) (at .message-at .result) (z .pre) (at .message-at .ensures) (called .last .0) (called .last .1 .0) (made .result) (made .ensures) (called .ensures)
+
+pub start-spec : {M : Type 1} → statement M
+start-spec =
+    tie.close
+    (tie.spec
+    mul-message-at
+    slice-read-message-at
+    message-at-requires
+    add-next
+    mul-next
+    slice-read-next
+    cast-next
+    cast-start
+    start-requires
+    add-tallies
+    mul-tallies
+    slice-read-tallies
+    sub-tallies
+    add-tallies-2
+    mul-tallies-2
+    slice-write-tallies
+    add-tallies-3
+    mul-tallies-3
+    slice-write-tallies-2
+    settle-requires
+    same-length
+    same-length-2
+    returns)

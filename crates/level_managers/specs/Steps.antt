@@ -1,0 +1,186 @@
+-- What a scheduler step does to the words of a run, stage by stage. No meaning rests on these. Assumes nothing.
+use Prim.Native.Nat.{ℕ, _+_, _-_, _^_, _≤_, _<_}
+use mathlib.Core.Path.{_≡_}
+use mathlib.Core.Bool.{true, false, cond}
+use mathlib.Core.List.{List}
+use lib.Dec.{eqb}
+use lib.ListN.{length, getD, set, drop}
+use Rattle.session.specs.Limits.{maxLevels, fields}
+use Rattle.session.specs.Parts.{levelCount, objectCount}
+use Rattle.session.specs.Program.{programOf}
+use Rattle.session.specs.declared.Value.{Value}
+use Rattle.session.specs.declared.Message.{Message}
+use Rattle.managers.specs.Limits.{maxForks}
+use Rattle.managers.specs.Manager.{isRunning, started}
+use Rattle.managers.specs.Valid.{Indexed, Leveled, Startable}
+use Rattle.managers.specs.declared.Manager.{Manager}
+use Rattle.managers.specs.declared.Effect.{Effect}
+use Rattle.managers.specs.declared.Effect.the-variants as effect
+use Rattle.managers.specs.declared.Ask.{Ask}
+use Rattle.managers.specs.declared.Ask.the-variants as ask
+use Rattle.model.specs.Limits.{maxManagers, stampDigits, workNumbers}
+use Rattle.model.specs.Fork.{Fork, childStamp}
+use Rattle.model.specs.History.{endBefore}
+use Rattle.model.specs.Level.{busy}
+use Rattle.model.specs.Step.{State, levelAt, readAt, stepAt}
+use Rattle.model.specs.Schedule.{stepRefusal}
+use Rattle.records.specs.Limits.{historyWords}
+use Rattle.records.specs.Fields.{FieldThere, FieldSet}
+use Rattle.records.specs.Histories.{historiesAt, InOrder, HistoryIs, HistoriesThere, Added}
+use Rattle.records.specs.declared.Ended.{Ended}
+use Rattle.queues.specs.Queue.{forkOfRow, forkAt, There, Room, Arrived}
+use Rattle.versions.specs.Log.{Within}
+use Rattle.versions.specs.Changes.{Appended}
+use Rattle.level_managers.specs.Kept.{Words, nextPlace, waitingPlace, versionsPlace, busyPlace, tallyNumbers, Says, placed}
+
+-- an accepted session, its level table and its method index
+pub record Read (s masks index : List ℕ) : Type 0 where
+  pub indexed : Indexed s index
+  pub leveled : Leveled s masks
+
+-- the words say a state that a run reaches, in which m, the manager of fork x, runs at level l
+pub record Busy (s : List ℕ) (w : Words) (l : ℕ) (ms : ℕ → Manager) (st : State) (x : Fork) (m : Manager) : Type 0 where
+  pub says : Says s w ms st
+  pub present : l < levelCount s
+  pub runs : levelAt st l .activity ≡ busy x m
+
+-- they say such a state
+abbrev pub IsBusy : List ℕ → Words → ℕ → Type 0
+IsBusy s w l = (ms : ℕ → Manager) × ((st : State) × ((x : Fork) × ((m : Manager) × Busy s w l ms st x m)))
+
+-- the fork of the manager that runs at level l: the one behind those that have ended. Its stamp and depth are the same for any number of levels
+abbrev pub runningFork : ℕ → List ℕ → List ℕ → ℕ → Fork
+runningFork n tallies queue l = forkAt n queue l (getD tallies l 0)
+
+-- the words that say up to which write stamp it reads at level j are there
+pub record BoundReady (ended tallies queue : List ℕ) (l j : ℕ) : Type 0 where
+  pub there : There queue l (getD tallies l 0)
+  pub level : j < maxLevels
+  pub histories : HistoriesThere ended j (getD tallies j 0)
+  pub counted : tallyNumbers ≤ length tallies
+  pub fits : endBefore (runningFork 0 tallies queue l .stamp) (historiesAt ended j (getD tallies j 0)) < 2 ^ 16
+
+-- that write stamp, among n levels
+abbrev pub boundIn : ℕ → List ℕ → List ℕ → List ℕ → ℕ → ℕ → ℕ
+boundIn n ended tallies queue l j =
+    let carried = getD (runningFork n tallies queue l .seen) j 0 in
+    cond (eqb carried 0) (endBefore (runningFork n tallies queue l .stamp) (historiesAt ended j (getD tallies j 0))) carried
+
+-- a value is what it reads of a field
+abbrev pub ReadIs : List ℕ → Words → ℕ → ℕ → ℕ → Value → Type 0
+ReadIs s w l object k r =
+    (ms : ℕ → Manager) (st : State) (x : Fork) (m : Manager) → Busy s w l ms st x m → readAt (programOf s) st l x object k ≡ r
+
+-- what a script step asks is a field of a present object
+abbrev pub AsksPresent : List ℕ → Ask → Type 0
+AsksPresent s ask.Nothing = Unit
+AsksPresent s (ask.Field object k) = (object < objectCount s) × (k < fields)
+
+-- a value is what the step sees where it asks
+abbrev pub SeenIs : List ℕ → Words → ℕ → Ask → Value → Type 0
+SeenIs s w l ask.Nothing r = Unit
+SeenIs s w l (ask.Field object k) r = ReadIs s w l object k r
+
+-- there is room for a write of field k of an object at level l
+pub record WriteReady (current tallies work : List ℕ) (l object k : ℕ) : Type 0 where
+  pub there : FieldThere current object k
+  pub within : Within work l (getD tallies (versionsPlace l) 0 + 1) k
+  pub counted : tallyNumbers ≤ length tallies
+
+-- the write is made: the field holds the value, and level l has one more version
+pub record Wrote (current current' tallies tallies' work work' : List ℕ) (l stamp object k : ℕ) (v : Value) : Type 0 where
+  pub field : FieldSet current current' object k v
+  pub version : Appended work work' l (getD tallies (versionsPlace l) 0) (record { stamp = stamp; object = object; field = k; value = v })
+  pub count : tallies' ≡ set tallies (versionsPlace l) (getD tallies (versionsPlace l) 0 + 1)
+
+-- the forks that started at level u
+abbrev pub startedOf : List ℕ → ℕ → ℕ
+startedOf tallies u = getD tallies u 0 + getD tallies (busyPlace u) 0
+
+-- there is room for a fork at level u of the manager that runs at level l, which has made `forks`; its stamp fits 32 bits
+pub record ForkReady (tallies queue : List ℕ) (l forks u : ℕ) : Type 0 where
+  pub there : There queue l (getD tallies l 0)
+  pub room : Room queue u (startedOf tallies u) (getD tallies (waitingPlace u) 0)
+  pub counted : tallyNumbers ≤ length tallies
+  pub shallow : runningFork 0 tallies queue l .depth ≤ stampDigits
+  pub few : forks < maxForks
+  pub fits : runningFork 0 tallies queue l .stamp + 16 ^ (stampDigits + 1 - runningFork 0 tallies queue l .depth) ≤ 2 ^ 32
+
+-- the fork has arrived there
+pub record Forked (tallies tallies' queue queue' : List ℕ) (l stamp forks u : ℕ) (message : Message) : Type 0 where
+  pub row : List ℕ
+  pub child : (n : ℕ) → l < n → n ≤ maxLevels → forkOfRow n row ≡ record { stamp = childStamp (runningFork n tallies queue l .stamp) (runningFork n tallies queue l .depth) (forks + 1); depth = runningFork n tallies queue l .depth + 1; seen = set (runningFork n tallies queue l .seen) l stamp; message = message }
+  pub count : ℕ
+  pub arrived : Arrived queue queue' u (startedOf tallies u) (getD tallies (waitingPlace u) 0) row count
+  pub tallies-are : tallies' ≡ set tallies (waitingPlace u) count
+
+-- the same, of any effect of a script step
+abbrev pub EffectReady : List ℕ → List ℕ → List ℕ → List ℕ → ℕ → ℕ → Effect → Type 0
+EffectReady current tallies queue work l forks effect.Nothing = Unit
+EffectReady current tallies queue work l forks (effect.Write object k v) = WriteReady current tallies work l object k
+EffectReady current tallies queue work l forks (effect.Fork u message) = ForkReady tallies queue l forks u
+
+-- the words that an effect may change
+pub record Parts : Type 0 where
+  pub current : List ℕ
+  pub tallies : List ℕ
+  pub queue : List ℕ
+  pub work : List ℕ
+
+abbrev pub EffectDone : Parts → Parts → ℕ → ℕ → ℕ → Effect → Type 0
+EffectDone a b l stamp forks effect.Nothing = b ≡ a
+EffectDone a b l stamp forks (effect.Write object k v) =
+    Wrote (a .current) (b .current) (a .tallies) (b .tallies) (a .work) (b .work) l stamp object k v × (b .queue ≡ a .queue)
+EffectDone a b l stamp forks (effect.Fork u message) =
+    Forked (a .tallies) (b .tallies) (a .queue) (b .queue) l stamp forks u message × ((b .current ≡ a .current) × (b .work ≡ a .work))
+
+-- there is room for one more history of level l
+pub record SettleReady (ended tallies queue : List ℕ) (l : ℕ) : Type 0 where
+  pub histories : historyWords ≤ length ended
+  pub there : There queue l (getD tallies l 0)
+  pub rises : InOrder (historiesAt ended l (getD tallies l 0))
+  pub counted : tallyNumbers ≤ length tallies
+
+-- the manager that ran at level l has ended as m: its history is kept, the next one's write stamp is known, and none runs
+pub record Closed (ended ended' tallies tallies' queue : List ℕ) (l : ℕ) (m : Manager) : Type 0 where
+  pub history : Ended
+  pub history-is : HistoryIs (runningFork 0 tallies queue l .stamp) m history
+  pub added : Added ended ended' l (getD tallies l 0) history
+  pub tallies-are : tallies' ≡ set (set (set tallies l (getD tallies l 0 + 1)) (nextPlace l) (m .stamp + 1)) (busyPlace l) 0
+
+-- a manager that runs on leaves all as it was
+abbrev pub Settled : List ℕ → List ℕ → List ℕ → List ℕ → List ℕ → ℕ → Manager → Type 0
+Settled ended ended' tallies tallies' queue l m =
+    (isRunning (m .ending) ≡ true → (ended' ≡ ended) × (tallies' ≡ tallies))
+    × (isRunning (m .ending) ≡ false → Closed ended ended' tallies tallies' queue l m)
+
+-- a fork waits at level l, and can start there
+pub record StartReady (s index ended tallies queue : List ℕ) (l : ℕ) : Type 0 where
+  pub indexed : Indexed s index
+  pub startable : Startable s l (getD tallies (nextPlace l) 0) (runningFork 0 tallies queue l .message)
+  pub waits : 0 < getD tallies (waitingPlace l) 0
+  pub settles : SettleReady ended tallies queue l
+
+-- what is counted of level l once its first fork that waits has started
+abbrev pub begunTallies : List ℕ → ℕ → List ℕ
+begunTallies tallies l = set (set tallies (waitingPlace l) (getD tallies (waitingPlace l) 0 - 1)) (busyPlace l) 1
+
+-- it has started, and has ended at once where its method is empty
+pub record Started (s ended ended' tallies tallies' queue : List ℕ) (l : ℕ) (m : Manager) : Type 0 where
+  pub manager : m ≡ started (programOf s) l (getD tallies (nextPlace l) 0) (runningFork 0 tallies queue l .message)
+  pub settled : Settled ended ended' (begunTallies tallies l) tallies' queue l m
+
+-- the words say a state that a run reaches, in which level l may step; m is the manager that runs there, if one does
+pub record Stepping (s : List ℕ) (w : Words) (l : ℕ) (m : Manager) (ms : ℕ → Manager) (st : State) : Type 0 where
+  pub says : Says s w ms st
+  pub allowed : stepRefusal (programOf s) st l ≡ 0
+  pub held : ms l ≡ m
+
+abbrev pub MayStep : List ℕ → Words → ℕ → Manager → Type 0
+MayStep s w l m = (ms : ℕ → Manager) × ((st : State) × Stepping s w l m ms st)
+
+-- the words then say the state after a scheduler step at level l, with r for the manager that runs there; the work slice is as it was beyond
+-- the versions
+pub record StepDone (s : List ℕ) (l : ℕ) (m : Manager) (w w' : Words) (r : Manager) : Type 0 where
+  pub says : (ms : ℕ → Manager) (st : State) → Stepping s w l m ms st → Says s w' (placed l r ms) (stepAt (programOf s) l st)
+  pub rest : drop workNumbers (w' .work) ≡ drop workNumbers (w .work)

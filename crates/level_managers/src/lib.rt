@@ -1,0 +1,9 @@
+// The level managers: what a run keeps of each level, which level may step, what the manager that runs at a
+// level reads, and a scheduler step at a level.
+//
+// What a run keeps is lent: `current` holds the newest fields and `ended` the histories, as in `records`;
+// `tallies` the counts of each level, as in `tallies`; `queue` the forks, as in `queues`; `work` the
+// versions, as in `versions`.
+pub mod reads;
+pub mod steps;
+pub mod tallies;
