@@ -5,11 +5,12 @@ mod timetable;
 use records::Answer;
 use records::fields;
 use session::contents;
+ghost use mathlib.Core.Path.{_≡_};
 ghost use Rattle.session.specs.Meaning.{levelOf, rootObject};
 ghost use Rattle.managers.specs.Valid.{Leveled};
 ghost use Rattle.model.specs.Entries.{timetabled, plain as plainly, Answers};
 ghost use Rattle.records.specs.Writing.{Ready};
-ghost use Rattle.scheduler.specs.Runs.{EntryRefusal, Fresh, ReadIn, Shows, RunReady, ListDone, PlainDone, Refused, RefusedBy};
+ghost use Rattle.scheduler.specs.Runs.{startTallies, EntryRefusal, Fresh, ReadIn, Shows, RunReady, ListDone, PlainDone, Refused, RefusedBy};
 
 // How the scheduler steps of a run end.
 pub enum Outcome {
@@ -48,6 +49,17 @@ fn refused(number: u32, place: u32) -> Answer
         place,
         count: 0,
     }
+}
+
+// What is counted of each level before a run: nothing, and the first write stamp is 1.
+fn first_tallies() -> [usize; 48]
+    ensures { λ r. ⌜ r ≡ startTallies ⌝ }
+{
+    let mut tallies = [0usize; 48];
+    for level in 0..8 {
+        tallies[8 + level] = 1;
+    }
+    tallies
 }
 
 // Fills the words of a run with the session as read in: the method index, the first fields, and the
@@ -130,56 +142,7 @@ fn run_list(
     let mut current = [0u32; 192];
     let mut ended = [0u32; 2048];
     let mut queue = [0u32; 3584];
-    let mut tallies = [
-        0usize,
-        0,
-        0,
-        0,
-        0,
-        0,
-        0,
-        0,
-        1,
-        1,
-        1,
-        1,
-        1,
-        1,
-        1,
-        1,
-        0,
-        0,
-        0,
-        0,
-        0,
-        0,
-        0,
-        0,
-        0,
-        0,
-        0,
-        0,
-        0,
-        0,
-        0,
-        0,
-        0,
-        0,
-        0,
-        0,
-        0,
-        0,
-        0,
-        0,
-        0,
-        0,
-        0,
-        0,
-        0,
-        0,
-        0,
-        0,
-    ];
+    let mut tallies = first_tallies();
     let level = read_in(
         session,
         masks,
@@ -230,56 +193,7 @@ fn run_lowest(
     let mut current = [0u32; 192];
     let mut ended = [0u32; 2048];
     let mut queue = [0u32; 3584];
-    let mut tallies = [
-        0usize,
-        0,
-        0,
-        0,
-        0,
-        0,
-        0,
-        0,
-        1,
-        1,
-        1,
-        1,
-        1,
-        1,
-        1,
-        1,
-        0,
-        0,
-        0,
-        0,
-        0,
-        0,
-        0,
-        0,
-        0,
-        0,
-        0,
-        0,
-        0,
-        0,
-        0,
-        0,
-        0,
-        0,
-        0,
-        0,
-        0,
-        0,
-        0,
-        0,
-        0,
-        0,
-        0,
-        0,
-        0,
-        0,
-        0,
-        0,
-    ];
+    let mut tallies = first_tallies();
     let level = read_in(
         session,
         masks,

@@ -1,5 +1,5 @@
 -- The words of a run once its session is read in: nothing has started, ended or been written, and the root's fork waits. Assumes nothing.
-use Prim.Native.Nat.{ℕ, _+_, _<_}
+use Prim.Native.Nat.{ℕ, zero, suc, _+_, _-_, _*_, _<_}
 use mathlib.Core.Path.{_≡_, refl, sym, _∙_, ap, ap₂}
 use mathlib.Core.Bool.{true}
 use mathlib.Core.List.{List, [], _++_, append-nil}
@@ -41,6 +41,21 @@ use Rattle.scheduler.specs.Runs.{startOf, Rests, startTallies, Fresh, Re
 use Rattle.level_managers.proofs.Laws.Told.{Limited}
 use Rattle.level_managers.proofs.Laws.Arrive.{told-arrive}
 use Rattle.level_managers.proofs.Laws.Advance.{told-state}
+
+-- what is counted, with the first write stamps of n levels
+abbrev pub firstStamps : ℕ → List ℕ
+firstStamps n = replicate maxLevels 0 ++ replicate n 1 ++ replicate (5 * maxLevels - n) 0
+
+pub stamps-more : (n : ℕ) → n < maxLevels → set (firstStamps n) (maxLevels + n) 1 ≡ firstStamps (n + 1)
+stamps-more zero h = refl
+stamps-more (suc zero) h = refl
+stamps-more (suc (suc zero)) h = refl
+stamps-more (suc (suc (suc zero))) h = refl
+stamps-more (suc (suc (suc (suc zero)))) h = refl
+stamps-more (suc (suc (suc (suc (suc zero))))) h = refl
+stamps-more (suc (suc (suc (suc (suc (suc zero)))))) h = refl
+stamps-more (suc (suc (suc (suc (suc (suc (suc zero))))))) h = refl
+stamps-more (suc (suc (suc (suc (suc (suc (suc (suc n)))))))) h = absurd (omega arith)
 
 none-rises : InOrder []
 unfolding risingFrom

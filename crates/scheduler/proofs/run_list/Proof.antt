@@ -22,6 +22,9 @@ not-finished (variant.Refused n p) h e = absurd (not-both (isFinished variant.Fi
     isFinished variant.Finished = true
     isFinished (variant.Refused n p) = false
 
+first-tallies-requires : tie.Need-first-tallies-requires
+first-tallies-requires c = search needs
+
 slice-aggregate-read-in : tie.Need-slice-aggregate-read-in
 slice-aggregate-read-in c = search needs
 
@@ -54,7 +57,7 @@ slice-aggregate-run-5 c = search needs
 
 run-requires : tie.Need-run-requires
 run-requires c κs =
-    let z = c .before .before .before .before .before .before .before .before .before .before .before .before .before .before .before .before .before .before .before .before in
+    let z = c .before .before .before .before .before .before .before .before .before .before .before .before .before .before .before .before .before .before .before .before .before in
     let r = c .before .before .before .before .before .before .before .before .before .before .read-in in
     (record { indexed = record { accepted = (z .pre .leveled .accepted); index-is = r .ensures .index-is }; leveled = z .pre .leveled }, r .ensures .rests _ _ (zeros-long 2048) (z .pre .work-room))
 
@@ -75,7 +78,7 @@ same-length c = search needs
 
 returns : tie.Need-returns
 returns c =
-    let z = c .before .before .before .before .before .before .before .before .before .before .before .before .before .before .before .before .before .before .before .before .before .before .before .before .before .before .before .before .before .before .before .before .before .before in
+    let z = c .before .before .before .before .before .before .before .before .before .before .before .before .before .before .before .before .before .before .before .before .before .before .before .before .before .before .before .before .before .before .before .before .before .before .before in
     let r = c .before .before .before .before .before .before .before .before .before .before .before .before .before .run in
     let k = c .before .before .before .before .before .clear in
     list-refused (z .args .session .now) (z .pre .leveled .accepted) (z .args .timetable .now) (z .args .clearance) (z .args .work .now) (r .last .1 .1 .1 .1 .1 .1 .1 .1 .0) (k .last .0) (z .args .result .now) (z .args .result .now) (r .ensures .1) (k .ensures) (record { current = r .last .1 .1 .1 .1 .0; ended = r .last .1 .1 .1 .1 .1 .0; tallies = r .last .1 .1 .1 .1 .1 .1 .0; queue = r .last .1 .1 .1 .1 .1 .1 .1 .0; work = r .last .1 .1 .1 .1 .1 .1 .1 .1 .0 }) (r .result) (c .refused-by .result) (r .ensures .0) (c .refused-by .ensures) refl (not-finished (r .result) (c .before .before .match .keys2))
@@ -91,7 +94,7 @@ slice-aggregate-show-3 c = search needs
 
 show-requires : tie.Need-show-requires
 show-requires c κs =
-    let z = c .before .before .before .before .before .before .before .before .before .before .before .before .before .before .before .before .before .before .before .before .before .before .before .before .before .before .before .before .before .before .before .before .before .before .before .before .before in
+    let z = c .before .before .before .before .before .before .before .before .before .before .before .before .before .before .before .before .before .before .before .before .before .before .before .before .before .before .before .before .before .before .before .before .before .before .before .before .before .before in
     let r = c .before .before .before .before .before .before .before .before .before .before .before .before .before .before .before .before .run in
     show-ready (z .args .session .now) (z .args .masks .now) (z .args .timetable .now) (record { current = r .last .1 .1 .1 .1 .0; ended = r .last .1 .1 .1 .1 .1 .0; tallies = r .last .1 .1 .1 .1 .1 .1 .0; queue = r .last .1 .1 .1 .1 .1 .1 .1 .0; work = r .last .1 .1 .1 .1 .1 .1 .1 .1 .0 }) _ (z .args .result .now) (z .pre .leveled) (finished-by (z .args .session .now) (z .args .timetable .now) (record { current = r .last .1 .1 .1 .1 .0; ended = r .last .1 .1 .1 .1 .1 .0; tallies = r .last .1 .1 .1 .1 .1 .1 .0; queue = r .last .1 .1 .1 .1 .1 .1 .1 .0; work = r .last .1 .1 .1 .1 .1 .1 .1 .1 .0 }) (r .result) (c .before .before .before .before .enum-told .given .1) (r .ensures .0)) (c .before .before .before .before .before .before .before .before .before .before .before .before .before .before .before .before .before .before .before .before .before .before .before .before .before .before .before .read-in .ensures .level-is) (z .pre .result-room)
 
@@ -103,7 +106,7 @@ same-length-3 c = search needs
 
 returns-2 : tie.Need-returns-2
 returns-2 c =
-    let z = c .before .before .before .before .before .before .before .before .before .before .before .before .before .before .before .before .before .before .before .before .before .before .before .before .before .before .before .before .before .before .before .before .before .before .before .before .before .before .before .before in
+    let z = c .before .before .before .before .before .before .before .before .before .before .before .before .before .before .before .before .before .before .before .before .before .before .before .before .before .before .before .before .before .before .before .before .before .before .before .before .before .before .before .before .before in
     let r = c .before .before .before .before .before .before .before .before .before .before .before .before .before .before .before .before .before .before .before .run in
     let k = c .before .before .before .before .before .before .before .before .before .before .before .clear in
     let s = c .before .before .show in
@@ -113,6 +116,7 @@ pub run-list-spec : {M : Type 1} → statement M
 run-list-spec =
     tie.close
     (tie.spec
+    first-tallies-requires
     slice-aggregate-read-in
     slice-aggregate-read-in-2
     slice-aggregate-read-in-3

@@ -7,6 +7,9 @@ use borrow.Author.Needs.{needs}
 use Rattle.scheduler.proofs.run_lowest.Statement.{statement}
 use Rattle.scheduler.proofs.run_lowest.Tie as tie
 
+first-tallies-requires : tie.Need-first-tallies-requires
+first-tallies-requires c = search needs
+
 slice-aggregate-read-in : tie.Need-slice-aggregate-read-in
 slice-aggregate-read-in c = search needs
 
@@ -39,7 +42,7 @@ slice-aggregate-run-5 c = search needs
 
 run-requires : tie.Need-run-requires
 run-requires c κs =
-    let z = c .before .before .before .before .before .before .before .before .before .before .before .before .before .before .before .before .before .before .before in
+    let z = c .before .before .before .before .before .before .before .before .before .before .before .before .before .before .before .before .before .before .before .before in
     let r = c .before .before .before .before .before .before .before .before .before .before .read-in in
     (record { indexed = record { accepted = (z .pre .leveled .accepted); index-is = r .ensures .index-is }; leveled = z .pre .leveled }, r .ensures .rests _ _ (zeros-long 2048) (z .pre .work-room))
 
@@ -57,7 +60,7 @@ slice-aggregate-show-3 c = search needs
 
 show-requires : tie.Need-show-requires
 show-requires c κs =
-    let z = c .before .before .before .before .before .before .before .before .before .before .before .before .before .before .before .before .before .before .before .before .before .before .before .before .before .before .before .before .before .before .before .before .before .before in
+    let z = c .before .before .before .before .before .before .before .before .before .before .before .before .before .before .before .before .before .before .before .before .before .before .before .before .before .before .before .before .before .before .before .before .before .before .before in
     let r = c .before .before .before .before .before .before .before .before .before .before .before .before .before .before .run in
     show-ready (z .args .session .now) (z .args .masks .now) _ (record { current = r .last .1 .1 .1 .0; ended = r .last .1 .1 .1 .1 .0; tallies = r .last .1 .1 .1 .1 .1 .0; queue = r .last .1 .1 .1 .1 .1 .1 .0; work = r .last .1 .1 .1 .1 .1 .1 .1 .0 }) _ (z .args .result .now) (z .pre .leveled) (plain-ends (z .args .session .now) (z .pre .leveled .accepted) (record { current = r .last .1 .1 .1 .0; ended = r .last .1 .1 .1 .1 .0; tallies = r .last .1 .1 .1 .1 .1 .0; queue = r .last .1 .1 .1 .1 .1 .1 .0; work = r .last .1 .1 .1 .1 .1 .1 .1 .0 }) (r .ensures .0)) (c .before .before .before .before .before .before .before .before .before .before .before .before .before .before .before .before .before .before .before .before .before .before .before .before .before .read-in .ensures .level-is) (z .pre .result-room)
 
@@ -69,7 +72,7 @@ same-length-2 c = search needs
 
 returns : tie.Need-returns
 returns c =
-    let z = c .before .before .before .before .before .before .before .before .before .before .before .before .before .before .before .before .before .before .before .before .before .before .before .before .before .before .before .before .before .before .before .before .before .before .before .before .before in
+    let z = c .before .before .before .before .before .before .before .before .before .before .before .before .before .before .before .before .before .before .before .before .before .before .before .before .before .before .before .before .before .before .before .before .before .before .before .before .before .before in
     let r = c .before .before .before .before .before .before .before .before .before .before .before .before .before .before .before .before .before .run in
     let k = c .before .before .before .before .before .before .before .before .before .clear in
     let s = c .before .before .show in
@@ -79,6 +82,7 @@ pub run-lowest-spec : {M : Type 1} → statement M
 run-lowest-spec =
     tie.close
     (tie.spec
+    first-tallies-requires
     slice-aggregate-read-in
     slice-aggregate-read-in-2
     slice-aggregate-read-in-3
