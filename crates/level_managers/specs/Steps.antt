@@ -5,8 +5,8 @@ use mathlib.Core.Bool.{true, false, cond}
 use mathlib.Core.List.{List}
 use lib.Dec.{eqb}
 use lib.ListN.{length, getD, set, drop}
-use Rattle.session.specs.Limits.{maxLevels, fields}
-use Rattle.session.specs.Parts.{levelCount, objectCount}
+use Rattle.session.specs.Limits.{maxLevels}
+use Rattle.session.specs.Parts.{levelCount}
 use Rattle.session.specs.Program.{programOf}
 use Rattle.session.specs.declared.Value.{Value}
 use Rattle.session.specs.declared.Message.{Message}
@@ -18,7 +18,7 @@ use Rattle.managers.specs.declared.Effect.{Effect}
 use Rattle.managers.specs.declared.Effect.the-variants as effect
 use Rattle.managers.specs.declared.Ask.{Ask}
 use Rattle.managers.specs.declared.Ask.the-variants as ask
-use Rattle.model.specs.Limits.{maxManagers, stampDigits, workNumbers}
+use Rattle.model.specs.Limits.{stampDigits, workNumbers}
 use Rattle.model.specs.Fork.{Fork, childStamp}
 use Rattle.model.specs.History.{endBefore}
 use Rattle.model.specs.Level.{busy}
@@ -70,11 +70,6 @@ boundIn n ended tallies queue l j =
 abbrev pub ReadIs : List ℕ → Words → ℕ → ℕ → ℕ → Value → Type 0
 ReadIs s w l object k r =
     (ms : ℕ → Manager) (st : State) (x : Fork) (m : Manager) → Busy s w l ms st x m → readAt (programOf s) st l x object k ≡ r
-
--- what a script step asks is a field of a present object
-abbrev pub AsksPresent : List ℕ → Ask → Type 0
-AsksPresent s ask.Nothing = Unit
-AsksPresent s (ask.Field object k) = (object < objectCount s) × (k < fields)
 
 -- a value is what the step sees where it asks
 abbrev pub SeenIs : List ℕ → Words → ℕ → Ask → Value → Type 0

@@ -9,8 +9,9 @@ ghost use Prim.Native.Nat.{ℕ, _<_};
 ghost use mathlib.Core.Path.{_≡_};
 ghost use Rattle.session.specs.Limits.{fields};
 ghost use Rattle.session.specs.Parts.{objectCount};
+ghost use Rattle.managers.specs.Asked.{AskedPresent};
 ghost use Rattle.managers.specs.Valid.{Leveled};
-ghost use Rattle.level_managers.specs.Steps.{IsBusy, BoundReady, boundIn, ReadIs, AsksPresent, SeenIs};
+ghost use Rattle.level_managers.specs.Steps.{IsBusy, BoundReady, boundIn, ReadIs, SeenIs};
 
 // The write stamp up to which the manager that runs at a level reads at level `j`, below: the one that it
 // carries from an ancestor there, or the end stamp of the largest smaller fork stamp there, or 0.
@@ -81,7 +82,7 @@ pub fn seen_by(
 ) -> Value
     requires { ⌜ Leveled (now session) (now masks) ⌝ }
     requires { ⌜ IsBusy (now session) (record { current = now current; ended = now ended; tallies = now tallies; queue = now queue; work = now work }) level ⌝ }
-    requires { ⌜ AsksPresent (now session) ask ⌝ }
+    requires { ⌜ AskedPresent (now session) ask ⌝ }
     ensures { λ r. ⌜ SeenIs (now (session .entry)) (record { current = now (current .entry); ended = now (ended .entry); tallies = now (tallies .entry); queue = now (queue .entry); work = now (work .entry) }) level ask r ⌝ }
 {
     match ask {

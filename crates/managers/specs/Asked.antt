@@ -1,6 +1,9 @@
 -- What a script step asks from outside: the field that a READ reads. Assumes nothing.
-use Prim.Native.Nat.{ℕ}
+use Prim.Native.Nat.{ℕ, _<_}
 use mathlib.Core.Path.{_≡_}
+use mathlib.Core.List.{List}
+use Rattle.session.specs.Limits.{fields}
+use Rattle.session.specs.Parts.{objectCount}
 use Rattle.session.specs.Program.{Program}
 use Rattle.session.specs.declared.Value.{Value}
 use Rattle.session.specs.declared.Step.{Step}
@@ -24,6 +27,11 @@ askedBy object (Quit a) = Nothing
 -- what the next step of a frame asks
 abbrev pub askedOf : Program → Frame → Ask
 askedOf p f = askedBy (f .object) (nextStep p f)
+
+-- the field that a step asks for is one of a present object
+abbrev pub AskedPresent : List ℕ → Ask → Type 0
+AskedPresent s Nothing = Unit
+AskedPresent s (Field object k) = (object < objectCount s) × (k < fields)
 
 -- a value is what is read where something is asked
 abbrev pub Sees : (ℕ → ℕ → Value) → Ask → Value → Type 0

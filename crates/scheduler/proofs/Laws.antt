@@ -4,7 +4,6 @@ pub mod Entry
 pub mod Listed
 pub mod Level
 pub mod Lagging
-pub mod Events
 pub mod Going
 pub mod Next
 pub mod Plain

@@ -4,3 +4,4 @@ pub mod Moves
 pub mod Quiet
 pub mod Turn
 pub mod Going
+pub mod Events

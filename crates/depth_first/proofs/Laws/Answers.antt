@@ -9,19 +9,14 @@ use lib.ListN.{length}
 use Rattle.session.specs.Parts.{levelCount}
 use Rattle.session.specs.Questions.{verdictOf, numberOfVerdict}
 use Rattle.session.specs.Program.{programOf}
-use Rattle.session.specs.declared.Verdict.{Verdict}
 use Rattle.session.specs.declared.Verdict.the-variants.{Accepted}
 use Rattle.model.specs.Limits.{resultBytes}
 use Rattle.model.specs.Result.{byNumber}
 use Rattle.model.specs.Entries.{Request, entryRefusal, untouched, deep, Answers}
-use Rattle.model.proofs.Laws.Reader.Answers.{number-accepted, passed, deep-is}
+use Rattle.model.proofs.Laws.Reader.Answers.{passed, deep-is}
 use Rattle.records.proofs.Laws.Orders.{by-number-shown}
 use Rattle.records.specs.declared.Answer.{Answer}
 use Rattle.depth_first.specs.Runs.{Shown, Refused}
-
--- the number of the verdict is 0
-pub accepted-by : (s : List ℕ) (number : ℕ) (v : Verdict) → number ≡ numberOfVerdict v → v ≡ verdictOf s → number ≡ 0 → verdictOf s ≡ Accepted
-accepted-by s number v e i z = sym i ∙ number-accepted v (sym e ∙ z)
 
 module _ (s : List ℕ) (c : ℕ) (b : List ℕ) where
   abbrev q : Request

@@ -1,17 +1,15 @@
 -- What the words of a run say at its start. Assumes nothing.
 use Prim.Native.Nat.{ℕ, zero, suc, _+_, _^_, _≤_, _<_}
 use mathlib.Core.Path.{_≡_, refl, sym, _∙_, ap}
-use mathlib.Core.List.{List, [], _∷_, _++_, append-nil}
+use mathlib.Core.List.{List, [], _∷_}
 use native.Mathlib.Omega.{arith}
-use lib.ListN.{length, getD, drop, replicate, length-replicate, getD-replicate}
-use lib.Seq.{drop-length}
-use Rattle.session.specs.Limits.{maxLevels, maxMethods}
+use lib.ListN.{length, getD, replicate, length-replicate, getD-replicate}
+use Rattle.session.specs.Limits.{maxLevels}
 use Rattle.session.specs.Lists.{risingFrom}
 use Rattle.session.specs.Parts.{levelCount}
 use Rattle.session.specs.Meaning.{levelOf, fieldOf, rootObject, rootOf}
 use Rattle.session.specs.Questions.{verdictOf}
 use Rattle.session.specs.Program.{programOf}
-use Rattle.session.specs.Reading.{indexOf}
 use Rattle.session.specs.declared.Message.{Message}
 use Rattle.session.specs.declared.Verdict.the-variants.{Accepted}
 use Rattle.session.proofs.Laws.Accepted.{level-present, root-present}
@@ -63,11 +61,6 @@ module _ (s : List ℕ) (a : verdictOf s ≡ Accepted) where
   pub level-byte : (m : Message) (level : ℕ) → m ≡ rootOf s → level ≡ levelOf s (m .object) → level < 2 ^ 8
   level-byte m level e i =
       omega (arith, i, ap (λ m. levelOf s (m .object)) e, level-present s a (rootObject s) (root-present s a), level-limit s a)
-
-  -- the method index fills its words
-  pub index-made : (before index : List ℕ) → length before ≡ maxMethods + 1 → index ≡ indexOf s ++ drop (maxMethods + 1) before → index ≡ indexOf s
-  index-made before index l e =
-      e ∙ ap (λ n. indexOf s ++ drop n before) (sym l) ∙ ap (λ t. indexOf s ++ t) (drop-length before) ∙ append-nil (indexOf s)
 
   pub start-tally : (l : ℕ) → l < levelCount s → tallyAt (startOf s) l ≡ newTally
   start-tally l h = getD-replicate (levelCount s) l newTally newTally h

@@ -5,8 +5,7 @@ use mathlib.Core.Path.{_≡_, refl, sym, _∙_, ap, subst}
 use mathlib.Core.Bool.{true, false}
 use mathlib.Core.List.{List}
 use native.Mathlib.Omega.{arith}
-use borrow.Author.Tests.{lt-ltb, le-ltb}
-use lib.ListN.{length, getD, set}
+use lib.ListN.{length, set}
 use Rattle.lattice.proofs.Laws.Range.{not-both}
 use Rattle.session.specs.Limits.{registers, fields}
 use Rattle.session.specs.Parts.{objectCount}
@@ -18,11 +17,9 @@ use Rattle.session.specs.declared.Verdict.the-variants.{Accepted}
 use Rattle.session.proofs.Laws.Numbering.{few-objects}
 use Rattle.session.proofs.Laws.Verdict.{accepted}
 use Rattle.managers.specs.Limits.{maxScriptSteps, maxWrites, maxForks}
-use Rattle.managers.specs.Frame.{noFrame, withRegister}
+use Rattle.managers.specs.Frame.{withRegister}
 use Rattle.managers.specs.Manager.{isRunning, concluded, stepped}
 use Rattle.managers.specs.Valid.{Known, Stack, Valid}
-use Rattle.managers.specs.declared.Frame.{Frame}
-use Rattle.managers.specs.declared.Ending.{Ending}
 use Rattle.managers.specs.declared.Ending.the-variants.{Finished, OutOfSteps, OutOfWrites}
 use Rattle.managers.specs.declared.Manager.{Manager}
 use Rattle.managers.specs.declared.Stepped.{Stepped}
@@ -48,6 +45,7 @@ use Rattle.stacks.specs.declared.Course.{Course}
 use Rattle.stacks.specs.declared.Pause.{Pause}
 use Rattle.stacks.specs.declared.Event.{Event}
 use Rattle.stacks.specs.declared.Event.the-variants as event
+use Rattle.stacks.proofs.Laws.Events.{after, does-write, does-spent, does-read, does-fork, does-unforked}
 use Rattle.depth_first.specs.Kept.{Read, Keeps, Runnable, Same, Goes, Words, Says, SameEnd, Gone, ForkDone}
 use Rattle.depth_first.specs.declared.forks.Fork.{Fork}
 use Rattle.depth_first.proofs.Laws.Kept.{kept-write}
@@ -88,48 +86,6 @@ module _ (s : List ℕ) (a : verdictOf s ≡ Accepted) (left l : ℕ) (x : model
       let one : ends m g ≡ ends n g = step-ends m g v run ∙ ap (λ e. ends n (effected (runFork left p) l x m e g)) none in
       let rest = quiet-ends k n b g (stepped-valid s a (fieldNow p g) m v run) q in
       (one ∙ rest .0, rest .1)
-
--- the course at a pause, with these counts of writes and forks and this ending
-abbrev pub after : Course → Pause → ℕ → ℕ → Ending → Course
-after c r writes forks ending =
-    record {
-      level = c .level;
-      first = c .first;
-      steps = r .steps;
-      writes = writes;
-      forks = forks;
-      ending = ending;
-      reply = c .reply;
-      height = r .height;
-      near = c .near;
-    }
-
--- the manager after a step that concerns others, and its effect, by the event
-module _ (p : Program) (read : ℕ → ℕ → Value) (c : Course) (r : Pause) (start frames fs : List Frame) (steps : ℕ) (one-more : r .steps ≡ steps + 1) where
-  abbrev before : Manager
-  before = standing (managerOf c start) (r .height) frames steps
-
-  does-write : (o i : ℕ) (v : Value) → c .writes < maxWrites → counting p (caused read before fs (event.Write o i v)) ≡ record { manager = settledOf p (managerOf (after c r (c .writes + 1) (c .forks) (c .ending)) fs); effect = effect.Write o i v }
-  unfolding caused
-  does-write o i v few = rw (lt-ltb (c .writes) maxWrites few, one-more) refl
-
-  does-spent : (o i : ℕ) (v : Value) → maxWrites ≤ c .writes → counting p (caused read before fs (event.Write o i v)) ≡ record { manager = settledOf p (managerOf (after c r (c .writes) (c .forks) OutOfWrites) fs); effect = effect.Nothing }
-  unfolding caused
-  does-spent o i v most = rw (le-ltb (c .writes) maxWrites most, one-more) refl
-
-  does-read : (o i k : ℕ) (fs' : List Frame) → fs' ≡ set fs (r .height - 1) (withRegister (getD fs (r .height - 1) noFrame) k (read o i)) → counting p (caused read before fs (event.Read o i k)) ≡ record { manager = settledOf p (managerOf (after c r (c .writes) (c .forks) (c .ending)) fs'); effect = effect.Nothing }
-  unfolding caused
-  does-read o i k fs' e = rw (e, one-more) refl
-
-  does-fork : (u o b : ℕ) (v : Value) → c .forks < maxForks → counting p (caused read before fs (event.Fork u o b v)) ≡ record { manager = settledOf p (managerOf (after c r (c .writes) (c .forks + 1) (c .ending)) fs); effect = effect.Fork u (record { object = o; name = b; parameter = v }) }
-  unfolding caused
-  does-fork u o b v few =
-      let stamp : c .first + (c .forks + 1) ≡ c .first + c .forks + 1 = omega arith in
-      rw (lt-ltb (c .forks) maxForks few, one-more, stamp) refl
-
-  does-unforked : (u o b : ℕ) (v : Value) → maxForks ≤ c .forks → counting p (caused read before fs (event.Fork u o b v)) ≡ record { manager = settledOf p (managerOf (after c r (c .writes) (c .forks) (c .ending)) fs); effect = effect.Nothing }
-  unfolding caused
-  does-unforked u o b v most = rw (le-ltb (c .forks) maxForks most, one-more) refl
 
 -- a manager that goes on, once the pops that were put off are made
 pub settled-valid : (s : List ℕ) (left : ℕ) (f : Fork) (c : Course) (k : List ℕ) → Goes s left f c k → Valid s (concluded (programOf s) (managerOf c (framesOf k)))

@@ -1,7 +1,8 @@
 -- `depth_first::run` meets its contract. Assumes nothing.
 use mathlib.Core.Path.{refl}
 use lib.ListN.{replicate}
-use Rattle.depth_first.proofs.Laws.Start.{index-made, long, kept-start}
+use Rattle.session.proofs.Laws.Contents.{index-made}
+use Rattle.depth_first.proofs.Laws.Start.{long, kept-start}
 use borrow.Author.Needs.{needs}
 use Rattle.depth_first.proofs.run.Statement.{statement}
 use Rattle.depth_first.proofs.run.Tie as tie
@@ -35,7 +36,7 @@ run-over-requires c κs =
     let z = c .before .before .before .before .before .before .before .before .before .before .before .before .before .before in
     let s = z .args .session .now in
     let a = z .pre .0 in (
-      record { accepted = a; masks-are = z .pre .1; index-is = index-made s a (replicate 513 0) _ refl (c .before .before .before .before .before .before .before .before .before .index-methods .ensures) },
+      record { accepted = a; masks-are = z .pre .1; index-is = index-made s (replicate 513 0) _ refl (c .before .before .before .before .before .before .before .before .before .index-methods .ensures) },
       (
         kept-start s a _ _ _ (c .before .before .before .before .before .before .fill .ensures) (long 192) (long 2048),
         z .pre .2,

@@ -7,7 +7,8 @@ use lib.Seq.{length-take-le, take-at}
 use Rattle.session.specs.Parts.{levelCount, masksOf}
 use Rattle.session.specs.Questions.{numberOfVerdict}
 use Rattle.session.proofs.Laws.Contents.{level-limit, masks-length}
-use Rattle.depth_first.proofs.Laws.Answers.{accepted-by, refused-session, refused-level, refused-room, answered}
+use Rattle.model.proofs.Laws.Reader.Answers.{accepted-by}
+use Rattle.depth_first.proofs.Laws.Answers.{refused-session, refused-level, refused-room, answered}
 use borrow.Author.Needs.{needs}
 use Rattle.depth_first.proofs.run_depth_first.Statement.{statement}
 use Rattle.depth_first.proofs.run_depth_first.Tie as tie

@@ -17,7 +17,7 @@ use Rattle.session.specs.declared.Message.{Message}
 use Rattle.session.proofs.Laws.Contents.{level-limit, object-limit}
 use Rattle.managers.specs.Limits.{maxFrames}
 use Rattle.managers.specs.Manager.{isRunning, top, started, stepped}
-use Rattle.managers.specs.Asked.{askedOf, Sees}
+use Rattle.managers.specs.Asked.{askedOf, AskedPresent, Sees}
 use Rattle.managers.specs.Valid.{Indexed, Known, Startable, Ready}
 use Rattle.managers.specs.declared.Manager.{Manager}
 use Rattle.managers.specs.declared.Stepped.{Stepped}
@@ -25,7 +25,7 @@ use Rattle.managers.specs.declared.Effect.{Effect}
 use Rattle.managers.specs.declared.Effect.the-variants as effect
 use Rattle.managers.specs.declared.Ask.{Ask}
 use Rattle.managers.specs.declared.Ask.the-variants as ask
-use Rattle.managers.proofs.Laws.Accepted.{AskedPresent, asked-present}
+use Rattle.managers.proofs.Laws.Accepted.{asked-present}
 use Rattle.managers.proofs.Laws.Step.{ready-low, ready-height, ready-known}
 use Rattle.model.specs.Fork.{Fork, childStamp}
 use Rattle.model.specs.Level.{idle, busy, hasManager}
@@ -37,7 +37,7 @@ use Rattle.records.specs.Histories.{HistoryIs, HistoryRoom, Added}
 use Rattle.records.specs.declared.Ended.{Ended}
 use Rattle.queues.specs.Queue.{ChildRow, Arrived}
 use Rattle.level_managers.specs.Kept.{Words, nextPlace, waitingPlace, busyPlace, tallyNumbers}
-use Rattle.level_managers.specs.Steps.{Read, Busy, IsBusy, runningFork, AsksPresent, SeenIs, WriteReady, Wrote, startedOf, ForkReady, Forked, EffectReady, Parts, EffectDone, SettleReady, Settled, begunTallies, StartReady, Started, Stepping, MayStep, StepDone}
+use Rattle.level_managers.specs.Steps.{Read, Busy, IsBusy, runningFork, SeenIs, WriteReady, Wrote, startedOf, ForkReady, Forked, EffectReady, Parts, EffectDone, SettleReady, Settled, begunTallies, StartReady, Started, Stepping, MayStep, StepDone}
 use Rattle.level_managers.proofs.Laws.Ready.{told-rests, told-runs, waits-some, start-ready, busy-settles, effect-ready, settle-after}
 use Rattle.level_managers.proofs.Laws.Step.{says-live, says-start, says-advance, rest-effect}
 
@@ -118,11 +118,7 @@ module _ (s index ended tallies queue : List ℕ) (l : ℕ) (message : Message) 
   pub begun : (ended' tallies' : List ℕ) (m : Manager) → m ≡ started (programOf s) l (getD tallies (nextPlace l) 0) message → Settled ended ended' (begunTallies tallies l) tallies' queue l m → Started s ended ended' tallies tallies' queue l m
   begun ended' tallies' m made settled = record { manager = rw (is 0) made; settled = settled }
 
--- what is asked is present; what was seen is what the definition reads
-same-asks : (s : List ℕ) (k : Ask) → AskedPresent s k → AsksPresent s k
-same-asks s ask.Nothing p = tt
-same-asks s (ask.Field object k) p = p
-
+-- what was seen is what the definition reads
 sees-read : (s : List ℕ) (w : Words) (l : ℕ) (k : Ask) (seen : Value) → SeenIs s w l k seen → (ms : ℕ → Manager) (st : State) (x : Fork) (m : Manager) → Busy s w l ms st x m → Sees (readAt (programOf s) st l x) k seen
 sees-read s w l ask.Nothing seen h ms st x m b = tt
 sees-read s w l (ask.Field object k) seen h ms st x m b = h ms st x m b
@@ -211,8 +207,8 @@ module _ {s masks index : List ℕ} {w : Words} {l : ℕ} {m : Manager} (a : Adv
   pub known-here : Indexed s index × Known s (top m)
   known-here = (a .read .indexed, ready-known s masks index m ready-here)
 
-  pub asks-here : (k : Ask) → k ≡ askedOf (programOf s) (top m) → AsksPresent s k
-  asks-here k is = same-asks s k (rw is (asked-present s (accepted (a .read)) (top m) (known-here .1)))
+  pub asks-here : (k : Ask) → k ≡ askedOf (programOf s) (top m) → AskedPresent s k
+  asks-here k is = rw is (asked-present s (accepted (a .read)) (top m) (known-here .1))
 
   settles₀ : SettleReady (w .ended) (w .tallies) (w .queue) l
   settles₀ =

@@ -28,12 +28,10 @@ use Rattle.filter.specs.declared.Fate.the-variants as fate
 use Rattle.managers.specs.Limits.{maxWrites, maxForks}
 use Rattle.managers.specs.Frame.{register, withRegister, atStep}
 use Rattle.managers.specs.Manager.{isEnd, nextStep, written, called, forked, sent, operated}
-use Rattle.managers.specs.Asked.{askedBy, askedOf}
+use Rattle.managers.specs.Asked.{askedBy, askedOf, AskedPresent}
 use Rattle.managers.specs.Valid.{Known, Aimed}
 use Rattle.managers.specs.declared.Frame.{Frame}
 use Rattle.managers.specs.declared.Manager.{Manager}
-use Rattle.managers.specs.declared.Ask.{Ask}
-use Rattle.managers.specs.declared.Ask.the-variants as ask
 use Rattle.managers.specs.declared.Effect.{Effect}
 use Rattle.managers.specs.declared.Effect.the-variants as effect
 use Rattle.managers.proofs.Laws.Effects.{Sound}
@@ -84,11 +82,6 @@ fits-keeps s p m f count (Send a b c) h low q =
       near = omega arith;
     })
 fits-keeps s p m f count (Quit a) h low q = tt
-
--- the field that a step asks for is one of a present object
-abbrev pub AskedPresent : List ℕ → Ask → Type 0
-AskedPresent s ask.Nothing = Unit
-AskedPresent s (ask.Field object k) = (object < objectCount s) × (k < fields)
 
 fits-asked : (s : List ℕ) (count o : ℕ) (i : Step) → o < objectCount s → operandsFit (objectCount s) count i ≡ true → AskedPresent s (askedBy o i)
 unfolding operandsFit

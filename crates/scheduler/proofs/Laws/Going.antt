@@ -1,5 +1,5 @@
 -- A manager goes on up to an event, and what the event does is done. Assumes nothing.
-use Prim.Native.Nat.{ℕ, _+_, _-_, _*_, _^_, _≤_, _<_}
+use Prim.Native.Nat.{ℕ, _+_, _-_, _≤_, _<_}
 use mathlib.Core.Path.{_≡_, refl, sym, _∙_, ap, subst}
 use mathlib.Core.Bool.{true, false, cond}
 use mathlib.Core.List.{List, []}
@@ -7,8 +7,7 @@ use native.Mathlib.Omega.{arith}
 use lib.ListN.{length, getD, set}
 use lib.Seq.{getD-set-other}
 use Rattle.lattice.proofs.Laws.Range.{not-both}
-use Rattle.session.specs.Limits.{maxLevels, fields}
-use Rattle.session.specs.Parts.{levelCount, objectCount}
+use Rattle.session.specs.Limits.{maxLevels}
 use Rattle.session.specs.Program.{Program, programOf}
 use Rattle.session.specs.Questions.{verdictOf}
 use Rattle.session.specs.declared.Verdict.the-variants.{Accepted}
@@ -17,9 +16,9 @@ use Rattle.session.specs.declared.Value.the-variants.{Nil}
 use Rattle.session.specs.declared.Message.{Message}
 use Rattle.session.proofs.Laws.Contents.{level-limit}
 use Rattle.session.proofs.Laws.Lists.{holds, fails, truth}
-use Rattle.managers.specs.Limits.{maxScriptSteps, maxWrites, maxForks}
-use Rattle.managers.specs.Frame.{noFrame, withRegister}
-use Rattle.managers.specs.Manager.{isRunning, concluded, stepped}
+use Rattle.managers.specs.Limits.{maxWrites, maxForks}
+use Rattle.managers.specs.Frame.{withRegister}
+use Rattle.managers.specs.Manager.{isRunning, concluded}
 use Rattle.managers.specs.Valid.{Known, Stack}
 use Rattle.managers.specs.declared.Frame.{Frame}
 use Rattle.managers.specs.declared.Manager.{Manager}
@@ -34,12 +33,13 @@ use Rattle.managers.proofs.Laws.Accepted.{known-register}
 use Rattle.managers.proofs.Laws.Stack.{replaced-stack}
 use Rattle.stacks.specs.Stack.{framesOf, frameIn, There, Replaced}
 use Rattle.stacks.specs.Moves.{caused, Sees, EventPresent}
-use Rattle.stacks.specs.Pauses.{Quietly, Inside, standing, over, counting, Last, Paused, isOver, Advanceable, Stands, Advanced}
+use Rattle.stacks.specs.Pauses.{Inside, standing, counting, Last, Paused, isOver, Advanceable, Stands, Advanced}
 use Rattle.stacks.specs.Course.{managerOf, settledOf}
 use Rattle.stacks.specs.declared.Course.{Course}
 use Rattle.stacks.specs.declared.Event.{Event}
 use Rattle.stacks.specs.declared.Event.the-variants as event
 use Rattle.stacks.specs.declared.Pause.{Pause}
+use Rattle.stacks.proofs.Laws.Events.{after, does-write, does-spent, does-read, does-fork, does-unforked}
 use Rattle.level_managers.specs.Kept.{Words, waitingPlace, versionsPlace, busyPlace, placed}
 use Rattle.level_managers.specs.Steps.{Read, IsBusy, ReadIs, WriteReady, Wrote, ForkReady, Forked, Parts, EffectReady, EffectDone}
 use Rattle.scheduler.specs.Running.{Draining, Lagging, courseIn, Goes, Lags, Gone}
@@ -47,7 +47,6 @@ use Rattle.level_managers.proofs.Laws.Ready.{settle-after}
 use Rattle.level_managers.proofs.Laws.Step.{rest-effect}
 use Rattle.level_managers.proofs.Laws.Made.{partsOf}
 use Rattle.scheduler.proofs.Laws.Lagging.{Running, quiet-runs, running-busy, running-effect, running-step, running-quiet, lag-quiet, lag-running, running-start, running-sees}
-use Rattle.scheduler.proofs.Laws.Events.{on, nearBy, spent, writes-field, writes-none, reads-field, forks-message, forks-none}
 
 -- an effect leaves how many managers have ended at a level, and that one runs there
 effect-count : (a b : Parts) (l stamp forks : ℕ) (e : Effect) → l < maxLevels → EffectDone a b l stamp forks e → getD (b .tallies) l 0 ≡ getD (a .tallies) l 0
@@ -90,6 +89,21 @@ paused-last read event.OutOfSteps o q = absurd (not-both true refl o)
 paused-last read (event.Write a k v) o q = q
 paused-last read (event.Read a k i) o q = q
 paused-last read (event.Fork u a b v) o q = q
+
+-- the course, of which the last read below saw so many versions
+abbrev pub nearBy : Course → ℕ → Course
+nearBy c reach =
+    record {
+      level = c .level;
+      first = c .first;
+      steps = c .steps;
+      writes = c .writes;
+      forks = c .forks;
+      ending = c .ending;
+      reply = c .reply;
+      height = c .height;
+      near = reach;
+    }
 
 module _ (s masks index : List ℕ) (rd : Read s masks index) (w : Words) (l : ℕ) (c : Course) (k : List ℕ) (goes : Goes s l c k) (there : Lags s w l c k) where
   abbrev acc : verdictOf s ≡ Accepted
@@ -261,13 +275,12 @@ module _ (s masks index : List ℕ) (rd : Read s masks index) (w : Words) (l : �
     event-present e is = subst (EventPresent s) is (ad .present)
 
     -- a course that runs on after an event with an effect
-    on-gone : (e : Event) → r .event ≡ e → isOver e ≡ false → (n : Course) (k' : List ℕ) (q : Parts) (eff : Effect) → n .ending ≡ c .ending → n .level ≡ c .level → n .first ≡ c .first → n .height ≡ r .height → n .steps ≡ r .steps → n .writes ≤ maxWrites → n .forks ≤ maxForks → length k' ≡ length k → Stack (Known s) (r .height) (framesOf k') → EffectDone (partsOf w) q l (c .first + c .forks) (c .forks) eff → ((u : ℕ) (message : Message) → eff ≡ effect.Fork u message → u < maxLevels) → ((from : State) (lag : Lagging s from w l (courseIn s c k)) (g : Before from lag e) → counting p (caused (g .read) (here from lag e g) (framesOf k₁) e) ≡ record { manager = concluded p (managerOf n (framesOf k')); effect = eff }) → Gone s l c k k' w (record { current = q .current; ended = w .ended; tallies = q .tallies; queue = q .queue; work = q .work }) n
+    on-gone : (e : Event) → r .event ≡ e → isOver e ≡ false → (n : Course) (k' : List ℕ) (q : Parts) (eff : Effect) → n .ending ≡ c .ending → n .level ≡ c .level → n .first ≡ c .first → n .height ≡ r .height → n .steps ≡ r .steps → n .writes ≤ maxWrites → n .forks ≤ maxForks → length k' ≡ length k → Stack (Known s) (r .height) (framesOf k') → EffectDone (partsOf w) q l (c .first + c .forks) (c .forks) eff → ((u : ℕ) (message : Message) → eff ≡ effect.Fork u message → u < maxLevels) → ((from : State) (lag : Lagging s from w l (courseIn s c k)) (g : Before from lag e) → counting p (caused (g .read) (here from lag e g) (framesOf k₁) e) ≡ record { manager = settledOf p (managerOf n (framesOf k')); effect = eff }) → Gone s l c k k' w (record { current = q .current; ended = w .ended; tallies = q .tallies; queue = q .queue; work = q .work }) n
     on-gone e is o n k' q eff e1 e2 e3 e4 e5 e6 e7 long known d low does =
-        let run : isRunning (n .ending) ≡ true = rw e1 (goes .running) in
         record {
           lags = λ from lag.
               let g = before from lag e is o in
-              subst (λ b. Lagging s from (record { current = q .current; ended = w .ended; tallies = q .tallies; queue = q .queue; work = q .work }) l (cond b (concluded p (managerOf n (framesOf k'))) (managerOf n (framesOf k')))) (sym run) (done from lag e g _ (does from lag g) q d);
+              done from lag e g _ (does from lag g) q d;
           still = λ _. goes-on n k' e1 e2 e3 e4 e5 e6 e7 (event-live e is o) long known;
           first = e3;
           forked = e7;
@@ -281,62 +294,62 @@ module _ (s masks index : List ℕ) (rd : Read s masks index) (w : Words) (l : �
 
     -- a WRITE
     module _ (o i : ℕ) (v : Value) (is : r .event ≡ event.Write o i v) where
-      pub gone-spent : maxWrites ≤ c .writes → Gone s l c k k₁ w w (spent c (r .height) (r .steps))
+      pub gone-spent : maxWrites ≤ c .writes → Gone s l c k k₁ w w (after c r (c .writes) (c .forks) OutOfWrites)
       gone-spent all =
-          over-gone (spent c (r .height) (r .steps)) refl refl refl (λ from lag.
+          over-gone (after c r (c .writes) (c .forks) OutOfWrites) refl refl refl (λ from lag.
           let g = before from lag (event.Write o i v) is refl in
-          done from lag (event.Write o i v) g _ (writes-none p (g .read) c (goes .running) (framesOf k) (g .last .frames) (framesOf k₁) (r .height) (g .last .steps) (r .steps) (g .last .one-more) o i v all) (partsOf w) refl)
+          done from lag (event.Write o i v) g _ (does-spent p (g .read) c r (framesOf k) (g .last .frames) (framesOf k₁) (g .last .steps) (g .last .one-more) o i v all) (partsOf w) refl)
 
       module _ (few : c .writes < maxWrites) where
-        made : (from : State) (lag : Lagging s from w l (courseIn s c k)) (g : Before from lag (event.Write o i v)) → counting p (caused (g .read) (here from lag (event.Write o i v) g) (framesOf k₁) (event.Write o i v)) ≡ record { manager = concluded p (managerOf (on c (r .height) (r .steps) (c .writes + 1) (c .forks)) (framesOf k₁)); effect = effect.Write o i v }
+        made : (from : State) (lag : Lagging s from w l (courseIn s c k)) (g : Before from lag (event.Write o i v)) → counting p (caused (g .read) (here from lag (event.Write o i v) g) (framesOf k₁) (event.Write o i v)) ≡ record { manager = settledOf p (managerOf (after c r (c .writes + 1) (c .forks) (c .ending)) (framesOf k₁)); effect = effect.Write o i v }
         made from lag g =
-            writes-field p (g .read) c (goes .running) (framesOf k) (g .last .frames) (framesOf k₁) (r .height) (g .last .steps) (r .steps) (g .last .one-more) o i v few
+            does-write p (g .read) c r (framesOf k) (g .last .frames) (framesOf k₁) (g .last .steps) (g .last .one-more) o i v few
 
         pub write-ready : WriteReady (w .current) (w .tallies) (w .work) l o i
         write-ready =
             let g = now (event.Write o i v) is refl in
             ready (there .from) (there .lagging) (event.Write o i v) g _ (made (there .from) (there .lagging) g)
 
-        pub gone-wrote : (current' tallies' work' : List ℕ) → Wrote (w .current) current' (w .tallies) tallies' (w .work) work' l (c .first + c .forks) o i v → Gone s l c k k₁ w (record { current = current'; ended = w .ended; tallies = tallies'; queue = w .queue; work = work' }) (on c (r .height) (r .steps) (c .writes + 1) (c .forks))
+        pub gone-wrote : (current' tallies' work' : List ℕ) → Wrote (w .current) current' (w .tallies) tallies' (w .work) work' l (c .first + c .forks) o i v → Gone s l c k k₁ w (record { current = current'; ended = w .ended; tallies = tallies'; queue = w .queue; work = work' }) (after c r (c .writes + 1) (c .forks) (c .ending))
         gone-wrote current' tallies' work' d =
-            on-gone (event.Write o i v) is refl (on c (r .height) (r .steps) (c .writes + 1) (c .forks)) k₁ (record { current = current'; tallies = tallies'; queue = w .queue; work = work' }) (effect.Write o i v) refl refl refl refl refl (omega (arith, few)) (goes .forked) (ad .long) (event-known (event.Write o i v) is refl) (d, refl) (λ u message e. absurd (no-fork o i v u message e)) made
+            on-gone (event.Write o i v) is refl (after c r (c .writes + 1) (c .forks) (c .ending)) k₁ (record { current = current'; tallies = tallies'; queue = w .queue; work = work' }) (effect.Write o i v) refl refl refl refl refl (omega (arith, few)) (goes .forked) (ad .long) (event-known (event.Write o i v) is refl) (d, refl) (λ u message e. absurd (no-fork o i v u message e)) made
 
     -- a READ of a lower level's field
     module _ (o i a : ℕ) (is : r .event ≡ event.Read o i a) where
       pub read-busy : IsBusy s w l
       read-busy = busy-now (there .from) (there .lagging) (event.Read o i a) (now (event.Read o i a) is refl)
 
-      pub gone-read : (v : Value) (reach : ℕ) → ReadIs s w l o i v → (k₂ : List ℕ) → Replaced k₁ k₂ (r .height - 1) (withRegister (frameIn k₁ (r .height - 1)) a v) → Gone s l c k k₂ w w (nearBy (on c (r .height) (r .steps) (c .writes) (c .forks)) reach)
+      pub gone-read : (v : Value) (reach : ℕ) → ReadIs s w l o i v → (k₂ : List ℕ) → Replaced k₁ k₂ (r .height - 1) (withRegister (frameIn k₁ (r .height - 1)) a v) → Gone s l c k k₂ w w (nearBy (after c r (c .writes) (c .forks) (c .ending)) reach)
       gone-read v reach sees k₂ z =
           let live = event-live (event.Read o i a) is refl in
           let known = event-known (event.Read o i a) is refl in
           let top-known : Known s (frameIn k₁ (r .height - 1)) = known .each (r .height - 1) (omega (arith, live)) in
-          let then : Stack (Known s) (r .height) (framesOf k₂) = rw (z .frames) (replaced-stack (Known s) (managerOf (on c (r .height) (r .steps) (c .writes) (c .forks)) (framesOf k₁)) (withRegister (frameIn k₁ (r .height - 1)) a v) known (known-register s (frameIn k₁ (r .height - 1)) a v top-known)) in
-          on-gone (event.Read o i a) is refl (nearBy (on c (r .height) (r .steps) (c .writes) (c .forks)) reach) k₂ (partsOf w) effect.Nothing refl refl refl refl refl (goes .wrote) (goes .forked) (z .long ∙ ad .long) then refl (λ u message e. absurd (nothing-fork u message e))
+          let then : Stack (Known s) (r .height) (framesOf k₂) = rw (z .frames) (replaced-stack (Known s) (managerOf (after c r (c .writes) (c .forks) (c .ending)) (framesOf k₁)) (withRegister (frameIn k₁ (r .height - 1)) a v) known (known-register s (frameIn k₁ (r .height - 1)) a v top-known)) in
+          on-gone (event.Read o i a) is refl (nearBy (after c r (c .writes) (c .forks) (c .ending)) reach) k₂ (partsOf w) effect.Nothing refl refl refl refl refl (goes .wrote) (goes .forked) (z .long ∙ ad .long) then refl (λ u message e. absurd (nothing-fork u message e))
           (λ from lag g.
-          reads-field p (g .read) c (goes .running) (framesOf k) (g .last .frames) (framesOf k₁) (r .height) (g .last .steps) (r .steps) (g .last .one-more) o i a v (reads-now from lag (event.Read o i a) g o i v sees)
-          ∙ ap (λ fs. record { manager = concluded p (managerOf (on c (r .height) (r .steps) (c .writes) (c .forks)) fs); effect = effect.Nothing }) (sym (z .frames)))
+          does-read p (g .read) c r (framesOf k) (g .last .frames) (framesOf k₁) (g .last .steps) (g .last .one-more) o i a (framesOf k₂)
+          (z .frames ∙ ap (λ u. set (framesOf k₁) (r .height - 1) (withRegister (frameIn k₁ (r .height - 1)) a u)) (sym (reads-now from lag (event.Read o i a) g o i v sees))))
 
     -- a fork
     module _ (u o b : ℕ) (v : Value) (is : r .event ≡ event.Fork u o b v) where
-      pub gone-unforked : maxForks ≤ c .forks → Gone s l c k k₁ w w (on c (r .height) (r .steps) (c .writes) (c .forks))
+      pub gone-unforked : maxForks ≤ c .forks → Gone s l c k k₁ w w (after c r (c .writes) (c .forks) (c .ending))
       gone-unforked all =
-          on-gone (event.Fork u o b v) is refl (on c (r .height) (r .steps) (c .writes) (c .forks)) k₁ (partsOf w) effect.Nothing refl refl refl refl refl (goes .wrote) (goes .forked) (ad .long) (event-known (event.Fork u o b v) is refl) refl (λ u message e. absurd (nothing-fork u message e))
-          (λ from lag g. forks-none p (g .read) c (goes .running) (framesOf k) (g .last .frames) (framesOf k₁) (r .height) (g .last .steps) (r .steps) (g .last .one-more) u o b v all)
+          on-gone (event.Fork u o b v) is refl (after c r (c .writes) (c .forks) (c .ending)) k₁ (partsOf w) effect.Nothing refl refl refl refl refl (goes .wrote) (goes .forked) (ad .long) (event-known (event.Fork u o b v) is refl) refl (λ u message e. absurd (nothing-fork u message e))
+          (λ from lag g. does-unforked p (g .read) c r (framesOf k) (g .last .frames) (framesOf k₁) (g .last .steps) (g .last .one-more) u o b v all)
 
       module _ (few : c .forks < maxForks) where
         abbrev message : Message
         message = record { object = o; name = b; parameter = v }
 
-        makes : (from : State) (lag : Lagging s from w l (courseIn s c k)) (g : Before from lag (event.Fork u o b v)) → counting p (caused (g .read) (here from lag (event.Fork u o b v) g) (framesOf k₁) (event.Fork u o b v)) ≡ record { manager = concluded p (managerOf (on c (r .height) (r .steps) (c .writes) (c .forks + 1)) (framesOf k₁)); effect = effect.Fork u (record { object = o; name = b; parameter = v }) }
+        makes : (from : State) (lag : Lagging s from w l (courseIn s c k)) (g : Before from lag (event.Fork u o b v)) → counting p (caused (g .read) (here from lag (event.Fork u o b v) g) (framesOf k₁) (event.Fork u o b v)) ≡ record { manager = settledOf p (managerOf (after c r (c .writes) (c .forks + 1) (c .ending)) (framesOf k₁)); effect = effect.Fork u (record { object = o; name = b; parameter = v }) }
         makes from lag g =
-            forks-message p (g .read) c (goes .running) (framesOf k) (g .last .frames) (framesOf k₁) (r .height) (g .last .steps) (r .steps) (g .last .one-more) u o b v few
+            does-fork p (g .read) c r (framesOf k) (g .last .frames) (framesOf k₁) (g .last .steps) (g .last .one-more) u o b v few
 
         pub fork-ready : ForkReady (w .tallies) (w .queue) l (c .forks) u
         fork-ready =
             let g = now (event.Fork u o b v) is refl in
             ready (there .from) (there .lagging) (event.Fork u o b v) g _ (makes (there .from) (there .lagging) g)
 
-        pub gone-forked : (tallies' queue' : List ℕ) → Forked (w .tallies) tallies' (w .queue) queue' l (c .first + c .forks) (c .forks) u (record { object = o; name = b; parameter = v }) → Gone s l c k k₁ w (record { current = w .current; ended = w .ended; tallies = tallies'; queue = queue'; work = w .work }) (on c (r .height) (r .steps) (c .writes) (c .forks + 1))
+        pub gone-forked : (tallies' queue' : List ℕ) → Forked (w .tallies) tallies' (w .queue) queue' l (c .first + c .forks) (c .forks) u (record { object = o; name = b; parameter = v }) → Gone s l c k k₁ w (record { current = w .current; ended = w .ended; tallies = tallies'; queue = queue'; work = w .work }) (after c r (c .writes) (c .forks + 1) (c .ending))
         gone-forked tallies' queue' d =
-            on-gone (event.Fork u o b v) is refl (on c (r .height) (r .steps) (c .writes) (c .forks + 1)) k₁ (record { current = w .current; tallies = tallies'; queue = queue'; work = w .work }) (effect.Fork u (record { object = o; name = b; parameter = v })) refl refl refl refl refl (goes .wrote) (omega (arith, few)) (ad .long) (event-known (event.Fork u o b v) is refl) (d, (refl, refl)) (λ u' message' e. subst (λ x. x < maxLevels) (ap (forkLevel 0) e) (fork-ready .room .level)) makes
+            on-gone (event.Fork u o b v) is refl (after c r (c .writes) (c .forks + 1) (c .ending)) k₁ (record { current = w .current; tallies = tallies'; queue = queue'; work = w .work }) (effect.Fork u (record { object = o; name = b; parameter = v })) refl refl refl refl refl (goes .wrote) (omega (arith, few)) (ad .long) (event-known (event.Fork u o b v) is refl) (d, (refl, refl)) (λ u' message' e. subst (λ x. x < maxLevels) (ap (forkLevel 0) e) (fork-ready .room .level)) makes

@@ -2,12 +2,12 @@
 use Prim.Native.Nat.{ℕ, zero, suc, _+_, _-_, _*_, _<_}
 use mathlib.Core.Path.{_≡_, refl, sym, _∙_, ap, ap₂}
 use mathlib.Core.Bool.{true}
-use mathlib.Core.List.{List, [], _++_, append-nil}
+use mathlib.Core.List.{List, [], _++_}
 use native.Mathlib.Omega.{arith}
 use borrow.Author.Tests.{eqb-true}
 use lib.Dec.{eqb}
 use lib.ListN.{length, getD, set, drop, replicate, length-replicate, getD-replicate}
-use lib.Seq.{drop-length, getD-set-other}
+use lib.Seq.{getD-set-other}
 use Rattle.lattice.specs.Range.{all}
 use Rattle.lattice.proofs.Laws.Range.{all-each}
 use Rattle.session.specs.Limits.{maxLevels, maxMethods, fields}
@@ -20,7 +20,7 @@ use Rattle.session.specs.Reading.{indexOf}
 use Rattle.session.specs.declared.Message.{Message}
 use Rattle.session.specs.declared.Verdict.the-variants.{Accepted}
 use Rattle.session.proofs.Laws.Accepted.{level-present, root-present}
-use Rattle.session.proofs.Laws.Contents.{level-limit}
+use Rattle.session.proofs.Laws.Contents.{level-limit, index-made}
 use Rattle.managers.specs.declared.Manager.{Manager}
 use Rattle.model.specs.Lists.{modify}
 use Rattle.model.specs.Level.{idle, newLevel, arrived, newest}
@@ -64,11 +64,6 @@ none-rises = refl
 -- no manager and no version is within all limits
 new-limited : Limited newLevel
 new-limited = record { managers = omega arith; versions = omega arith }
-
--- the method index fills its words
-index-made : (s before index : List ℕ) → length before ≡ maxMethods + 1 → index ≡ indexOf s ++ drop (maxMethods + 1) before → index ≡ indexOf s
-index-made s before index l e =
-    e ∙ ap (λ n. indexOf s ++ drop n before) (sym l) ∙ ap (λ t. indexOf s ++ t) (drop-length before) ∙ append-nil (indexOf s)
 
 module _ (s : List ℕ) (a : verdictOf s ≡ Accepted) where
   -- the root's object is present, and so is its level

@@ -1,6 +1,7 @@
 -- `scheduler::entry_refusal` meets its contract. Assumes nothing.
 use native.Mathlib.Omega.{arith}
-use Rattle.scheduler.proofs.Laws.Entry.{accepted-by, refused-session, refused-level, refused-work, refused-room, refused-none}
+use Rattle.model.proofs.Laws.Reader.Answers.{accepted-by}
+use Rattle.scheduler.proofs.Laws.Entry.{refused-session, refused-level, refused-work, refused-room, refused-none}
 use borrow.Author.Needs.{needs}
 use Rattle.scheduler.proofs.entry_refusal.Statement.{statement}
 use Rattle.scheduler.proofs.entry_refusal.Tie as tie

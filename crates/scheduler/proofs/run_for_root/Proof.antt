@@ -6,8 +6,9 @@ use lib.Seq.{length-take-le}
 use Rattle.session.specs.Meaning.{levelOf, rootObject, rootOf}
 use Rattle.session.specs.Program.{programOf}
 use Rattle.model.specs.Schedule.{plainOrder}
+use Rattle.model.proofs.Laws.Reader.Answers.{accepted-by}
 use Rattle.scheduler.proofs.Laws.Start.{root-there}
-use Rattle.scheduler.proofs.Laws.Entry.{accepted-by, refused-session}
+use Rattle.scheduler.proofs.Laws.Entry.{refused-session}
 use Rattle.scheduler.proofs.Laws.Answers.{request, table-made, table-within, answered-refusal, answered-plain, answered-root}
 use borrow.Author.Needs.{needs}
 use Rattle.scheduler.proofs.run_for_root.Statement.{statement}

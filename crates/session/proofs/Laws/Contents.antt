@@ -2,12 +2,13 @@
 use Prim.Native.Nat.{ℕ, suc, _+_, _-_, _*_, _/_, _%_, _≤_, _<_}
 use mathlib.Core.Path.{_≡_, sym, _∙_, ap}
 use mathlib.Core.Bool.{true}
-use mathlib.Core.List.{List, [], map}
+use mathlib.Core.List.{List, [], map, _++_, append-nil}
 use native.Mathlib.Decide.{decLt}
 use native.Mathlib.Omega.{arith}
 use borrow.Author.Tests.{ltb-true, lt-ltb, le-ltb}
 use lib.Dec.{ltb}
-use lib.ListN.{length, getD, length-map, List·getD-map, List·getD-eq-default}
+use lib.ListN.{length, getD, drop, length-map, List·getD-map, List·getD-eq-default}
+use lib.Seq.{drop-length}
 use Rattle.lattice.proofs.Laws.Range.{and-left}
 use Rattle.session.specs.Limits.{names, maxMethods, maxObjects}
 use Rattle.session.specs.Lists.{risingFrom}
@@ -26,6 +27,11 @@ use Rattle.session.proofs.Laws.Parts.{kinds-rise, object-is, step-is, r
 use Rattle.session.proofs.Laws.Numbering.{few-levels, few-objects, few-steps}
 use Rattle.session.proofs.Laws.Emptied.{steps-valid, step-name, method-is}
 use Rattle.session.proofs.Laws.Scripts.{keyAt}
+
+-- an index that is written over all its words
+pub index-made : (s before index : List ℕ) → length before ≡ maxMethods + 1 → index ≡ indexOf s ++ drop (maxMethods + 1) before → index ≡ indexOf s
+index-made s before index l e =
+    e ∙ ap (λ n. indexOf s ++ drop n before) (sym l) ∙ ap (λ t. indexOf s ++ t) (drop-length before) ∙ append-nil (indexOf s)
 
 -- no key with a name below 16 lies between a method's and that of the next slot of the index
 no-name-between : (o m o′ m′ : ℕ) → m < 16 → m′ < 16
