@@ -85,10 +85,8 @@ fn go_on(
                 };
             }
             fields::set(current, object as usize, field as usize, value);
-            Course {
-                writes: n.writes + 1,
-                ..n
-            }
+            let writes = n.writes + 1;
+            Course { writes, ..n }
         }
         Event::Read {
             object,
@@ -108,10 +106,12 @@ fn go_on(
             if n.forks >= 15 {
                 return n;
             }
+            let stamp = queues::child_stamp(fork.stamp, fork.depth, n.forks);
+            let depth = fork.depth + 1;
             let child = Fork {
                 level,
-                stamp: queues::child_stamp(fork.stamp, fork.depth, n.forks),
-                depth: fork.depth + 1,
+                stamp,
+                depth,
                 message: Message {
                     object,
                     name,
@@ -119,10 +119,8 @@ fn go_on(
                 },
             };
             run_kept(session, masks, index, current, ended, tallies, left, child);
-            Course {
-                forks: n.forks + 1,
-                ..n
-            }
+            let forks = n.forks + 1;
+            Course { forks, ..n }
         }
     }
 }

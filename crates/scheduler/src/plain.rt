@@ -75,10 +75,8 @@ fn go_on(
             }
             let stamp = n.first + n.forks as u16;
             steps::write(current, tallies, work, level, stamp, object, field, value);
-            Course {
-                writes: n.writes + 1,
-                ..n
-            }
+            let writes = n.writes + 1;
+            Course { writes, ..n }
         }
         Event::Read {
             object,
@@ -129,10 +127,8 @@ fn go_on(
                 above as usize,
                 message,
             );
-            Course {
-                forks: n.forks + 1,
-                ..n
-            }
+            let forks = n.forks + 1;
+            Course { forks, ..n }
         }
     }
 }

@@ -230,7 +230,7 @@ go-on-set-requires t c κs =
     let a = c .before .before .before .before .before .before .before .before .advance in
     write-there (z .args .session .now) (z .args .masks .now) (z .args .index .now) (z .pre .1 .0) (z .args .left) (z .args .fork) (z .args .m) (z .args .stack .now) (z .pre .1 .1 .1) (record { current = z .args .current .now; ended = z .args .ended .now; tallies = z .args .tallies .now }) (z .pre .1 .1 .0) (a .last .1 .1 .1 .1 .0) (a .result) (a .ensures) (c .before .before .before .before .event2 .given .0 .0) (c .before .before .before .before .event2 .given .0 .1 .0) (c .before .before .before .before .event2 .given .0 .1 .1 .0) (c .before .before .before .before .event2 .given .1)
 
-go-on-add-t70 : (t : ℕ) → go-on-lts.Need-add-t70 (
+go-on-add-writes : (t : ℕ) → go-on-lts.Need-add-writes (
   advance-reads.Asked,
   advance-reads.Learnt,
   set-reads.Asked,
@@ -244,7 +244,7 @@ go-on-add-t70 : (t : ℕ) → go-on-lts.Need-add-t70 (
   run-kept-below t,
   run-kept.Post,
 ) (go-on-at t) go-on.Post
-go-on-add-t70 t c =
+go-on-add-writes t c =
     omega (arith, c .before .before .before .before .before .if1 .left)
 
 go-on-enum-known-event-3 : (t : ℕ) → go-on-lts.Need-enum-known-event-3 (
@@ -454,7 +454,7 @@ go-on-child-stamp-requires t c κs =
     let a = c .before .before .before .before .before .before .before .advance in
     fork-stamps (z .args .session .now) (z .args .masks .now) (z .args .index .now) (z .pre .1 .0) (z .args .left) (z .args .fork) (z .args .m) (z .args .stack .now) (z .pre .1 .1 .1) (record { current = z .args .current .now; ended = z .args .ended .now; tallies = z .args .tallies .now }) (z .pre .1 .1 .0) (a .last .1 .1 .1 .1 .0) (a .result) (a .ensures) (c .before .before .before .event4 .given .0 .0) (c .before .before .before .event4 .given .0 .1 .0) (c .before .before .before .event4 .given .0 .1 .1 .0) (c .before .before .before .event4 .given .0 .1 .1 .1 .0) (c .before .before .before .event4 .given .1) (c .if2 .left)
 
-go-on-add-t88 : (t : ℕ) → go-on-lts.Need-add-t88 (
+go-on-add-depth : (t : ℕ) → go-on-lts.Need-add-depth (
   advance-reads.Asked,
   advance-reads.Learnt,
   set-reads.Asked,
@@ -468,7 +468,7 @@ go-on-add-t88 : (t : ℕ) → go-on-lts.Need-add-t88 (
   run-kept-below t,
   run-kept.Post,
 ) (go-on-at t) go-on.Post
-go-on-add-t88 t c =
+go-on-add-depth t c =
     omega (arith, c .before .before .before .before .before .before .before .before .before .before .before .before .before .before .before .before .before .before .before .pre .1 .1 .1 .fork .shallow)
 
 go-on-run-kept-requires : (t : ℕ) → go-on-lts.Need-run-kept-requires (
@@ -490,7 +490,7 @@ go-on-run-kept-requires t c κs =
     let a = c .before .before .before .before .before .before .before .before .before .before .before .before .advance in
     (omega (arith, z .pre .0), (z .pre .1 .0, (z .pre .1 .1 .0, fork-runs (z .args .session .now) (z .args .masks .now) (z .args .index .now) (z .pre .1 .0) (z .args .left) (z .args .fork) (z .args .m) (z .args .stack .now) (z .pre .1 .1 .1) (record { current = z .args .current .now; ended = z .args .ended .now; tallies = z .args .tallies .now }) (z .pre .1 .1 .0) (a .last .1 .1 .1 .1 .0) (a .result) (a .ensures) (c .before .before .before .before .before .before .before .before .event4 .given .0 .0) (c .before .before .before .before .before .before .before .before .event4 .given .0 .1 .0) (c .before .before .before .before .before .before .before .before .event4 .given .0 .1 .1 .0) (c .before .before .before .before .before .before .before .before .event4 .given .0 .1 .1 .1 .0) (c .before .before .before .before .before .before .before .before .event4 .given .1) (c .before .before .before .before .before .if2 .left) (c .before .before .before .before .child-stamp .result) (c .before .before .before .before .child-stamp .ensures))))
 
-go-on-add-t88-2 : (t : ℕ) → go-on-lts.Need-add-t88-2 (
+go-on-add-forks : (t : ℕ) → go-on-lts.Need-add-forks (
   advance-reads.Asked,
   advance-reads.Learnt,
   set-reads.Asked,
@@ -504,7 +504,7 @@ go-on-add-t88-2 : (t : ℕ) → go-on-lts.Need-add-t88-2 (
   run-kept-below t,
   run-kept.Post,
 ) (go-on-at t) go-on.Post
-go-on-add-t88-2 t c =
+go-on-add-forks t c =
     omega (arith, c .before .before .before .before .before .before .before .before .before .before .before .before .before .if2 .left)
 
 go-on-same-length-5 : (t : ℕ) → go-on-lts.Need-same-length-5 (
@@ -1412,7 +1412,7 @@ pub +go-on+run-kept+run-manager-spec : {M : Type 1} → statement M
     (go-on-cast-set t)
     (go-on-cast-set-2 t)
     (go-on-set-requires t)
-    (go-on-add-t70 t)
+    (go-on-add-writes t)
     (go-on-enum-known-event-3 t)
     (go-on-cast-get t)
     (go-on-cast-get-2 t)
@@ -1425,9 +1425,9 @@ pub +go-on+run-kept+run-manager-spec : {M : Type 1} → statement M
     (go-on-same-length-4 t)
     (go-on-returns-2 t)
     (go-on-child-stamp-requires t)
-    (go-on-add-t88 t)
+    (go-on-add-depth t)
     (go-on-run-kept-requires t)
-    (go-on-add-t88-2 t)
+    (go-on-add-forks t)
     (go-on-same-length-5 t)
     (go-on-same-length-6 t)
     (go-on-returns-3 t)

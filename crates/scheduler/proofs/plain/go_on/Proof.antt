@@ -45,8 +45,8 @@ write-requires c κs =
     let s = c .before .before .before .before .before .before .before .before .before .before .before .before .before .before .before .before .before .before .before .before .before .before .before .before in
     write-ready (s .args .session .now) (s .args .masks .now) (s .args .index .now) (s .pre .0) (record { current = s .args .current .now; ended = s .args .ended .now; tallies = s .args .tallies .now; queue = s .args .queue .now; work = s .args .work .now }) (s .args .level) (s .args .m) (s .args .stack .now) (s .pre .1 .0) (s .pre .1 .1) _ (c .before .before .before .before .before .before .before .before .before .before .before .before .advance .result) (c .before .before .before .before .before .before .before .before .before .before .before .before .advance .ensures) (c .before .before .before .before .before .before .before .before .event2 .given .0 .0) (c .before .before .before .before .before .before .before .before .event2 .given .0 .1 .0) (c .before .before .before .before .before .before .before .before .event2 .given .0 .1 .1 .0) (c .before .before .before .before .before .before .before .before .event2 .given .1) (omega (arith, c .before .before .before .before .before .if1 .left))
 
-add-t77 : tie.Need-add-t77
-add-t77 c = search needs
+add-writes : tie.Need-add-writes
+add-writes c = search needs
 
 enum-known-event-3 : tie.Need-enum-known-event-3
 enum-known-event-3 c = search needs
@@ -102,8 +102,8 @@ fork-requires c κs =
     let s = c .before .before .before .before .before .before .before .before .before .before .before .before .before .before .before .before .before .before .before .before .before .before .before in
     fork-ready (s .args .session .now) (s .args .masks .now) (s .args .index .now) (s .pre .0) (record { current = s .args .current .now; ended = s .args .ended .now; tallies = s .args .tallies .now; queue = s .args .queue .now; work = s .args .work .now }) (s .args .level) (s .args .m) (s .args .stack .now) (s .pre .1 .0) (s .pre .1 .1) _ (c .before .before .before .before .before .before .before .before .before .before .before .advance .result) (c .before .before .before .before .before .before .before .before .before .before .before .advance .ensures) (c .before .before .before .before .before .before .before .event4 .given .0 .0) (c .before .before .before .before .before .before .before .event4 .given .0 .1 .0) (c .before .before .before .before .before .before .before .event4 .given .0 .1 .1 .0) (c .before .before .before .before .before .before .before .event4 .given .0 .1 .1 .1 .0) (c .before .before .before .before .before .before .before .event4 .given .1) (omega (arith, c .before .before .before .before .if2 .left))
 
-add-t115 : tie.Need-add-t115
-add-t115 c = search needs
+add-forks : tie.Need-add-forks
+add-forks c = search needs
 
 same-length-5 : tie.Need-same-length-5
 same-length-5 c = search needs
@@ -195,7 +195,7 @@ go-on-spec =
     cast-stamp
     add-stamp
     write-requires
-    add-t77
+    add-writes
     enum-known-event-3
     field-of-requires
     cast-set-register
@@ -209,7 +209,7 @@ go-on-spec =
     add-stamp-2
     cast-fork
     fork-requires
-    add-t115
+    add-forks
     same-length-5
     same-length-6
     returns-3
