@@ -1,5 +1,4 @@
-//! The cases M1 to M12 that document 01 states with their answers (document 01:
-//! wall chart).
+//! The cases M1 to M12 that document 01 states with their answers.
 
 use crate::library::Answer;
 use crate::limits::*;

@@ -2,8 +2,8 @@
 // level reads, and a scheduler step at a level.
 //
 // What a run keeps is lent: `current` holds the newest fields and `ended` the histories, as in `records`;
-// `tallies` the counts of each level, as in `tallies`; `queue` the forks, as in `queues`; `work` the
-// versions, as in `versions`.
+// `tallies` the counts of each level, as the module of that name says; `queue` the forks, as in `queues`;
+// `work` the versions, as in `versions`.
 pub mod reads;
 pub mod steps;
 pub mod tallies;

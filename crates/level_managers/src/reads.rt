@@ -30,7 +30,7 @@ fn bound_of(ended: &[u32], tallies: &[usize], queue: &[u32], level: usize, j: us
 
 // What the manager that runs at a level reads of a field: at its level the newest version, which is the
 // current field; below the newest one up to its bound there. `near` may be any number: the reach of its
-// last read saves a search.
+// last read saves a search. The reach is promised nothing; at its own level it is `near`.
 pub fn field_of(
     session: &[u8],
     masks: &[u16],

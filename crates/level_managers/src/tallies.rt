@@ -2,7 +2,7 @@
 //
 // Of level l number l is how many managers have ended there; 8 + l the write stamp of the next one;
 // 16 + l how many forks wait; 24 + l how many versions there are; 32 + l is 1 while a manager runs;
-// 40 + l is 1 once question 14 has said yes of the level, which it then always does.
+// 40 + l is 1 once question 14 has said yes of the level: from then on it always says so.
 
 ghost use mathlib.Core.Path.{_≡_};
 ghost use Prim.Native.Nat.{_≤_, _<_};

@@ -1,4 +1,4 @@
--- What the program prints of session W (document 01: wall chart) and of some refusals, computed from the definitions. Assumes nothing.
+-- What the program prints of session W and of some refusals, computed from the definitions. Assumes nothing.
 use Prim.Native.Nat.{ℕ}
 use Prim.Native.Char.{code}
 use Prim.Native.String.{String, [] as []ᵗ, _∷_ as _∷ᵗ_}

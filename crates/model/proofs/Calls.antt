@@ -3,14 +3,13 @@ use Prim.Native.Nat.{ℕ}
 use mathlib.Core.Path.{_≡_, refl, sym, _∙_, ap}
 use mathlib.Core.Bool.{true}
 use mathlib.Core.List.{List}
-use lib.ListN.{take}
 use Rattle.session.specs.Meaning.{rootOf}
 use Rattle.session.specs.Program.{Program, programOf}
 use Rattle.session.specs.declared.Message.{Message}
 use Rattle.model.specs.Schedule.{plainOrder}
 use Rattle.model.specs.DepthFirst.{depthFirst}
-use Rattle.model.specs.Result.{resultOfDepthFirst, bytesOf, ordersShown}
-use Rattle.model.specs.Entries.{Request, Answer, timetabled, plain, deep, Answers}
+use Rattle.model.specs.Result.{resultOfDepthFirst, ordersShown}
+use Rattle.model.specs.Entries.{Request, Answer, timetabled, plain, deep}
 use Rattle.model.specs.Reader.{Finished, bytesWritten, SameBytes}
 use Rattle.model.specs.Demands.{TimetabledRun, DepthFirstRun}
 use Rattle.model.specs.Calls.{Called, RunCalled, by-timetable, plainly, DeepCalled, Demand2Calls, Demand3Calls}

@@ -1,8 +1,8 @@
 // Reads the records of a session in their order. "A record is 16 bytes at 16 times its number".
 //
-// The borrow checker covers no function over a struct that holds a slice. So each one here is proved
-// by a walk by hand and kept thin: `record::key_at` does the work. No function here can change a byte.
-// Whoever calls `falls_after` needs no walk.
+// A function over a struct that holds a slice is proved by hand. So each one here is kept thin:
+// `record::key_at` does the work. No function here can change a byte. `falls_after` has plain parameters,
+// so its callers need no proof by hand.
 use crate::record;
 ghost use mathlib.Core.Path.{_≡_};
 ghost use Prim.Native.Nat.{_+_, _≤_, _<_};

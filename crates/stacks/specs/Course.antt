@@ -1,9 +1,8 @@
 -- A manager without its frames. Assumes nothing.
-use Prim.Native.Nat.{ℕ, _+_, _≤_, _<_}
-use mathlib.Core.Path.{_≡_}
+use Prim.Native.Nat.{ℕ, _+_}
 use mathlib.Core.Bool.{true, cond}
 use mathlib.Core.List.{List}
-use lib.ListN.{length, set, replicate}
+use lib.ListN.{set, replicate}
 use Rattle.session.specs.Program.{Program}
 use Rattle.session.specs.declared.Message.{Message}
 use Rattle.session.specs.declared.Value.the-variants.{Nil}
@@ -13,7 +12,6 @@ use Rattle.managers.specs.Manager.{isRunning, concluded}
 use Rattle.managers.specs.declared.Frame.{Frame}
 use Rattle.managers.specs.declared.Ending.the-variants.{Running}
 use Rattle.managers.specs.declared.Manager.{Manager}
-use Rattle.stacks.specs.Stack.{framesOf}
 use Rattle.stacks.specs.declared.Course.{Course}
 
 -- the manager with its frames

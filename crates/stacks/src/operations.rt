@@ -68,7 +68,8 @@ fn read(
     Move::Stay
 }
 
-// WRITE register `a` to field `b`: of an object of the level.
+// WRITE register `a` to field `b`: of an object of the level. `current` and `all` are for its contract, which
+// is that of every operation.
 fn write(
     session: &[u8],
     masks: &[u16],
@@ -123,7 +124,8 @@ fn fork(stack: &mut [u32], at: usize, a: u8, b: u8, c: u8, level: u8) -> Move
     })
 }
 
-// SEND name `b` to object `c`, with register `a` as parameter and for the reply.
+// SEND name `b` to object `c`, with register `a` as parameter and for the reply. `current` and `all` are for
+// its contract.
 fn send(
     session: &[u8],
     masks: &[u16],

@@ -1,7 +1,8 @@
 // The versions of fields that the managers of each level wrote, in the lent work slice.
 //
 // Each level has a log of its own. A write adds a version to its end, and write stamps never fall. So a
-// read finds by halving which versions are not above its bound, and goes through those backward.
+// read finds which versions are not above its bound by a hint of its caller or by halving, and goes
+// through those backward.
 use session::Value;
 ghost use mathlib.Core.Path.{_≡_};
 ghost use mathlib.Core.Bool.{true};
@@ -86,8 +87,8 @@ fn is_above(work: &[u32], level: usize, i: usize, bound: u16) -> bool
     work[LOG_NUMBERS * level + 2 * i] % FIELD > span
 }
 
-// Whether the `n` oldest versions of the log of a level, which has `count` versions, are those not above
-// a write stamp. Where stamps never fall, the two beside that place tell.
+// True only where the `n` oldest versions of the log of a level, which has `count` versions, are those
+// not above a write stamp. Where stamps never fall, the two beside that place tell.
 fn is_partition(work: &[u32], level: usize, count: usize, bound: u16, n: usize) -> bool
     requires { ⌜ (level < maxLevels) × (count ≤ maxVersions) × (workNumbers ≤ length (now work)) ⌝ }
     requires { ⌜ StampsRise (now work) (logStart level) count ⌝ }

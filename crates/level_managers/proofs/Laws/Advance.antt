@@ -17,14 +17,13 @@ use Rattle.managers.specs.declared.Manager.{Manager}
 use Rattle.managers.specs.declared.Stepped.{Stepped}
 use Rattle.managers.specs.declared.Effect.{Effect}
 use Rattle.managers.specs.declared.Effect.the-variants as effect
-use Rattle.model.specs.Limits.{maxManagers}
 use Rattle.model.specs.Lists.{modify}
 use Rattle.model.specs.Fork.{Fork, childStamp, childOf}
-use Rattle.model.specs.Level.{Version, Activity, busy, Level, newLevel, startedCount, arrived, after}
+use Rattle.model.specs.Level.{Version, Activity, busy, Level, newLevel, arrived, after}
 use Rattle.model.specs.Step.{State, levelAt, readAt, versionsAfter, none, at, arrivalOf, delivered, stepAt}
 use Rattle.model.proofs.Laws.Lists.{modify-comm, modify-twice}
 use Rattle.model.proofs.Laws.Order.Accepted.{sound}
-use Rattle.model.proofs.Laws.Invariant.Measure.{Tame, arrived-tame}
+use Rattle.model.proofs.Laws.Invariant.Measure.{arrived-tame}
 use Rattle.model.proofs.Laws.Code.Direct.{step-advance}
 use Rattle.model.proofs.Laws.Code.Live.{Live, present}
 use Rattle.model.proofs.Laws.Code.Needs.{live-room, live-versions, live-write, live-fork}

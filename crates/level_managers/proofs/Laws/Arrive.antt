@@ -1,5 +1,5 @@
 -- What a fork that arrives does to the words of a run. Assumes nothing.
-use Prim.Native.Nat.{ℕ, _+_, _-_, _≤_, _<_}
+use Prim.Native.Nat.{ℕ, _-_, _≤_, _<_}
 use mathlib.Core.Path.{_≡_, refl, sym, _∙_, ap, ap₂}
 use mathlib.Core.List.{List}
 use native.Mathlib.Decide.{ℕ-discrete}
@@ -13,14 +13,14 @@ use Rattle.managers.specs.declared.Manager.{Manager}
 use Rattle.model.specs.Limits.{maxManagers}
 use Rattle.model.specs.Lists.{inserted, modify}
 use Rattle.model.specs.Fork.{Fork}
-use Rattle.model.specs.Level.{Activity, idle, busy, Level, isBusy, startedCount, arrived, newest}
+use Rattle.model.specs.Level.{Activity, idle, busy, Level, startedCount, arrived, newest}
 use Rattle.model.specs.Step.{State, levelAt}
 use Rattle.records.specs.Fields.{fieldAt}
-use Rattle.queues.specs.Queue.{forkOfRow, forkAt, forksAt, ForksRise, Arrived}
+use Rattle.queues.specs.Queue.{forkOfRow, forksAt, ForksRise, Arrived}
 use Rattle.queues.proofs.Laws.Queue.{forks-length, fork-apart}
 use Rattle.level_managers.specs.Kept.{Words, nextPlace, waitingPlace, versionsPlace, busyPlace, Runs, LevelTold, Told}
 use Rattle.level_managers.specs.Steps.{startedOf}
-use Rattle.level_managers.proofs.Laws.Told.{Limited, SameAt, busy-fewer, started-is, at-own, at-other, told-change}
+use Rattle.level_managers.proofs.Laws.Told.{Limited, SameAt, started-is, at-own, at-other, told-change}
 
 -- what an arrival leaves of a level
 waiting-arrived : (x : Fork) (v : Level) → arrived x v .waiting ≡ take (maxManagers - startedCount v) (inserted (λ y. y .stamp) x (v .waiting))

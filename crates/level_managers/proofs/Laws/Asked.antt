@@ -1,14 +1,14 @@
 -- Questions 12 to 15 of what is counted are those of the state that the words say. Assumes nothing.
-use Prim.Native.Nat.{ℕ, zero, suc, _+_, _≤_, _<_}
+use Prim.Native.Nat.{ℕ, _≤_, _<_}
 use mathlib.Core.Path.{_≡_, refl, sym, _∙_, ap, ap₂}
-use mathlib.Core.Bool.{Bool, true, false, not, cond, _||_}
+use mathlib.Core.Bool.{true, not, _||_}
 use mathlib.Core.List.{List, [], _∷_}
 use native.Mathlib.Decide.{ℕ-discrete}
 use native.Mathlib.Omega.{arith}
 use borrow.Author.Tests.{lt-ltb, ltb-true, eq-eqb}
 use lib.Dec.{eqb, ltb}
 use lib.ListN.{length, getD, set, length-set}
-use lib.Seq.{getD-set-same, getD-set-other}
+use lib.Seq.{getD-set-other}
 use Rattle.lattice.specs.Range.{all, implies}
 use Rattle.lattice.specs.Order.{strictly}
 use Rattle.lattice.specs.Table.{dominates}
@@ -27,7 +27,6 @@ use Rattle.model.proofs.Laws.Code.Progress.{refusal-absent, refusal-idle, refus
 use Rattle.level_managers.specs.Kept.{Words, nextPlace, waitingPlace, versionsPlace, busyPlace, clearPlace, Runs, LevelTold, Told, Says}
 use Rattle.level_managers.specs.Permits.{numberOfPermit, managed, clearOf, endedOf, isClear, permitOf}
 use Rattle.level_managers.specs.declared.tallies.Permit.{Permit}
-use Rattle.level_managers.specs.declared.tallies.Permit.the-variants.{Given, Absent, Idle, Blocked}
 
 some-empty : (ws : List Fork) → ltb 0 (length ws) ≡ not (isEmpty ws)
 some-empty [] = refl

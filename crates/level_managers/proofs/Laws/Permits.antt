@@ -1,40 +1,21 @@
 -- Laws of questions 12 to 15 as they are put of what is counted. Assumes nothing.
 use Prim.Native.Nat.{ℕ, _≤_, _<_}
-use mathlib.Core.Path.{_≡_, sym, ap}
+use mathlib.Core.Path.{_≡_, sym}
 use mathlib.Core.Bool.{Bool, true, false, not, or-true, and-false}
 use mathlib.Core.List.{List}
 use borrow.Author.Tests.{lt-ltb, le-ltb, eq-eqb, ne-eqb}
-use lib.ListN.{length, getD, set}
-use lib.Seq.{getD-set-other}
+use lib.ListN.{length, getD}
 use Rattle.lattice.specs.Range.{implies}
 use Rattle.lattice.specs.Order.{strictly}
 use Rattle.lattice.specs.Table.{dominates}
 use Rattle.lattice.proofs.Laws.Range.{all-fails}
-use Rattle.session.proofs.Laws.Numbering.{all-ext}
-use Rattle.level_managers.specs.Kept.{waitingPlace, busyPlace, clearPlace}
-use Rattle.level_managers.specs.Permits.{managed, clearOf, endedOf, isClear, permitOf}
+use Rattle.level_managers.specs.Kept.{clearPlace}
+use Rattle.level_managers.specs.Permits.{managed, clearOf, isClear, permitOf}
 use Rattle.level_managers.specs.declared.tallies.Permit.the-variants.{Given, Absent, Idle, Blocked}
-
--- whether a manager runs or waits is counted at two places only
-pub managed-other : (tallies : List ℕ) (place value k : ℕ)
-    → (place ≡ busyPlace k → ⊥)
-    → (place ≡ waitingPlace k → ⊥)
-    → managed (set tallies place value) k ≡ managed tallies k
-managed-other tallies place value k f g =
-    rw (getD-set-other tallies place (busyPlace k) value 0 (λ e. f (sym e)), getD-set-other tallies place (waitingPlace k) value 0 (λ e. g (sym e)))
 
 -- at level j nothing stands against question 14 of level l
 abbrev pub passes : List ℕ → List ℕ → ℕ → ℕ → Bool
 passes masks tallies l j = implies (strictly (dominates masks) l j) (not (managed tallies j))
-
--- questions 14 and 15 look at no other numbers
-pub clear-same : (masks t t' : List ℕ) (l : ℕ) → ((j : ℕ) → j < length masks → managed t j ≡ managed t' j) → clearOf masks t l ≡ clearOf masks t' l
-clear-same masks t t' l f =
-    all-ext (length masks) (passes masks t l) (passes masks t' l) (λ j h. ap (λ b. implies (strictly (dominates masks) l j) (not b)) (f j h))
-
-pub ended-same : (masks t t' : List ℕ) → ((j : ℕ) → j < length masks → managed t j ≡ managed t' j) → endedOf masks t ≡ endedOf masks t'
-ended-same masks t t' f =
-    all-ext (length masks) (λ j. not (managed t j)) (λ j. not (managed t' j)) (λ j h. ap not (f j h))
 
 module _ (masks tallies : List ℕ) (l j : ℕ) where
   -- why so: j is l itself, or has no manager, or is not dominated

@@ -1,10 +1,10 @@
 -- What each stage of a scheduler step asks for is there. Assumes nothing.
-use Prim.Native.Nat.{ℕ, _+_, _-_, _^_, _≤_, _<_}
+use Prim.Native.Nat.{ℕ, _-_, _≤_, _<_}
 use mathlib.Core.Path.{_≡_, refl, sym, _∙_, ap}
-use mathlib.Core.Bool.{Bool, true, not, _||_}
+use mathlib.Core.Bool.{true, not, _||_}
 use mathlib.Core.List.{List, [], _∷_}
 use native.Mathlib.Omega.{arith}
-use lib.ListN.{length, getD, set, length-set}
+use lib.ListN.{length, getD, length-set}
 use lib.Seq.{getD-set-other}
 use Rattle.lattice.proofs.Laws.Range.{not-both}
 use Rattle.session.specs.Limits.{maxLevels, maxObjects}
@@ -13,7 +13,6 @@ use Rattle.session.specs.Program.{programOf}
 use Rattle.session.specs.Questions.{verdictOf}
 use Rattle.session.specs.declared.Verdict.the-variants.{Accepted}
 use Rattle.session.specs.declared.Value.{Value}
-use Rattle.session.specs.declared.Message.{Message}
 use Rattle.managers.specs.Manager.{stepped}
 use Rattle.managers.specs.Valid.{Indexed}
 use Rattle.managers.specs.declared.Manager.{Manager}
@@ -21,14 +20,13 @@ use Rattle.managers.specs.declared.Effect.{Effect}
 use Rattle.managers.specs.declared.Effect.the-variants as effect
 use Rattle.model.specs.Limits.{maxManagers}
 use Rattle.model.specs.Fork.{Fork}
-use Rattle.model.specs.Level.{Activity, idle, busy, Level, isBusy, isEmpty, hasManager, startedCount}
+use Rattle.model.specs.Level.{Activity, idle, busy, Level, isBusy, isEmpty, hasManager}
 use Rattle.model.specs.Step.{State, levelAt}
 use Rattle.model.proofs.Laws.Code.Live.{Live}
 use Rattle.model.proofs.Laws.Code.Needs.{live-startable, live-write, live-fork}
-use Rattle.records.specs.Histories.{historiesAt, InOrder}
-use Rattle.queues.specs.Queue.{forkOfRow, forkAt, There, Room, ForksRise}
-use Rattle.level_managers.specs.Kept.{Words, nextPlace, waitingPlace, versionsPlace, busyPlace, Runs, LevelTold, Roomy, Told}
-use Rattle.level_managers.specs.Steps.{Parts, runningFork, startedOf, EffectReady, EffectDone, SettleReady, StartReady}
+use Rattle.queues.specs.Queue.{forkOfRow, forkAt}
+use Rattle.level_managers.specs.Kept.{Words, waitingPlace, versionsPlace, busyPlace, Runs, LevelTold, Roomy, Told}
+use Rattle.level_managers.specs.Steps.{Parts, runningFork, EffectReady, EffectDone, SettleReady, StartReady}
 use Rattle.level_managers.proofs.Laws.Told.{Limited, started-is, busy-fewer}
 use Rattle.level_managers.proofs.Laws.Settle.{stamp-any}
 use Rattle.level_managers.proofs.Laws.Begin.{first-fork}

@@ -18,13 +18,13 @@ use Rattle.model.specs.Limits.{maxManagers}
 use Rattle.model.specs.Lists.{inserted, modify}
 use Rattle.model.specs.Fork.{Fork}
 use Rattle.model.specs.History as history
-use Rattle.model.specs.Level.{Version, Activity, idle, busy, Level, isBusy, startedCount, after, newest}
+use Rattle.model.specs.Level.{Activity, idle, busy, Level, isBusy, startedCount, after, newest}
 use Rattle.model.specs.Step.{State, levelAt}
 use Rattle.model.proofs.Laws.Invariant.Measure.{inserted-length}
 use Rattle.records.specs.Fields.{fieldAt}
 use Rattle.records.specs.Histories.{historiesAt, InOrder, historyOf}
-use Rattle.queues.specs.Queue.{forkOfRow, forkAt, forksAt, ForksRise}
-use Rattle.level_managers.specs.Kept.{Words, nextPlace, waitingPlace, versionsPlace, busyPlace, tallyNumbers, Runs, LevelTold, Roomy, Told, placed}
+use Rattle.queues.specs.Queue.{forkOfRow, forkAt, forksAt}
+use Rattle.level_managers.specs.Kept.{Words, nextPlace, waitingPlace, versionsPlace, busyPlace, tallyNumbers, Runs, LevelTold, Told, placed}
 use Rattle.level_managers.specs.Steps.{Closed, Settled}
 use Rattle.level_managers.proofs.Laws.Told.{Limited, SameAt, busy-fewer, at-own, at-other, told-change}
 

@@ -1,7 +1,6 @@
 -- A whole scheduler step: the words say the state after it. Assumes nothing.
 use Prim.Native.Nat.{ℕ, _+_, _-_, _≤_, _<_}
 use mathlib.Core.Path.{_≡_, refl, sym, _∙_, ap, ap₂}
-use mathlib.Core.Bool.{true, false}
 use mathlib.Core.List.{List, [], _∷_, _++_}
 use native.Mathlib.Decide.{ℕ-discrete}
 use native.Mathlib.Omega.{arith}
@@ -23,9 +22,9 @@ use Rattle.managers.specs.declared.Effect.the-variants as effect
 use Rattle.model.specs.Limits.{workNumbers}
 use Rattle.model.specs.Lists.{modify}
 use Rattle.model.specs.Fork.{Fork}
-use Rattle.model.specs.Level.{Activity, idle, busy, Level, newLevel, after}
+use Rattle.model.specs.Level.{idle, busy, Level, newLevel, after}
 use Rattle.model.specs.Step.{State, levelAt, readAt, stepAt}
-use Rattle.model.specs.Schedule.{readIn, stepRefusal, question14}
+use Rattle.model.specs.Schedule.{readIn, stepRefusal}
 use Rattle.model.proofs.Laws.Lists.{modify-twice}
 use Rattle.model.proofs.Laws.Order.Accepted.{sound}
 use Rattle.model.proofs.Laws.Code.Direct.{step-start}
@@ -33,8 +32,8 @@ use Rattle.model.proofs.Laws.Code.Live.{Live, present}
 use Rattle.model.proofs.Laws.Code.Needs.{live-fork}
 use Rattle.model.proofs.Laws.Code.Progress.{clear-stays, leads-more, leads-live}
 use Rattle.queues.specs.Queue.{forkAt}
-use Rattle.level_managers.specs.Kept.{Words, nextPlace, waitingPlace, versionsPlace, busyPlace, clearPlace, LevelTold, Told, Says, placed}
-use Rattle.level_managers.specs.Steps.{Parts, runningFork, EffectDone, Settled, begunTallies, Started}
+use Rattle.level_managers.specs.Kept.{Words, nextPlace, waitingPlace, versionsPlace, busyPlace, clearPlace, Told, Says, placed}
+use Rattle.level_managers.specs.Steps.{Parts, EffectDone, Settled, begunTallies, Started}
 use Rattle.level_managers.proofs.Laws.Told.{Limited, at-own, at-other}
 use Rattle.level_managers.proofs.Laws.Settle.{placed-own, placed-other, told-settle}
 use Rattle.level_managers.proofs.Laws.Begin.{begunLevel, first-fork, told-begin}

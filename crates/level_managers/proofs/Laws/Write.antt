@@ -17,7 +17,7 @@ use Rattle.model.specs.Level.{Version, Activity, idle, busy, Level, newest}
 use Rattle.model.specs.Step.{State, levelAt}
 use Rattle.records.specs.Fields.{fieldAt}
 use Rattle.versions.specs.Log.{logStart, logOf}
-use Rattle.level_managers.specs.Kept.{Words, nextPlace, waitingPlace, versionsPlace, busyPlace, tallyNumbers, Runs, LevelTold, Roomy, Told}
+use Rattle.level_managers.specs.Kept.{Words, nextPlace, waitingPlace, versionsPlace, busyPlace, Runs, LevelTold, Told}
 use Rattle.level_managers.specs.Steps.{Wrote}
 use Rattle.level_managers.proofs.Laws.Told.{Limited, SameAt, at-own, at-other, told-change}
 

@@ -1,9 +1,9 @@
 -- `queues::child_row` meets its contract. The invariant: the words up to j are copied. Assumes nothing.
-use Prim.Native.Nat.{_+_, _-_, _≤_}
+use Prim.Native.Nat.{_-_, _≤_}
 use mathlib.Core.Path.{_≡_, ap}
 use native.Mathlib.Omega.{arith}
 use lib.ListN.{length}
-use Rattle.queues.specs.Queue.{forkPlace, rowOf}
+use Rattle.queues.specs.Queue.{forkPlace}
 use Rattle.queues.proofs.Laws.Row.{Copied, copied-none, copied-more, child-row}
 use borrow.Author.Needs.{needs}
 use Rattle.queues.proofs.child_row.Statement.{statement}

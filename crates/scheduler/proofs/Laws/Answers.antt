@@ -4,7 +4,7 @@ use mathlib.Core.Path.{_≡_, refl, sym, _∙_, ap}
 use mathlib.Core.List.{List, [], _++_}
 use native.Mathlib.Omega.{arith}
 use borrow.Author.Tests.{ne-eqb, leb-true}
-use lib.ListN.{length, take, drop, replicate, length-replicate}
+use lib.ListN.{length, take, replicate, length-replicate}
 use lib.Seq.{take-at}
 use Rattle.session.specs.Parts.{levelCount, objectCount, masksOf}
 use Rattle.session.specs.Meaning.{levelOf, rootObject, rootOf}
@@ -30,7 +30,7 @@ use Rattle.records.proofs.Laws.Depends.{bytes-depend-by-number}
 use Rattle.records.proofs.Laws.Orders.{by-number-shown}
 use Rattle.versions.proofs.Laws.Cleared.{cleared-rest}
 use Rattle.level_managers.specs.Kept.{Words, Told}
-use Rattle.scheduler.specs.Runs.{EntryRefusal, Refused, SameRest, Ends, Done, RefusedBy, Shows, ListDone, PlainDone}
+use Rattle.scheduler.specs.Runs.{EntryRefusal, Refused, SameRest, Ends, Done, RefusedBy, Shows, ListDone}
 use Rattle.scheduler.specs.declared.Outcome as code
 use Rattle.scheduler.specs.declared.Outcome.the-variants as outcome
 

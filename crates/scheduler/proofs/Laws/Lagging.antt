@@ -1,16 +1,14 @@
 -- The manager of a level makes its steps in a row; that it has ended is seen late. Assumes nothing.
 use Prim.Native.Nat.{ℕ, zero, suc, _+_, _-_, _≤_, _<_}
 use mathlib.Core.Path.{_≡_, refl, sym, _∙_, ap, subst}
-use mathlib.Core.Bool.{Bool, true, false, cond}
+use mathlib.Core.Bool.{true, false}
 use mathlib.Core.List.{List}
 use native.Mathlib.Decide.{ℕ-discrete}
 use native.Mathlib.Omega.{arith}
 use borrow.Author.Tests.{eq-eqb, eqb-true}
-use lib.Dec.{eqb}
 use lib.ListN.{length, getD}
-use Rattle.lattice.proofs.Laws.Range.{not-both}
 use Rattle.session.specs.Limits.{maxLevels, fields}
-use Rattle.session.specs.Parts.{levelCount, objectCount}
+use Rattle.session.specs.Parts.{levelCount}
 use Rattle.session.specs.Meaning.{levelOf}
 use Rattle.session.specs.Program.{Program, programOf}
 use Rattle.session.specs.Questions.{verdictOf}
@@ -19,7 +17,6 @@ use Rattle.session.specs.declared.Value.{Value}
 use Rattle.session.specs.declared.Step.{Step}
 use Rattle.session.specs.declared.Step.the-variants as op
 use Rattle.session.proofs.Laws.Contents.{level-limit, object-limit}
-use Rattle.session.proofs.Laws.Lists.{holds, fails, truth}
 use Rattle.managers.specs.Frame.{atStep}
 use Rattle.managers.specs.Manager.{isRunning, top, nextStep, operated, stepped, counted}
 use Rattle.managers.specs.declared.Frame.{Frame}
@@ -37,14 +34,13 @@ use Rattle.model.proofs.Laws.Code.Live.{Live, present}
 use Rattle.model.proofs.Laws.Code.Direct.{step-advance}
 use Rattle.stacks.specs.Pauses.{Quietly}
 use Rattle.stacks.specs.Moves.{Sees}
-use Rattle.records.specs.Fields.{fieldAt}
 use Rattle.level_managers.specs.Kept.{Words, busyPlace, Runs, LevelTold, Says, placed}
 use Rattle.level_managers.specs.Permits.{managed}
-use Rattle.level_managers.specs.Steps.{Busy, IsBusy, Parts, EffectReady, EffectDone, Settled, SettleReady}
+use Rattle.level_managers.specs.Steps.{Busy, Parts, EffectReady, EffectDone, Settled}
 use Rattle.scheduler.specs.Running.{Draining, Lagging}
 use Rattle.level_managers.proofs.Laws.Made.{partsOf, settled-on}
 use Rattle.level_managers.proofs.Laws.Ready.{told-runs, effect-ready}
-use Rattle.level_managers.proofs.Laws.Settle.{placed-own, placed-other}
+use Rattle.level_managers.proofs.Laws.Settle.{placed-own}
 use Rattle.level_managers.proofs.Laws.Step.{says-live, says-advance}
 use Rattle.scheduler.proofs.Laws.Level.{drain-on, drain-on-state, drain-allowed}
 

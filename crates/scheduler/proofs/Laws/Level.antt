@@ -1,53 +1,32 @@
 -- A level that may step is run until it has no manager. Assumes nothing.
-use Prim.Native.Nat.{ℕ, _+_, _*_, _-_, _≤_, _<_}
-use mathlib.Core.Path.{_≡_, refl, sym, _∙_, ap, ap₂}
-use mathlib.Core.Bool.{true, false, cond}
+use Prim.Native.Nat.{ℕ, _+_, _-_, _<_}
+use mathlib.Core.Path.{_≡_, refl, sym, _∙_}
+use mathlib.Core.Bool.{true, false}
 use mathlib.Core.List.{List, [], _∷_, _++_}
 use native.Mathlib.Decide.{ℕ-discrete}
-use native.Mathlib.Omega.{arith}
 use borrow.Author.Tests.{lt-ltb}
-use lib.Dec.{eqb}
-use lib.ListN.{length, getD}
-use Rattle.session.specs.Limits.{maxLevels}
+use lib.ListN.{length}
 use Rattle.session.specs.Parts.{levelCount}
 use Rattle.session.specs.Program.{programOf}
 use Rattle.session.specs.Questions.{verdictOf}
 use Rattle.session.specs.declared.Verdict.the-variants.{Accepted}
-use Rattle.managers.specs.Limits.{maxScriptSteps}
 use Rattle.managers.specs.declared.Manager.{Manager}
-use Rattle.model.specs.Limits.{maxManagers}
-use Rattle.model.specs.Level.{Activity, idle, busy, Level, hasManager}
+use Rattle.model.specs.Level.{idle, Level, hasManager}
 use Rattle.model.specs.Step.{State, levelAt, stepAt}
 use Rattle.model.specs.Schedule.{stepRefusal}
 use Rattle.model.proofs.Laws.Order.Accepted.{sound}
-use Rattle.model.proofs.Laws.Invariant.Measure.{left, cost}
-use Rattle.model.proofs.Laws.Invariant.Tame.{move-falls}
-use Rattle.model.proofs.Laws.Invariant.Became.{level-stepped}
 use Rattle.model.proofs.Laws.Code.Live.{Live, present}
 use Rattle.model.proofs.Laws.Code.Progress.{allowed, refusal-none, unmanaged-idle, activity-stays, clear-stays, leads-none, leads-more}
-use Rattle.level_managers.specs.Kept.{Words, busyPlace, tallyNumbers, Runs, LevelTold, Told, Says, placed}
+use Rattle.level_managers.specs.Kept.{Words, LevelTold, Says, placed}
 use Rattle.level_managers.specs.Permits.{managed}
-use Rattle.level_managers.specs.Steps.{startedOf, Stepping, MayStep, StepDone}
+use Rattle.level_managers.specs.Steps.{Stepping, MayStep, StepDone}
 use Rattle.scheduler.specs.Runs.{Rests, SameRest, LevelReady, LevelRun, LevelDone}
 use Rattle.scheduler.specs.Running.{Draining}
-use Rattle.level_managers.proofs.Laws.Told.{started-is, told-idle}
+use Rattle.level_managers.proofs.Laws.Told.{told-idle}
 use Rattle.level_managers.proofs.Laws.Settle.{placed-own, placed-other}
 use Rattle.level_managers.proofs.Laws.Step.{says-live}
 use Rattle.level_managers.proofs.Laws.Asked.{told-managed}
 use Rattle.scheduler.proofs.Laws.Listed.{says-held}
-
--- the scheduler steps that a level has left, by what is counted and the manager that runs
-abbrev pub costIn : List ℕ → ℕ → Manager → ℕ
-costIn tallies l m =
-    257 * (maxManagers - startedOf tallies l) + cond (eqb (getD tallies (busyPlace l) 0) 0) 0 (maxScriptSteps - m .steps)
-
-cost-is : (n : ℕ) (w : Words) (l : ℕ) (m : Manager) (v : Level) → LevelTold n w l m v → costIn (w .tallies) l m ≡ cost v
-cost-is n w l m v t =
-    ap₂ (λ a b. 257 * (maxManagers - a) + b) (started-is n w l m v t) (by (v .activity) (t .activity))
-  where
-    by : (a : Activity) → Runs n w l m (length (v .ended)) a → cond (eqb (getD (w .tallies) (busyPlace l) 0) 0) 0 (maxScriptSteps - m .steps) ≡ left a
-    by idle r = rw r refl
-    by (busy x y) r = rw (r .0, r .1 .0) refl
 
 told-placed : (n : ℕ) (w : Words) (l : ℕ) (m m' : Manager) (v : Level) → m' ≡ m → LevelTold n w l m' v → LevelTold n w l m v
 told-placed n w l m m' v e t = rw (sym e) t
@@ -114,16 +93,6 @@ module _ (s : List ℕ) (a : verdictOf s ≡ Accepted) (l : ℕ) (h : l < levelC
 
       pub drain-step : (w' : Words) (r : Manager) → StepDone s l m w w' r → Draining s from w' l r
       drain-step w' r d = drain-on w' r (λ ms. d .says (placed l m ms) st (drain-stepping ms))
-
-      -- and fewer steps are left
-      pub drain-less : (w' : Words) (r : Manager) → StepDone s l m w w' r → costIn (w' .tallies) l r < costIn (w .tallies) l m
-      drain-less w' r d =
-          rw (cost-is (levelCount s) w l m (levelAt st l) told, cost-is (levelCount s) w' l r (levelAt (stepAt (programOf s) l st) l) after, level-stepped (programOf s) (sound s a) st (live .reachable .steady .orderly) l (present s l h))
-          (move-falls (programOf s) l st (sound s a) (present s l h) (sym has ∙ e) (live .reachable .steady .tame l) .less)
-        where
-          after : LevelTold (levelCount s) w' l r (levelAt (stepAt (programOf s) l st) l)
-          after =
-              told-placed (levelCount s) w' l r (placed l r (placed l m (λ _. m)) l) (levelAt (stepAt (programOf s) l st) l) (placed-own l r (placed l m (λ _. m))) (d .says (placed l m (λ _. m)) st (drain-stepping (λ _. m)) .told .level l h)
 
     -- there is none any more
     pub drain-end : managed (w .tallies) l ≡ false → LevelRun s w l from
@@ -193,28 +162,6 @@ module _ (s : List ℕ) (a : verdictOf s ≡ Accepted) (w₀ : Words) (l : ℕ) 
   module _ (w : Words) (m : Manager) (i : LevelLoop s w₀ w l m) where
     abbrev g : Draining s (q .0) w l m
     g = i .drains (q .0) (q .1 .0) (q .1 .1)
-
-    pub level-counted : levelCount s ≤ maxLevels → (l < maxLevels) × (tallyNumbers ≤ length (w .tallies))
-    level-counted few = (omega (arith, ready-present, few), g .says (λ _. m) .told .roomy .tallies)
-
-    pub level-may : managed (w .tallies) l ≡ true → MayStep s w l m
-    level-may e = drain-may s a l ready-present (q .0) w m g e
-
-    module _ (w' : Words) (r : Manager) (e : managed (w .tallies) l ≡ true) (d : StepDone s l m w w' r) where
-      pub level-less : costIn (w' .tallies) l r < costIn (w .tallies) l m
-      level-less = drain-less s a l ready-present (q .0) w m g e w' r d
-
-      pub level-again : length (w' .current) ≡ length (w .current) → length (w' .ended) ≡ length (w .ended) → length (w' .tallies) ≡ length (w .tallies) → length (w' .queue) ≡ length (w .queue) → length (w' .work) ≡ length (w .work) → LevelLoop s w₀ w' l r
-      level-again c1 c2 c3 c4 c5 =
-          record {
-            drains = λ st x ok. drain-step s a l ready-present st w m (i .drains st x ok) e w' r d;
-            rest = d .rest ∙ i .rest;
-            current-long = c1 ∙ i .current-long;
-            ended-long = c2 ∙ i .ended-long;
-            tallies-long = c3 ∙ i .tallies-long;
-            queue-long = c4 ∙ i .queue-long;
-            work-long = c5 ∙ i .work-long;
-          }
 
     pub level-done : managed (w .tallies) l ≡ false → LevelDone s w₀ w l
     level-done e =

@@ -2,7 +2,7 @@
 use Prim.Native.Nat.{ℕ, suc, _+_, _≤_, _<_, _^_}
 use mathlib.Core.Path.{_≡_, refl, sym, _∙_, ap}
 use mathlib.Core.Bool.{true, false}
-use mathlib.Core.List.{List, [], _∷_}
+use mathlib.Core.List.{List, _∷_}
 use native.Mathlib.Decide.{ℕ-discrete}
 use native.Mathlib.Omega.{arith}
 use lib.ListN.{length, getD, set, drop, length-set}
@@ -17,13 +17,13 @@ use Rattle.session.proofs.Laws.Contents.{level-limit, masks-length}
 use Rattle.managers.specs.Valid.{Leveled}
 use Rattle.managers.specs.declared.Manager.{Manager}
 use Rattle.model.specs.Limits.{maxSchedule}
-use Rattle.model.specs.Step.{State, levelAt, stepAt}
-use Rattle.model.specs.Schedule.{finished, refused, readIn, question15, stepRefusal, runFrom, runOf}
+use Rattle.model.specs.Step.{State, stepAt}
+use Rattle.model.specs.Schedule.{finished, stepRefusal, runFrom, runOf}
 use Rattle.model.proofs.Laws.Order.Accepted.{sound}
 use Rattle.model.proofs.Laws.Order.PlainRun.{read-in-total}
 use Rattle.model.proofs.Laws.Invariant.Tame.{total, step-less}
 use Rattle.model.proofs.Laws.Code.Progress.{allowed, run-made, run-stops, run-ends, run-unended}
-use Rattle.level_managers.specs.Kept.{Words, Told, Says, placed}
+use Rattle.level_managers.specs.Kept.{Words, Says, placed}
 use Rattle.level_managers.specs.Permits.{numberOfPermit, endedOf, permitOf, noted, Countable}
 use Rattle.level_managers.specs.Steps.{Stepping, MayStep, StepDone}
 use Rattle.scheduler.specs.Runs.{startOf, Rests, SameRest, Ends}

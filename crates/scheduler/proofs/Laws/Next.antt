@@ -1,14 +1,14 @@
 -- The managers of a level run one after the other, each from its start to its end. Assumes nothing.
-use Prim.Native.Nat.{ℕ, _+_, _-_, _*_, _^_, _≤_, _<_}
-use mathlib.Core.Path.{_≡_, refl, sym, _∙_, ap, subst}
-use mathlib.Core.Bool.{true, false, cond, _||_}
+use Prim.Native.Nat.{ℕ, _+_, _-_, _^_, _≤_, _<_}
+use mathlib.Core.Path.{_≡_, refl, _∙_, ap, subst}
+use mathlib.Core.Bool.{true, false, cond}
 use mathlib.Core.List.{List, []}
 use native.Mathlib.Omega.{arith}
 use borrow.Author.Tests.{lt-ltb, le-ltb}
 use lib.ListN.{length, getD, set, length-set}
 use lib.Seq.{getD-set-same, getD-set-other}
 use Rattle.lattice.proofs.Laws.Range.{not-both}
-use Rattle.session.specs.Limits.{maxLevels, maxMethod}
+use Rattle.session.specs.Limits.{maxLevels}
 use Rattle.session.specs.Parts.{levelCount}
 use Rattle.session.specs.Program.{Program, programOf}
 use Rattle.session.specs.Questions.{verdictOf}
@@ -17,26 +17,23 @@ use Rattle.session.specs.declared.Value.the-variants.{Nil}
 use Rattle.session.specs.declared.Message.{Message}
 use Rattle.session.proofs.Laws.Contents.{level-limit}
 use Rattle.session.proofs.Laws.Lists.{holds, fails, truth}
-use Rattle.managers.specs.Limits.{maxForks, maxScriptSteps}
+use Rattle.managers.specs.Limits.{maxForks}
 use Rattle.managers.specs.Frame.{frameFor}
 use Rattle.managers.specs.Manager.{isRunning, concluded, started}
 use Rattle.managers.specs.Valid.{Known, Stack, Startable}
 use Rattle.managers.specs.declared.Manager.{Manager}
-use Rattle.managers.specs.declared.Ending.{Ending}
 use Rattle.managers.specs.declared.Ending.the-variants.{Running}
 use Rattle.managers.proofs.Laws.Stack.{first-stack}
 use Rattle.model.specs.Limits.{maxManagers}
-use Rattle.model.specs.Level.{idle}
 use Rattle.model.specs.Step.{State, levelAt}
-use Rattle.model.specs.Schedule.{stepRefusal}
 use Rattle.model.proofs.Laws.Code.Progress.{allowed}
 use Rattle.stacks.specs.Stack.{stackWords, framesOf}
-use Rattle.stacks.specs.Course.{managerOf, begun, settledOf}
+use Rattle.stacks.specs.Course.{managerOf, begun}
 use Rattle.stacks.specs.declared.Course.{Course}
-use Rattle.level_managers.specs.Kept.{Words, nextPlace, waitingPlace, busyPlace, Roomy, Runs, LevelTold}
+use Rattle.level_managers.specs.Kept.{Words, nextPlace, waitingPlace, busyPlace, Roomy, Runs}
 use Rattle.level_managers.specs.Permits.{managed}
 use Rattle.level_managers.specs.Steps.{Read, runningFork, SettleReady, begunTallies, StartReady}
-use Rattle.scheduler.specs.Runs.{Rests, SameRest, LevelReady, LevelDone}
+use Rattle.scheduler.specs.Runs.{SameRest, LevelReady, LevelDone}
 use Rattle.scheduler.specs.Running.{Draining, Lagging, courseIn, Goes, Lags, Gone, CloseReady, Closes, NextReady, NextDone}
 use Rattle.level_managers.proofs.Laws.Made as made
 use Rattle.scheduler.proofs.Laws.Level.{LevelLoop, drain-may, drain-step, level-start, level-done}

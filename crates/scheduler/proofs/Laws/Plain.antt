@@ -1,6 +1,6 @@
 -- The plain run: level after level, until all managers have ended. Assumes nothing.
 use Prim.Native.Nat.{ℕ, zero, suc, _+_, _*_, _-_, _≤_, _<_}
-use mathlib.Core.Path.{_≡_, refl, sym, _∙_, ap, ap₂}
+use mathlib.Core.Path.{_≡_, refl, sym, _∙_, ap}
 use mathlib.Core.Bool.{true, false, cond}
 use mathlib.Core.List.{List, [], _∷_, _++_}
 use native.Mathlib.Decide.{ℕ-discrete}
@@ -19,12 +19,12 @@ use Rattle.managers.specs.declared.Manager.{Manager}
 use Rattle.model.specs.Limits.{maxManagers}
 use Rattle.model.specs.Level.{idle, Level, isBusy, hasManager}
 use Rattle.model.specs.Step.{State, levelAt, stepAt}
-use Rattle.model.specs.Schedule.{finished, readIn, question15, stepRefusal, runFrom, runOf, Leads}
+use Rattle.model.specs.Schedule.{finished, question15, stepRefusal, runOf, Leads}
 use Rattle.model.proofs.Laws.Order.Accepted.{sound}
 use Rattle.model.proofs.Laws.Invariant.Measure.{left, cost}
 use Rattle.model.proofs.Laws.Invariant.Tame.{total, step-less}
 use Rattle.model.proofs.Laws.Code.Live.{Live, live-step}
-use Rattle.model.proofs.Laws.Code.Progress.{allowed, all-ended, leads-none, leads-run, leads-live}
+use Rattle.model.proofs.Laws.Code.Progress.{allowed, all-ended, leads-none, leads-run}
 use Rattle.level_managers.specs.Kept.{Words, clearPlace, Says}
 use Rattle.level_managers.specs.Permits.{numberOfPermit, permitOf, noted, Countable, isGiven}
 use Rattle.scheduler.specs.Runs.{startOf, Rests, SameRest, LevelReady, LevelDone, Done}

@@ -1,6 +1,6 @@
 -- `scheduler::first_tallies` meets its contract. The invariant: the levels passed have their first write stamps. Assumes nothing.
 use Prim.Native.Nat.{_+_, _-_, _≤_}
-use mathlib.Core.Path.{_≡_, refl, sym, _∙_, ap}
+use mathlib.Core.Path.{_≡_, refl, _∙_, ap}
 use native.Mathlib.Omega.{arith}
 use lib.ListN.{set}
 use Rattle.scheduler.proofs.Laws.Start.{firstStamps, stamps-more}

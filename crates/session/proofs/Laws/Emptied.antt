@@ -217,9 +217,6 @@ module _ (s : List ℕ) (c : ℕ) where
   unfolding masksOf
   emptied-masks = ap (map maskOf) emptied-levels
 
-  pub emptied-hides : (d l : ℕ) → hides (emptied c s) d l ≡ hides s d l
-  emptied-hides d l = rw emptied-masks
-
   -- its numbers of levels and objects, the objects' levels, and its root message
   pub emptied-level-count : levelCount (emptied c s) ≡ levelCount s
   emptied-level-count = ap length emptied-levels

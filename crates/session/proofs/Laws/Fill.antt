@@ -1,12 +1,11 @@
 -- Laws of `tab`: one more at its end, a loop that fills a list from the front, and a map as a `tab`. Assumes nothing.
-use Prim.Native.Nat.{ℕ, zero, suc, _+_, _≤_, _<_}
+use Prim.Native.Nat.{ℕ, zero, suc, _+_, _<_}
 use mathlib.Core.Path.{_≡_, refl, ap, ap₂}
 use mathlib.Core.List.{List, [], _∷_, _++_, map}
 use native.Mathlib.Numerals.{add-one}
 use native.Mathlib.Omega.{arith}
-use lib.ListN.{length, getD, set, drop, length-append, length-drop}
+use lib.ListN.{length, getD, set, drop}
 use Rattle.session.specs.Lists.{tab}
-use Rattle.session.proofs.Laws.Lists.{length-tab}
 
 module _ {A : Type 0} where
   -- one more, at the end
@@ -33,9 +32,6 @@ module _ {A : Type 0} where
 
   pub tab-fill-more : (n : ℕ) (f : ℕ → A) (d : List A) → n < length d → set (tab n f ++ drop n d) n (f n) ≡ tab (n + 1) f ++ drop (n + 1) d
   tab-fill-more n f d h = rw add-one (fill-suc n f d h)
-
-  pub tab-fill-length : (n : ℕ) (f : ℕ → A) (d : List A) → n ≤ length d → length (tab n f ++ drop n d) ≡ length d
-  tab-fill-length n f d h = simp (length-append, length-tab, length-drop) (omega arith)
 
 -- a map, by number
 pub map-is : {A B : Type 0} (f : A → B) (d : A) (xs : List A) → map f xs ≡ tab (length xs) (λ i. f (getD xs i d))

@@ -13,11 +13,11 @@ use Rattle.lattice.proofs.Laws.Range.{and-left, and-right}
 use Rattle.session.specs.Limits.{maxLevels, maxObjects, maxSteps}
 use Rattle.session.specs.Lists.{every, countsFrom, tab}
 use Rattle.session.specs.Record.{Record, recordAt, recordCount, numberOf, maskOf}
-use Rattle.session.specs.Parts.{levelRecords, objectRecords, stepRecords, levelCount, objectCount, stepCount, masksOf}
+use Rattle.session.specs.Parts.{levelRecords, objectRecords, levelCount, objectCount, stepCount, masksOf}
 use Rattle.session.specs.Questions.{kindsRise, question2, question3, objectValid, question6, scriptsValid, question7, rootValid, question8}
 use Rattle.session.specs.Reading.{Counted, recordsFrom}
 use Rattle.session.proofs.Laws.Fill.{tab-ext, map-is}
-use Rattle.session.proofs.Laws.Parts.{level-is, object-is, step-is, steps-from, kinds-rise, records-are, root-is}
+use Rattle.session.proofs.Laws.Parts.{level-is, object-is, steps-from, kinds-rise, records-are, root-is}
 
 -- `all`, from its first number on, and of two tests that agree
 pub all-first : (n : ℕ) (p : ℕ → Bool) → all (suc n) p ≡ (p zero && all n (λ i. p (suc i)))
@@ -52,9 +52,6 @@ module _ (s : List ℕ) (k : kindsRise s ≡ true) where
 
   pub every-objects : (p : Record → Bool) → every p (objectRecords s) ≡ all (objectCount s) (λ i. p (recordAt s (levelCount s + i)))
   every-objects p = every-is [] p (objectRecords s) ∙ all-ext (objectCount s) _ _ (λ i h. ap p (object-is s k i h))
-
-  pub every-steps : (p : Record → Bool) → every p (stepRecords s) ≡ all (stepCount s) (λ i. p (recordAt s (levelCount s + objectCount s + i)))
-  every-steps p = every-is [] p (stepRecords s) ∙ all-ext (stepCount s) _ _ (λ i h. ap p (step-is s k i h))
 
   pub counts-levels : countsFrom numberOf 0 (levelRecords s) ≡ all (levelCount s) (λ i. eqb (numberOf (recordAt s i)) i)
   counts-levels = counts-is [] numberOf (levelRecords s) ∙ all-ext (levelCount s) _ _ (λ i h. rw (level-is s k i h))

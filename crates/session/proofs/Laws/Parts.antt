@@ -174,14 +174,6 @@ module _ (s : List ℕ) (q : question2 s ≡ true) where
   unfolding question2
   one-root = eqb-true (length (rootRecords s)) 1 (and-right (kindsRise s && leb 1 (levelCount s) && leb 1 (objectCount s)) _ q)
 
-  pub some-level : 1 ≤ levelCount s
-  unfolding question2
-  some-level = leb-true 1 (levelCount s) (and-right (kindsRise s) _ (and-left (kindsRise s && leb 1 (levelCount s)) _ (and-left _ _ q)))
-
-  pub some-object : 1 ≤ objectCount s
-  unfolding question2
-  some-object = leb-true 1 (objectCount s) (and-right (kindsRise s && leb 1 (levelCount s)) _ (and-left _ _ q))
-
   pub records-are : recordCount s ≡ levelCount s + objectCount s + stepCount s + 1
   records-are = below-5 s kinds-rise ∙ ap (λ n. levelCount s + objectCount s + stepCount s + n) one-root
 

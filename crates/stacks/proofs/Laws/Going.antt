@@ -13,7 +13,7 @@ use Rattle.managers.specs.declared.Frame.{Frame}
 use Rattle.managers.specs.declared.Manager.{Manager}
 use Rattle.stacks.specs.Stack.{framesOf}
 use Rattle.stacks.specs.Moves.{Sees, isPause, MovePresent}
-use Rattle.stacks.specs.Pauses.{Quietly, Inside, standing, over, Last, Paused, TurnedBy, isOver, isLast, Advanceable, Stands, Turned, Advanced}
+use Rattle.stacks.specs.Pauses.{Quietly, Inside, standing, Last, Paused, TurnedBy, isLast, Advanceable, Stands, Turned, Advanced}
 use Rattle.stacks.specs.declared.Turn.{Turn}
 use Rattle.stacks.specs.declared.Event.{Event}
 use Rattle.stacks.specs.declared.Event.the-variants as event

@@ -143,9 +143,6 @@ unfolding framesOf
 replaced-in w w' at f h r =
     rw (r .frames) (getD-set-same (framesOf w) at f noFrame (omega (arith, h, length-tab maxFrames (frameAt w))))
 
-pub replaced-other : (w w' : List ℕ) (at i : ℕ) (f : Frame) → (i ≡ at → ⊥) → Replaced w w' at f → frameIn w' i ≡ frameIn w i
-replaced-other w w' at i f d r = rw (r .frames) (getD-set-other (framesOf w) at i f noFrame d)
-
 pub replaced-then : (w w' w'' : List ℕ) (at : ℕ) (f g : Frame) → Replaced w w' at f → Replaced w' w'' at g → Replaced w w'' at g
 replaced-then w w' w'' at f g r s =
     record {

@@ -1,5 +1,5 @@
 -- A turn of a manager whose frames stand in words, by what its top frame does next. Assumes nothing.
-use Prim.Native.Nat.{ℕ, _+_, _-_, _*_, _≤_, _<_}
+use Prim.Native.Nat.{ℕ, _+_, _-_, _≤_, _<_}
 use mathlib.Core.Path.{_≡_, refl, sym, _∙_, ap, subst}
 use mathlib.Core.Bool.{Bool, true, false, cond}
 use mathlib.Core.List.{List}
@@ -22,7 +22,7 @@ use Rattle.session.proofs.Laws.Lists.{holds, fails, truth}
 use Rattle.session.proofs.Laws.Accepted.{step-fits}
 use Rattle.managers.specs.Limits.{maxFrames, maxScriptSteps}
 use Rattle.managers.specs.Frame.{noFrame, withRegister, atStep}
-use Rattle.managers.specs.Manager.{isRunning, withStack, withCounts, top, withTop, isEnd, nextStep, concluded, operated, stepped}
+use Rattle.managers.specs.Manager.{top, withTop, isEnd, nextStep, operated}
 use Rattle.managers.specs.Valid.{Known, Stack}
 use Rattle.managers.specs.declared.Frame.{Frame}
 use Rattle.managers.specs.declared.Ending.the-variants.{Running}
@@ -33,7 +33,6 @@ use Rattle.records.specs.Fields.{fieldAt}
 use Rattle.stacks.specs.Stack.{framesOf, frameIn, Replaced}
 use Rattle.stacks.specs.Moves.{moved, heightAfter, Holds, Sees, Named, isPause, Operated}
 use Rattle.stacks.specs.Pauses.{Quietly, TurnedBy, isLast, turnsLeft, Advanceable, Stands, Turned}
-use Rattle.stacks.specs.declared.Turn.{Turn}
 use Rattle.stacks.specs.declared.Event.the-variants as event
 use Rattle.stacks.specs.declared.operations.Move.{Move}
 use Rattle.stacks.specs.declared.operations.Move.the-variants as move

@@ -8,7 +8,6 @@ use lib.ListN.{length}
 use Rattle.lattice.specs.Order.{strictly}
 use Rattle.lattice.proofs.Laws.Range.{and-left, not-both, refuted}
 use Rattle.session.specs.Program.{Program}
-use Rattle.session.specs.declared.Message.{Message}
 use Rattle.session.proofs.Laws.Lists.{holds, fails, truth}
 use Rattle.managers.specs.Limits.{maxScriptSteps}
 use Rattle.managers.specs.Manager.{isRunning, started, stepped}
@@ -32,15 +31,6 @@ pub finish-over : (run : RunFork) (k : ℕ) (p : Program) (l : ℕ) (x : Fork) (
 unfolding finish
 finish-over run zero p l x m g e = refl
 finish-over run (suc k) p l x m g e = rw e refl
-
--- a fork that is kept runs whole; one that is dropped does nothing
-pub effected-kept : (run : RunFork) (l : ℕ) (x : Fork) (m : Manager) (u : ℕ) (message : Message) (g : Progress) → ltb (length (tallyAt g u .ended)) maxManagers ≡ true → effected run l x m (effect.Fork u message) g ≡ run u (childOf l x m message) g
-unfolding effected
-effected-kept run l x m u message g e = rw e refl
-
-pub effected-dropped : (run : RunFork) (l : ℕ) (x : Fork) (m : Manager) (u : ℕ) (message : Message) (g : Progress) → ltb (length (tallyAt g u .ended)) maxManagers ≡ false → effected run l x m (effect.Fork u message) g ≡ g
-unfolding effected
-effected-dropped run l x m u message g e = rw e refl
 
 -- a run of forks leaves the counts of the levels that do not dominate the fork's
 abbrev pub Leaves : Program → RunFork → Type 0

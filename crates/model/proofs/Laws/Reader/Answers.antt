@@ -68,10 +68,6 @@ unfolding entryRefusal
 passed ten q p = rw (p .accepted, lt-ltb (q .clearance) (levelCount (q .session)) (p .level), p .work, p .room) refl
 
 -- a refused list has a number
-abbrev numberOf : Outcome → ℕ
-numberOf (finished st) = 0
-numberOf (refused number place) = number
-
 abbrev Numbered : Outcome → Type 0
 Numbered (finished st) = Unit
 Numbered (refused number place) = number ≡ 0 → ⊥

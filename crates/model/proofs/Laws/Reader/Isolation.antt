@@ -120,10 +120,6 @@ module _ (p : Program) (so : Sound p) (c : ℕ) (hc : c < p .levels) where
       | fails e ↦ rw e refl
     ]
 
-    pub view-echoes : (st st' : State) → SameUnder p c st st' → viewOf p l st ≡ viewOf (seenBy c p) l st'
-    unfolding viewOf seenBy
-    view-echoes = view-same
-
     -- what the step does is the same in what c sees of the program
     move-seen : (st : State) → moveAt (seenBy c p) l st ≡ moveAt p l st
     unfolding moveAt seenBy viewOf
