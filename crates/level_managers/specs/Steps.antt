@@ -2,16 +2,18 @@
 use Prim.Native.Nat.{ℕ, _+_, _-_, _^_, _≤_, _<_}
 use mathlib.Core.Path.{_≡_}
 use mathlib.Core.Bool.{true, false, cond}
-use mathlib.Core.List.{List}
+use mathlib.Core.List.{List, _∷_}
 use lib.Dec.{eqb}
 use lib.ListN.{length, getD, set, drop}
 use Rattle.session.specs.Limits.{maxLevels}
 use Rattle.session.specs.Parts.{levelCount}
-use Rattle.session.specs.Program.{programOf}
+use Rattle.session.specs.Meaning.{levelOf}
+use Rattle.session.specs.Program.{Program, programOf}
 use Rattle.session.specs.declared.Value.{Value}
+use Rattle.session.specs.declared.Value.the-variants.{Nil}
 use Rattle.session.specs.declared.Message.{Message}
 use Rattle.managers.specs.Limits.{maxForks}
-use Rattle.managers.specs.Manager.{isRunning, started}
+use Rattle.managers.specs.Manager.{isRunning, started, stepped}
 use Rattle.managers.specs.Valid.{Indexed, Leveled, Startable}
 use Rattle.managers.specs.declared.Manager.{Manager}
 use Rattle.managers.specs.declared.Effect.{Effect}
@@ -21,7 +23,7 @@ use Rattle.managers.specs.declared.Ask.the-variants as ask
 use Rattle.model.specs.Limits.{stampDigits, workNumbers}
 use Rattle.model.specs.Fork.{Fork, childStamp}
 use Rattle.model.specs.History.{endBefore}
-use Rattle.model.specs.Level.{busy}
+use Rattle.model.specs.Level.{Activity, idle, busy}
 use Rattle.model.specs.Step.{State, levelAt, readAt, stepAt}
 use Rattle.model.specs.Schedule.{stepRefusal}
 use Rattle.records.specs.Limits.{historyWords}
@@ -29,7 +31,8 @@ use Rattle.records.specs.Fields.{FieldThere, FieldSet}
 use Rattle.records.specs.Histories.{historiesAt, InOrder, HistoryIs, HistoriesThere, Added}
 use Rattle.records.specs.declared.Ended.{Ended}
 use Rattle.queues.specs.Queue.{forkOfRow, forkAt, There, Room, Arrived}
-use Rattle.versions.specs.Log.{Within}
+use Rattle.versions.specs.Log.{logStart, Within}
+use Rattle.versions.specs.Order.{PartitionPoint}
 use Rattle.versions.specs.Changes.{Appended}
 use Rattle.level_managers.specs.Kept.{Words, nextPlace, waitingPlace, versionsPlace, busyPlace, tallyNumbers, Says, placed}
 
@@ -71,9 +74,15 @@ abbrev pub ReadIs : List ℕ → Words → ℕ → ℕ → ℕ → Value → Typ
 ReadIs s w l object k r =
     (ms : ℕ → Manager) (st : State) (x : Fork) (m : Manager) → Busy s w l ms st x m → readAt (programOf s) st l x object k ≡ r
 
--- a value is what the step sees where it asks
+-- how far it looked: below, how many versions there, the oldest ones, are not above its bound; at its own level it looks at none, and hands
+-- back what it was given
+pub record ReachIs (s : List ℕ) (w : Words) (l object near r : ℕ) : Type 0 where
+  pub own : levelOf s object ≡ l → r ≡ near
+  pub below : (levelOf s object ≡ l → ⊥) → (n : ℕ) → levelOf s object < n → PartitionPoint (w .work) (logStart (levelOf s object)) (getD (w .tallies) (versionsPlace (levelOf s object)) 0) (boundIn n (w .ended) (w .tallies) (w .queue) l (levelOf s object)) r
+
+-- a value is what the step sees where it asks; where it does not, NIL is handed to it
 abbrev pub SeenIs : List ℕ → Words → ℕ → Ask → Value → Type 0
-SeenIs s w l ask.Nothing r = Unit
+SeenIs s w l ask.Nothing r = r ≡ Nil
 SeenIs s w l (ask.Field object k) r = ReadIs s w l object k r
 
 -- there is room for a write of field k of an object at level l
@@ -174,8 +183,15 @@ pub record Stepping (s : List ℕ) (w : Words) (l : ℕ) (m : Manager) (ms : ℕ
 abbrev pub MayStep : List ℕ → Words → ℕ → Manager → Type 0
 MayStep s w l m = (ms : ℕ → Manager) × ((st : State) × Stepping s w l m ms st)
 
--- the words then say the state after a scheduler step at level l, with r for the manager that runs there; the work slice is as it was beyond
--- the versions
+-- r is the manager that steps at level l, after its step: the one that starts there, or the one that runs there
+abbrev pub SteppedAs : Program → State → ℕ → Activity → Manager → Type 0
+SteppedAs p st l idle r =
+    (x : Fork) (xs : List Fork) → levelAt st l .waiting ≡ x ∷ xs → r ≡ started p l (levelAt st l .next) (x .message)
+SteppedAs p st l (busy x m) r = r ≡ stepped p (readAt p st l x) m .manager
+
+-- the words then say the state after a scheduler step at level l, with r for the manager that runs there; r is the manager after the step,
+-- also where it has ended; the work slice is as it was beyond the versions
 pub record StepDone (s : List ℕ) (l : ℕ) (m : Manager) (w w' : Words) (r : Manager) : Type 0 where
   pub says : (ms : ℕ → Manager) (st : State) → Stepping s w l m ms st → Says s w' (placed l r ms) (stepAt (programOf s) l st)
+  pub manager : (ms : ℕ → Manager) (st : State) → Stepping s w l m ms st → SteppedAs (programOf s) st l (levelAt st l .activity) r
   pub rest : drop workNumbers (w' .work) ≡ drop workNumbers (w .work)

@@ -11,7 +11,7 @@ ghost use Rattle.session.specs.Limits.{fields};
 ghost use Rattle.session.specs.Parts.{objectCount};
 ghost use Rattle.managers.specs.Asked.{AskedPresent};
 ghost use Rattle.managers.specs.Valid.{Leveled};
-ghost use Rattle.level_managers.specs.Steps.{IsBusy, BoundReady, boundIn, ReadIs, SeenIs};
+ghost use Rattle.level_managers.specs.Steps.{IsBusy, BoundReady, boundIn, ReadIs, ReachIs, SeenIs};
 
 // The write stamp up to which the manager that runs at a level reads at level `j`, below: the one that it
 // carries from an ancestor there, or the end stamp of the largest smaller fork stamp there, or 0.
@@ -30,7 +30,7 @@ fn bound_of(ended: &[u32], tallies: &[usize], queue: &[u32], level: usize, j: us
 
 // What the manager that runs at a level reads of a field: at its level the newest version, which is the
 // current field; below the newest one up to its bound there. `near` may be any number: the reach of its
-// last read saves a search. The reach is promised nothing; at its own level it is `near`.
+// last read saves a search.
 pub fn field_of(
     session: &[u8],
     masks: &[u16],
@@ -47,7 +47,7 @@ pub fn field_of(
     requires { ⌜ Leveled (now session) (now masks) ⌝ }
     requires { ⌜ IsBusy (now session) (record { current = now current; ended = now ended; tallies = now tallies; queue = now queue; work = now work }) level ⌝ }
     requires { ⌜ (object < objectCount (now session)) × (field < fields) ⌝ }
-    ensures { λ r. ⌜ ReadIs (now (session .entry)) (record { current = now (current .entry); ended = now (ended .entry); tallies = now (tallies .entry); queue = now (queue .entry); work = now (work .entry) }) level object field (r .value) ⌝ }
+    ensures { λ r. ⌜ ReadIs (now (session .entry)) (record { current = now (current .entry); ended = now (ended .entry); tallies = now (tallies .entry); queue = now (queue .entry); work = now (work .entry) }) level object field (r .value) × ReachIs (now (session .entry)) (record { current = now (current .entry); ended = now (ended .entry); tallies = now (tallies .entry); queue = now (queue .entry); work = now (work .entry) }) level object near (r .reach) ⌝ }
 {
     let j = contents::level_of(session, masks, object as usize);
     if j == level {
@@ -68,7 +68,7 @@ pub fn field_of(
     )
 }
 
-// What its script step sees of the field that it asks.
+// What its script step sees of the field that it asks; NIL where it asks nothing.
 pub fn seen_by(
     session: &[u8],
     masks: &[u16],

@@ -9,8 +9,12 @@ use Rattle.session.specs.Parts.{levelCount}
 use Rattle.session.specs.Meaning.{levelOf, rootObject, rootOf}
 use Rattle.session.specs.Program.{programOf}
 use Rattle.session.specs.Reading.{indexOf}
+use Rattle.session.specs.declared.Value.the-variants.{Nil}
+use Rattle.managers.specs.Limits.{maxFrames}
+use Rattle.managers.specs.Frame.{noFrame}
 use Rattle.managers.specs.Valid.{Leveled}
 use Rattle.managers.specs.declared.Manager.{Manager}
+use Rattle.managers.specs.declared.Ending.the-variants as ending
 use Rattle.model.specs.Limits.{workNumbers, resultBytes}
 use Rattle.model.specs.Level.{idle, hasManager}
 use Rattle.model.specs.Step.{State, levelAt}
@@ -49,6 +53,11 @@ startOf s = readIn (programOf s) (rootOf s)
 pub record Rests (s : List ℕ) (w : Words) (st : State) : Type 0 where
   pub says : (ms : ℕ → Manager) → Says s w ms st
   pub idle-all : (k : ℕ) → k < levelCount s → levelAt st k .activity ≡ idle
+
+-- what stands for the manager of a level where none has run yet
+abbrev pub noManager : Manager
+noManager =
+    record { level = 0; first = 0; stamp = 0; steps = 0; writes = 0; forks = 0; ending = ending.Finished; reply = Nil; height = 0; frames = replicate maxFrames noFrame }
 
 -- what is counted before any manager started: "A level's write stamp starts at 1"
 abbrev pub startTallies : List ℕ

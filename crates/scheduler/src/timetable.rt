@@ -8,11 +8,9 @@ use managers::Frame;
 use managers::Manager;
 use session::Value;
 ghost use mathlib.Core.Path.{_≡_};
-ghost use mathlib.Core.Bool.{false};
-ghost use Rattle.managers.specs.Manager.{isRunning};
 ghost use Rattle.level_managers.specs.Permits.{numberOfPermit};
 ghost use Rattle.level_managers.specs.Steps.{Read};
-ghost use Rattle.scheduler.specs.Runs.{startOf, Rests, RefusedAt, Ends, SameRest};
+ghost use Rattle.scheduler.specs.Runs.{startOf, noManager, Rests, RefusedAt, Ends, SameRest};
 
 // Document 01's number of what questions 12 to 14 say.
 fn number_of(permit: Permit) -> u32
@@ -38,7 +36,7 @@ fn refused_at(permit: Permit, place: u32) -> Outcome
 
 // What stands for the manager of a level where none has run yet.
 fn no_manager() -> Manager
-    ensures { λ r. ⌜ isRunning (r .ending) ≡ false ⌝ }
+    ensures { λ r. ⌜ r ≡ noManager ⌝ }
 {
     let frame = Frame {
         object: 0,

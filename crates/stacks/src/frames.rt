@@ -10,7 +10,6 @@ use session::contents;
 ghost use Prim.Native.Nat.{_+_, _-_, _*_, _≤_, _<_};
 ghost use mathlib.Core.Path.{_≡_};
 ghost use mathlib.Core.Bool.{cond};
-ghost use lib.Dec.{eqb};
 ghost use Rattle.session.specs.Limits.{maxMethod, registers};
 ghost use Rattle.session.specs.Program.{programOf};
 ghost use Rattle.session.specs.declared.Value.the-variants.{Nil};
@@ -85,7 +84,7 @@ pub fn pass(stack: &mut [u32], at: usize)
 
 // The word that says whether a frame's reply is returned.
 fn flag_of(returns: bool) -> u32
-    ensures { λ r. ⌜ eqb r 1 ≡ returns ⌝ }
+    ensures { λ r. ⌜ r ≡ cond returns 1 0 ⌝ }
 {
     if returns { 1 } else { 0 }
 }

@@ -5,7 +5,7 @@
 // through those backward.
 use session::Value;
 ghost use mathlib.Core.Path.{_≡_};
-ghost use mathlib.Core.Bool.{true};
+ghost use mathlib.Core.Bool.{true, false};
 ghost use lib.Dec.{ltb};
 ghost use Prim.Native.Nat.{_+_, _≤_, _<_};
 ghost use lib.ListN.{length};
@@ -87,12 +87,12 @@ fn is_above(work: &[u32], level: usize, i: usize, bound: u16) -> bool
     work[LOG_NUMBERS * level + 2 * i] % FIELD > span
 }
 
-// True only where the `n` oldest versions of the log of a level, which has `count` versions, are those
-// not above a write stamp. Where stamps never fall, the two beside that place tell.
+// Whether the `n` oldest versions of the log of a level, which has `count` versions, are those not above a
+// write stamp. Where stamps never fall, the two beside that place tell.
 fn is_partition(work: &[u32], level: usize, count: usize, bound: u16, n: usize) -> bool
     requires { ⌜ (level < maxLevels) × (count ≤ maxVersions) × (workNumbers ≤ length (now work)) ⌝ }
     requires { ⌜ StampsRise (now work) (logStart level) count ⌝ }
-    ensures { λ r. ⌜ (r ≡ true → PartitionPoint (now (work .entry)) (logStart level) count bound n) ⌝ }
+    ensures { λ r. ⌜ (r ≡ true → PartitionPoint (now (work .entry)) (logStart level) count bound n) × (r ≡ false → PartitionPoint (now (work .entry)) (logStart level) count bound n → ⊥) ⌝ }
 {
     if n > count {
         return false;

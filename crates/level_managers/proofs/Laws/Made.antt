@@ -39,7 +39,7 @@ use Rattle.queues.specs.Queue.{ChildRow, Arrived}
 use Rattle.level_managers.specs.Kept.{Words, nextPlace, waitingPlace, busyPlace, tallyNumbers}
 use Rattle.level_managers.specs.Steps.{Read, Busy, IsBusy, runningFork, SeenIs, WriteReady, Wrote, startedOf, ForkReady, Forked, EffectReady, Parts, EffectDone, SettleReady, Settled, begunTallies, StartReady, Started, Stepping, MayStep, StepDone}
 use Rattle.level_managers.proofs.Laws.Ready.{told-rests, told-runs, waits-some, start-ready, busy-settles, effect-ready, settle-after}
-use Rattle.level_managers.proofs.Laws.Step.{says-live, says-start, says-advance, rest-effect}
+use Rattle.level_managers.proofs.Laws.Step.{says-live, manager-is, says-start, says-advance, rest-effect}
 
 -- a fork that is made, with the stamp and the depth that were read of its maker's
 module _ (tallies queue : List ℕ) (l forks u depth stamp : ℕ) (deep : (n : ℕ) → runningFork n tallies queue l .depth ≡ depth) (stamped : (n : ℕ) → runningFork n tallies queue l .stamp ≡ stamp) where
@@ -156,6 +156,7 @@ module _ (s masks index : List ℕ) (w : Words) (l : ℕ) (m : Manager) (a : Rea
     start-done ended' tallies' r d =
         record {
           says = λ ms st q. let (x, (xs, e)) = waits-some (levelAt st l) (has-here ms st q) (rests-here ms st q) in says-start s (accepted a) few w ms st (q .says) l (placed-here ms st q) (q .allowed) x xs (rests-here ms st q) e ended' tallies' r d;
+          manager = λ ms st q. rw (rests-here ms st q) (λ x xs e. manager-is s (accepted a) few w ms st (q .says) l (placed-here ms st q) (q .allowed) x xs (rests-here ms st q) e ended' tallies' r d);
           rest = refl;
         }
 
@@ -248,5 +249,6 @@ module _ {s masks index : List ℕ} {w : Words} {l : ℕ} {m : Manager} {n : Ste
         let yes = accepted (a .advancing .read) in
         record {
           says = λ ms st q. let (x, b) = runs-here (a .advancing) ms st q in says-advance s yes (level-limit s yes) w ms st (q .says) l (b .present) (q .allowed) x m (b .runs) n (a .is ms st x b) p ended' tallies' d settled;
+          manager = λ ms st q. let (x, b) = runs-here (a .advancing) ms st q in rw (b .runs) (sym (ap (λ n. n .manager) (a .is ms st x b)));
           rest = rest-effect (partsOf w) p l (m .stamp) (m .forks) (n .effect) d;
         }

@@ -1,7 +1,7 @@
 -- Frames in words, and one replaced. Assumes nothing.
 use Prim.Native.Nat.{ℕ, zero, suc, _+_, _*_, _%_, _≤_, _<_}
 use mathlib.Core.Path.{_≡_, refl, sym, _∙_, ap, ap₂}
-use mathlib.Core.Bool.{Bool}
+use mathlib.Core.Bool.{Bool, true, false, cond}
 use mathlib.Core.List.{List, _∷_}
 use native.Mathlib.Omega.{arith}
 use native.Mathlib.Nat.{mod-eq-of-lt}
@@ -309,8 +309,13 @@ module _ (w : List ℕ) (i v0 v1 v2 v3 v4 : ℕ) where
   word-4 h =
       getD-set-same w4 (i + 4) v4 0 (omega (arith, h, long))
 
+-- the flag says what it was made of
+flag-said : (returns : Bool) → eqb (cond returns 1 0) 1 ≡ returns
+flag-said true = refl
+flag-said false = refl
+
 -- the five words of another message's head
-pub head-set : (w : List ℕ) (at object name into flag : ℕ) (returns : Bool) → There w at → object < 256 → name < 256 → into < registers → eqb flag 1 ≡ returns
+pub head-set : (w : List ℕ) (at object name into flag : ℕ) (returns : Bool) → There w at → object < 256 → name < 256 → into < registers → flag ≡ cond returns 1 0
     → Replaced w (five w (frameWords * at) object name 0 into flag) at (headed (frameIn w at) object name into returns)
 unfolding frameAt
 head-set w at object name into flag returns h so sn si ef =
@@ -325,7 +330,7 @@ head-set w at object name into flag returns h so sn si ef =
       name = ap (λ x. x % 256) (word-1 w i object name 0 into flag room) ∙ mod-eq-of-lt sn;
       next = ap (λ x. x % 256) (word-2 w i object name 0 into flag room);
       into = ap (λ x. x % registers) (word-3 w i object name 0 into flag room) ∙ mod-eq-of-lt si;
-      returns = ap (λ x. eqb x 1) (word-4 w i object name 0 into flag room) ∙ ef;
+      returns = ap (λ x. eqb x 1) (word-4 w i object name 0 into flag room ∙ ef) ∙ flag-said returns;
       r0 = register-kept w w' i (i + 5) at o 0 (behind (omega arith));
       r1 = register-kept w w' i (i + 5) at o 1 (behind (omega arith));
       r2 = register-kept w w' i (i + 5) at o 2 (behind (omega arith));

@@ -60,6 +60,18 @@ partition-beside w start n bound r rise h low high =
       after = λ i l k. le-trans (high (omega arith)) (rise r i l k);
     }
 
+-- and where they do not agree it is not the place
+pub partition-over : (w : List ℕ) (start n bound r : ℕ) → n < r → PartitionPoint w start n bound r → ⊥
+partition-over w start n bound r h p = omega (arith, h, p .within)
+
+pub partition-low : (w : List ℕ) (start n bound r : ℕ) → 0 < r → bound < stampAt w start (r - 1) → PartitionPoint w start n bound r → ⊥
+partition-low w start n bound r h above p = omega (arith, above, p .before (r - 1) (omega arith))
+
+pub partition-high : (w : List ℕ) (start n bound r : ℕ) → (r ≡ n → ⊥) → stampAt w start r ≤ bound → PartitionPoint w start n bound r → ⊥
+partition-high w start n bound r h below p =
+    let l : r < n = omega (arith, h, p .within) in
+    omega (arith, below, p .after r (omega arith) l)
+
 module _ {w : List ℕ} {start n bound low high : ℕ} (b : Bracket w start n bound low high) where
   -- the version in the middle settles all on one side of it
   module _ (rise : StampsRise w start n) (m : ℕ) (lm : low ≤ m) (mh : m < high) where

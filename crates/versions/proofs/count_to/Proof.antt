@@ -19,7 +19,7 @@ is-partition-requires : tie.Need-is-partition-requires Inv-loop μ-loop
 is-partition-requires c κs = c .before .pre
 
 returns : tie.Need-returns Inv-loop μ-loop
-returns c = c .before .is-partition .ensures (c .if1 .taken)
+returns c = c .before .is-partition .ensures .0 (c .if1 .taken)
 
 loop-holds : tie.Need-loop-holds Inv-loop μ-loop
 loop-holds c =
