@@ -13,6 +13,7 @@ use Rattle.session.specs.declared.Verdict.the-variants.{Accepted}
 use Rattle.session.proofs.Laws.Numbering.{few-levels}
 use Rattle.session.proofs.Laws.Verdict.{accepted}
 use Rattle.session.proofs.Laws.Emptied.{emptied-message}
+use Rattle.session.proofs.Laws.EmptiedAccepted as session
 use Rattle.session.proofs.Laws.Program.{emptied-program}
 use Rattle.model.specs.Step.{State}
 use Rattle.model.specs.Schedule.{plainOrder}
@@ -20,7 +21,7 @@ use Rattle.model.specs.DepthFirst.{depthFirst}
 use Rattle.model.specs.Result.{resultOf, resultOfDepthFirst, bytesOf, ordersShown}
 use Rattle.model.specs.Entries.{Request, Answer, question10, entryRefusal, bytesFor, timetabled, plain, deep}
 use Rattle.model.specs.Reader.{Finished, bytesWritten, SameBytes, EqualToReader}
-use Rattle.model.specs.Demands.{OneEnd, PlainFinishes, Demand2, Demand2Plain, Isolation, TimetabledRun, DepthFirstRun, Demand3}
+use Rattle.model.specs.Demands.{OneEnd, EmptiedAccepted, PlainFinishes, DeepFinishes, Demand2, Demand2Plain, Isolation, TimetabledRun, DepthFirstRun, Demand3}
 use Rattle.model.proofs.Laws.Order.Accepted.{sound, any-order}
 use Rattle.model.proofs.Laws.Order.PlainRun.{accepted-plain}
 use Rattle.model.proofs.Laws.Deep.Root.{same-result}
@@ -32,11 +33,17 @@ use Rattle.model.proofs.Laws.Reader.Answers.{Passes, passed, passes, fi
 pub one-end : OneEnd
 one-end s a ls ks t w = any-order s a ls ks t w
 
+pub emptied-accepted : EmptiedAccepted
+emptied-accepted s a c = session.emptied-accepted s c a
+
 pub plain-finishes : PlainFinishes
 unfolding plain
 plain-finishes q order e =
     let (t, run) = accepted-plain (q .session) (passes (question10 q) q e .accepted) in
     run-finished q order (plainOrder (programOf (q .session)) (rootOf (q .session))) e t run
+
+pub deep-finishes : DeepFinishes
+deep-finishes q order e = deep-finished q order e
 
 few-of : (s : List ℕ) → verdictOf s ≡ Accepted → programOf s .levels ≤ 8
 few-of s a = unfold programOf in few-levels s (accepted s a .three)

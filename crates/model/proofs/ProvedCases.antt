@@ -2,7 +2,7 @@
 use Prim.Native.Nat.{ℕ}
 use mathlib.Core.Path.{_≡_, refl}
 use mathlib.Core.List.{List, [], _∷_, _++_}
-use lib.ListN.{replicate}
+use lib.ListN.{replicate, set}
 use Rattle.lattice.specs.Table as table
 use Rattle.lattice.specs.Range.{all, first}
 use Rattle.lattice.specs.Order.{reflexive, antisymmetric, transitive, isOrder}
@@ -78,6 +78,10 @@ timetabledW = timetabled (lent sessionW 1) (0 ∷ 1 ∷ [])
 abbrev sixAndSix : List ℕ
 sixAndSix = replicate 6 0 ++ replicate 6 1
 
+-- session W with other masks
+abbrev masked : ℕ → ℕ → List ℕ
+masked first second = set (set sessionW 2 first) 18 second
+
 pub record ProvedCases : Type 0 where
   m1 : told (plain (lent sessionW 0) (0 ∷ [])) ≡ for0
   m1-depth-first : told (deep (lent sessionW 0) (0 ∷ [])) ≡ for0
@@ -91,7 +95,9 @@ pub record ProvedCases : Type 0 where
   m8 : told (timetabled (lent [] 0) [] []) ≡ 1 ∷ 0 ∷ 0 ∷ []
   m9 : table.joinOf (0x01 ∷ 0x03 ∷ 0x05 ∷ 0x0F ∷ []) 1 2 ≡ 3
   m10 : table.numberOfVerdict (table.verdictOf (0x01 ∷ 0x02 ∷ [])) ≡ 5
+  m10-session : told (plain (lent (masked 0x01 0x02) 0) []) ≡ 5 ∷ 0 ∷ 0 ∷ []
   m11 : table.numberOfVerdict (table.verdictOf (0x03 ∷ 0x03 ∷ [])) ≡ 4
+  m11-session : told (plain (lent (masked 0x03 0x03) 0) []) ≡ 4 ∷ 0 ∷ 0 ∷ []
   m12-stamp : childStamp (childStamp 0 0 2) 1 1 ≡ 0x21000000
   m12-order : inserted (λ x. x) 0x21000000 (0x20000000 ∷ 0x30000000 ∷ []) ≡ 0x20000000 ∷ 0x21000000 ∷ 0x30000000 ∷ []
 
@@ -111,7 +117,9 @@ provedCases =
       m8 = refl;
       m9 = refl;
       m10 = refl;
+      m10-session = refl;
       m11 = refl;
+      m11-session = refl;
       m12-stamp = refl;
       m12-order = refl;
     }

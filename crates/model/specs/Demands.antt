@@ -28,11 +28,19 @@ EndsIn s ls t = runOf (programOf s) (rootOf s) ls ≡ finished t
 abbrev pub OneEnd : Type 0
 OneEnd = (s : List ℕ) → IsAccepted s → (ls ks : List ℕ) (t w : State) → EndsIn s ls t → EndsIn s ks w → t ≡ w
 
+-- "so an emptied session is accepted too", for any level
+abbrev pub EmptiedAccepted : Type 0
+EmptiedAccepted = (s : List ℕ) → IsAccepted s → (c : ℕ) → IsAccepted (emptied c s)
+
 -- The plain run is finished wherever questions 1 to 11 say yes
 abbrev pub PlainFinishes : Type 0
 PlainFinishes = (q : Request) (order : List ℕ) → entryRefusal (question10 q) q ≡ 0 → Finished (plain q order)
 
--- Demand 2: "a finished run has the records of the depth-first run". Byte by byte, for any clearance, with the level groups in any order
+-- The depth-first run is finished wherever questions 1 to 9 and 11 say yes
+abbrev pub DeepFinishes : Type 0
+DeepFinishes = (q : Request) (order : List ℕ) → entryRefusal true q ≡ 0 → Finished (deep q order)
+
+-- Demand 2: a finished run has the records of the depth-first run. Byte by byte, for any clearance, with the level groups in any order
 abbrev pub Demand2 : Type 0
 Demand2 =
     (q : Request) (order ls : List ℕ)
@@ -76,8 +84,9 @@ pub record DepthFirstRun (s : List ℕ) (c : ℕ) (a : Answer) : Type 0 where
   pub answer : a ≡ deep request order
   pub finished : Finished a
 
--- Demand 3: any two accepted sessions, any two whole lists of scheduler steps that finish: "the two runs are equal to a reader exactly when
--- the depth-first runs of the two sessions emptied for that reader are". A finished run's session is accepted and has the level c
+-- Demand 3: any two accepted sessions, any two whole lists of scheduler steps that finish: the two runs are equal to a reader exactly when
+-- the depth-first runs of the two sessions emptied for that reader are. A finished run's session is accepted and has the level c. By
+-- `EmptiedAccepted` and `DeepFinishes` the two depth-first runs are there for every such pair
 abbrev pub Demand3 : Type 0
 Demand3 =
     (c : ℕ) (s s' : List ℕ) (a a' d d' : Answer)

@@ -9,7 +9,8 @@ use Rattle.managers.specs.declared.Manager.{Manager}
 use Rattle.model.specs.Lists.{lastOr}
 use Rattle.model.specs.Fork.{Fork}
 
--- "ending, writes, fork stamp, first write stamp (the manager's at its start), last (at its end), script steps", and its reply
+-- what kind 6 shows of it, "ending, .. writes, .. fork stamp, .. first write stamp (the manager's at its start), .. last (at its end), ..
+-- script steps", and its reply
 pub record History : Type 0 where
   pub ending : Ending
   pub writes : ℕ
