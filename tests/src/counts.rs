@@ -1,72 +1,120 @@
-//! How often each answer, each length of a lent buffer and each limit occurred.
+//! How often each answer, each length of a lent buffer, each clearance, each
+//! broken rule and each limit occurred.
 
-use crate::limits::{RESULT_LENGTH, WORK_LENGTH};
-use crate::request::{Outcome, Request};
+use crate::clearances;
+use crate::limits::{REST_LENGTH, RESULT_LENGTH, WORK_LENGTH};
+use crate::request::{Outcome, Request, Run};
+use crate::sessions::rules::Rule;
 use crate::tally::Totals;
 use std::collections::BTreeMap;
-use std::ops::RangeInclusive;
 
-const ENTRIES: [&str; 4] = ["check", "timetabled", "plain", "depth-first"];
+const CHECK: &str = "check, answer";
+const DEPTH_FIRST: &str = "depth-first run, answer";
+const PLAIN: &str = "plain run, answer";
+const TIMETABLED: &str = "timetabled run, answer";
+const WORK: &str = "work slice, length";
+const RESULT: &str = "result buffer, length";
+const REST: &str = "rest, length";
 
-/// The numbers that each entry can answer; depth-first never answers 10.
-const NUMBERS: [RangeInclusive<u32>; 4] = [0..=8, 0..=15, 0..=11, 0..=11];
-const NEVER: (usize, u32) = (3, 10);
-
-#[derive(Default)]
 pub struct Counts {
-    /// By entry and number.
-    answers: BTreeMap<(usize, u32), u64>,
-    lengths: BTreeMap<(&'static str, usize), u64>,
+    /// Calls by a number of theirs.
+    calls: BTreeMap<(&'static str, usize), u64>,
+    clearances: BTreeMap<&'static str, u64>,
+    /// Question and name of each rule, and sessions that break it.
+    rules: Vec<(u32, String, u64)>,
     pub limits: Totals,
 }
 
 impl Counts {
-    pub fn add(&mut self, request: &Request, outcome: &Outcome) {
-        let (entry, work, result) = match request {
-            Request::Check => (0, None, None),
-            Request::Timetable {
-                work_length,
-                result_length,
-                ..
-            } => (1, Some(*work_length), Some(*result_length)),
-            Request::Plain {
-                work_length,
-                result_length,
-                ..
-            } => (2, Some(*work_length), Some(*result_length)),
-            Request::DepthFirst { result_length, .. } => (3, None, Some(*result_length)),
-        };
-        let answer = (entry, outcome.answer.number);
-        *self.answers.entry(answer).or_default() += 1;
-        for (name, length) in [("work slice", work), ("result buffer", result)] {
-            if let Some(length) = length {
-                *self.lengths.entry((name, length)).or_default() += 1;
-            }
+    /// With a 0 for everything that ought to occur.
+    pub fn new(rules: &[Rule]) -> Self {
+        let numbers = [
+            (CHECK, (0..=8).collect()),
+            // The depth-first run never asks question 10.
+            (DEPTH_FIRST, (0..=9).chain(11..=11).collect()),
+            (PLAIN, (0..=11).collect()),
+            (TIMETABLED, (0..=15).collect::<Vec<usize>>()),
+            (WORK, (WORK_LENGTH - 1..=WORK_LENGTH + 1).collect()),
+            (RESULT, (RESULT_LENGTH - 1..=RESULT_LENGTH + 1).collect()),
+            (REST, (0..=REST_LENGTH + 1).collect()),
+        ];
+        let calls = numbers
+            .into_iter()
+            .flat_map(|(name, numbers)| numbers.into_iter().map(move |number| (name, number)));
+        let absent = clearances::absent(0, 0);
+        let rules = rules.iter();
+        Counts {
+            calls: calls.map(|call| (call, 0)).collect(),
+            clearances: absent.map(|(name, _)| (name, 0)).into(),
+            rules: rules.map(|r| (r.question, r.name.clone(), 0)).collect(),
+            limits: Totals::default(),
         }
     }
 
-    pub fn merge(&mut self, other: &Counts) {
-        for (&answer, count) in &other.answers {
-            *self.answers.entry(answer).or_default() += count;
+    pub fn add(&mut self, request: &Request, outcome: &Outcome) {
+        let number = outcome.answer.number as usize;
+        let Request::Run { run, lengths, .. } = request else {
+            return self.add_call(CHECK, number);
+        };
+        let entry = match run {
+            Run::DepthFirst => DEPTH_FIRST,
+            Run::Plain => PLAIN,
+            Run::Timetabled(_) => TIMETABLED,
+        };
+        self.add_call(entry, number);
+        if entry != DEPTH_FIRST {
+            self.add_call(WORK, lengths.work);
         }
-        for (&length, count) in &other.lengths {
-            *self.lengths.entry(length).or_default() += count;
+        self.add_call(RESULT, lengths.result);
+        self.add_call(REST, lengths.rest);
+    }
+
+    fn add_call(&mut self, name: &'static str, number: usize) {
+        *self.calls.entry((name, number)).or_default() += 1;
+    }
+
+    /// A call with a clearance that is no present level.
+    pub fn add_clearance(&mut self, name: &'static str) {
+        *self.clearances.entry(name).or_default() += 1;
+    }
+
+    /// A session that breaks the rule of this number.
+    pub fn add_rule(&mut self, rule: usize) {
+        self.rules[rule].2 += 1;
+    }
+
+    /// Adds the counts of another trial of the same rules.
+    pub fn merge(&mut self, other: &Counts) {
+        for (&call, count) in &other.calls {
+            *self.calls.entry(call).or_default() += count;
+        }
+        for (name, count) in &other.clearances {
+            *self.clearances.entry(name).or_default() += count;
+        }
+        for ((.., count), (.., more)) in self.rules.iter_mut().zip(&other.rules) {
+            *count += more;
         }
         self.limits.merge(&other.limits);
     }
 
     pub fn report(&self) -> String {
         let mut report = String::new();
-        for (entry, name) in ENTRIES.iter().enumerate() {
-            report += &format!("{name}, answer: calls\n ");
-            for (&(_, number), count) in self.answers.iter().filter(|((e, _), _)| *e == entry) {
-                report += &format!(" {number}: {count}");
+        let mut last = "";
+        for (&(name, number), count) in &self.calls {
+            if name != last {
+                let end = if last.is_empty() { "" } else { "\n" };
+                report += &format!("{end}{name}: calls\n ");
+                last = name;
             }
-            report += "\n";
+            report += &format!(" {number}: {count}");
         }
-        report += "lent buffer, length: calls\n";
-        for ((name, length), count) in &self.lengths {
-            report += &format!("  {name} {length}: {count}\n");
+        report += "\ncalls with a clearance that is no level\n";
+        for (name, count) in &self.clearances {
+            report += &format!("{count:>8}  {name}\n");
+        }
+        report += "sessions with one rule broken, question, rule\n";
+        for (question, name, count) in &self.rules {
+            report += &format!("{count:>8} {question:>10}  {name}\n");
         }
         report += "sessions, occurrences in reference runs, limit\n";
         report + &self.limits.report()
@@ -74,26 +122,15 @@ impl Counts {
 
     /// What ought to have occurred and never did.
     pub fn missing(&self) -> Vec<String> {
-        let mut missing: Vec<String> = Vec::new();
-        for (entry, numbers) in NUMBERS.into_iter().enumerate() {
-            for number in numbers {
-                let answer = (entry, number);
-                if answer != NEVER && !self.answers.contains_key(&answer) {
-                    missing.push(format!("{} answering {number}", ENTRIES[entry]));
-                }
-            }
-        }
-        for (name, enough) in [
-            ("work slice", WORK_LENGTH),
-            ("result buffer", RESULT_LENGTH),
-        ] {
-            for length in [enough - 1, enough, enough + 1] {
-                if !self.lengths.contains_key(&(name, length)) {
-                    missing.push(format!("{name} of length {length}"));
-                }
-            }
-        }
-        missing.extend(self.limits.missing().into_iter().map(String::from));
-        missing
+        let calls = self.calls.iter().filter(|(_, &count)| count == 0);
+        let clearances = self.clearances.iter().filter(|(_, &count)| count == 0);
+        let rules = self.rules.iter().filter(|(.., count)| *count == 0);
+        let limits = self.limits.missing();
+        calls
+            .map(|((name, number), _)| format!("{name} {number}"))
+            .chain(clearances.map(|(name, _)| format!("clearance: {name}")))
+            .chain(rules.map(|(question, name, _)| format!("question {question}: {name}")))
+            .chain(limits.into_iter().map(String::from))
+            .collect()
     }
 }

@@ -1,10 +1,12 @@
 //! Tests of the library against an independent implementation of document 01.
 
+pub mod clearances;
 pub mod counts;
 pub mod ffi;
 pub mod guarded;
 pub mod library;
 pub mod limits;
+pub mod measured;
 pub mod random;
 pub mod reader;
 pub mod record;

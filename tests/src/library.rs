@@ -1,4 +1,4 @@
-//! What document 01 offers to a caller, whoever provides it.
+//! The entries that include/lupinpause.h declares, whoever provides them.
 
 /// The answer of a run. For the check only the number can differ from 0.
 #[derive(Clone, Copy, Debug, Default, PartialEq, Eq)]
@@ -27,6 +27,16 @@ impl Answer {
             count,
         }
     }
+
+    /// Answers as an entry does: place and count go to `rest` if it has room
+    /// for both.
+    pub fn give(self, rest: &mut [u32]) -> u32 {
+        if let [place, count, ..] = rest {
+            *place = self.place as u32;
+            *count = self.count as u32;
+        }
+        self.number
+    }
 }
 
 /// The four entries.
@@ -37,18 +47,26 @@ pub trait Library {
         &self,
         session: &[u8],
         timetable: &[u8],
-        clearance: u32,
+        clearance: usize,
         work: &mut [u32],
         result: &mut [u8],
-    ) -> Answer;
+        rest: &mut [u32],
+    ) -> u32;
 
     fn run_plain(
         &self,
         session: &[u8],
-        clearance: u32,
+        clearance: usize,
         work: &mut [u32],
         result: &mut [u8],
-    ) -> Answer;
+        rest: &mut [u32],
+    ) -> u32;
 
-    fn run_depth_first(&self, session: &[u8], clearance: u32, result: &mut [u8]) -> Answer;
+    fn run_depth_first(
+        &self,
+        session: &[u8],
+        clearance: usize,
+        result: &mut [u8],
+        rest: &mut [u32],
+    ) -> u32;
 }

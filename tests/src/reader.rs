@@ -3,20 +3,19 @@
 use crate::limits::LEVELS_MAX;
 use crate::record::{records, Record, HISTORY, REPLY, SHOWN_OBJECT};
 
-#[derive(Clone, Debug, PartialEq, Eq)]
-pub struct Shown {
-    pub objects: Vec<Record>,
+struct Shown {
+    objects: Vec<Record>,
     /// The histories of each level.
-    pub histories: Vec<Vec<Record>>,
-    pub reply: Option<Record>,
-    /// The levels of the groups as they stand.
-    pub groups: Vec<u8>,
+    histories: Vec<Vec<Record>>,
+    reply: Option<Record>,
+    /// The levels of the groups as they stand, in any order.
+    groups: Vec<u8>,
 }
 
 impl Shown {
     /// Takes result bytes apart: whole records; objects, histories with each
     /// level's together, at most one reply, in this order.
-    pub fn read(bytes: &[u8]) -> Result<Shown, String> {
+    fn read(bytes: &[u8]) -> Result<Shown, String> {
         if !bytes.len().is_multiple_of(16) {
             return Err(format!("{} result bytes are no whole records", bytes.len()));
         }
@@ -66,15 +65,11 @@ impl Shown {
     }
 }
 
-/// Whether two results are equal to the reader. If they also have the groups of
-/// the levels in the same order, their bytes must be equal.
+/// Whether two results are equal to the reader.
 pub fn compare(x: &[u8], y: &[u8]) -> Result<(), String> {
-    let (shown_x, shown_y) = (Shown::read(x)?, Shown::read(y)?);
-    if !shown_x.is_equal_to_reader(&shown_y) {
-        return Err("results are not equal to the reader".to_string());
+    if Shown::read(x)?.is_equal_to_reader(&Shown::read(y)?) {
+        Ok(())
+    } else {
+        Err("results are not equal to the reader".to_string())
     }
-    if shown_x.groups == shown_y.groups && x != y {
-        return Err("groups in the same order, yet other bytes".to_string());
-    }
-    Ok(())
 }

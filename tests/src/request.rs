@@ -1,28 +1,53 @@
-//! One call of a library, with guarded buffers around everything lent.
+//! One call of a library, with a look at everything that was lent to it.
 
 use crate::guarded::Guarded;
 use crate::library::{Answer, Library};
-use crate::limits::WORK_LENGTH;
+use crate::limits::{REST_LENGTH, RESULT_LENGTH, WORK_LENGTH};
 use crate::reader;
+
+#[derive(Clone, Debug)]
+pub enum Run {
+    DepthFirst,
+    Plain,
+    Timetabled(Vec<u8>),
+}
+
+/// The lengths of what a run is lent to write to. The depth-first run has no
+/// work slice.
+#[derive(Clone, Copy, Debug)]
+pub struct Lengths {
+    pub work: usize,
+    pub result: usize,
+    pub rest: usize,
+}
+
+impl Lengths {
+    pub const ENOUGH: Lengths = Lengths {
+        work: WORK_LENGTH,
+        result: RESULT_LENGTH,
+        rest: REST_LENGTH,
+    };
+}
 
 #[derive(Clone, Debug)]
 pub enum Request {
     Check,
-    Timetable {
-        timetable: Vec<u8>,
-        clearance: u32,
-        work_length: usize,
-        result_length: usize,
+    Run {
+        run: Run,
+        clearance: usize,
+        lengths: Lengths,
     },
-    Plain {
-        clearance: u32,
-        work_length: usize,
-        result_length: usize,
-    },
-    DepthFirst {
-        clearance: u32,
-        result_length: usize,
-    },
+}
+
+impl Request {
+    /// A run with just the room that it asks for.
+    pub fn run(run: Run, clearance: usize) -> Self {
+        Request::Run {
+            run,
+            clearance,
+            lengths: Lengths::ENOUGH,
+        }
+    }
 }
 
 /// An answer and the result bytes written.
@@ -61,6 +86,10 @@ impl Outcome {
 pub struct Fill<'a> {
     pub bytes: &'a [u8],
     pub words: &'a [u32],
+    /// Never 0, as most places and many counts are.
+    pub rest: &'a [u32],
+    /// Guard values on each side of what is lent.
+    pub guard: usize,
 }
 
 /// Makes the call and looks at everything that must stay as it was.
@@ -70,78 +99,135 @@ pub fn perform(
     request: &Request,
     fill: Fill,
 ) -> Result<Outcome, String> {
-    let mut lent = Guarded::new(session, fill.bytes);
+    let mut session = Guarded::new(session, fill.bytes, fill.guard);
     let outcome = match request {
         Request::Check => {
-            let number = library.check(lent.slice());
+            let number = library.check(session.slice());
             Ok(Outcome::refused(Answer::refused(number, 0)))
         }
-        Request::Timetable {
-            timetable,
+        Request::Run {
+            run,
             clearance,
-            work_length,
-            result_length,
-        } => {
-            let mut list = Guarded::new(timetable, fill.bytes);
-            let outcome = call(Some(*work_length), *result_length, fill, |work, result| {
-                library.run_timetable(lent.slice(), list.slice(), *clearance, work, result)
-            });
-            demand(list.is_kept_but(0), "the timetable changed").and(outcome)
-        }
-        Request::Plain {
-            clearance,
-            work_length,
-            result_length,
-        } => call(Some(*work_length), *result_length, fill, |work, result| {
-            library.run_plain(lent.slice(), *clearance, work, result)
-        }),
-        Request::DepthFirst {
-            clearance,
-            result_length,
-        } => call(None, *result_length, fill, |_, result| {
-            library.run_depth_first(lent.slice(), *clearance, result)
-        }),
+            lengths,
+        } => perform_run(library, &mut session, run, *clearance, *lengths, fill),
     };
-    demand(lent.is_kept_but(0), "the session changed").and(outcome)
+    demand(session.is_kept_but(0), "the session changed").and(outcome)
 }
 
-fn demand(holds: bool, message: &str) -> Result<(), String> {
-    holds.then_some(()).ok_or(message.to_string())
-}
-
-/// Makes a run with a work slice, if it has one, and a result buffer.
-fn call(
-    work_length: Option<usize>,
-    result_length: usize,
+fn perform_run(
+    library: &dyn Library,
+    session: &mut Guarded<u8>,
+    run: &Run,
+    clearance: usize,
+    lengths: Lengths,
     fill: Fill,
-    run: impl FnOnce(&mut [u32], &mut [u8]) -> Answer,
 ) -> Result<Outcome, String> {
-    let mut work = work_length.map(|length| Guarded::new(&fill.words[..length], fill.words));
-    let mut result = Guarded::new(&fill.bytes[..result_length], fill.bytes);
-    let answer = match &mut work {
-        Some(work) => run(work.slice(), result.slice()),
-        None => run(&mut [], result.slice()),
+    let list: &[u8] = match run {
+        Run::Timetabled(list) => list,
+        Run::DepthFirst | Run::Plain => &[],
     };
+    let mut list = Guarded::new(list, fill.bytes, fill.guard);
+    let mut call = |lent: &mut Lent| {
+        let (session, result, rest) = (session.slice(), lent.result.slice(), lent.rest.slice());
+        match (run, &mut lent.work) {
+            (Run::Timetabled(_), Some(work)) => {
+                let (list, work) = (list.slice(), work.slice());
+                library.run_timetable(session, list, clearance, work, result, rest)
+            }
+            (Run::Plain, Some(work)) => {
+                library.run_plain(session, clearance, work.slice(), result, rest)
+            }
+            _ => library.run_depth_first(session, clearance, result, rest),
+        }
+    };
+    let work_length = match run {
+        Run::DepthFirst => None,
+        Run::Plain | Run::Timetabled(_) => Some(lengths.work),
+    };
+    let outcome = lend(work_length, lengths, fill, &mut call);
+    demand(list.is_kept_but(0), "the timetable changed").and(outcome)
+}
+
+/// What a run may write to.
+struct Lent<'a> {
+    work: Option<Guarded<'a, u32>>,
+    result: Guarded<'a, u8>,
+    rest: Guarded<'a, u32>,
+}
+
+/// Makes a run and looks at what it wrote.
+fn lend(
+    work_length: Option<usize>,
+    lengths: Lengths,
+    fill: Fill,
+    call: &mut dyn FnMut(&mut Lent) -> u32,
+) -> Result<Outcome, String> {
+    let words = |length: usize| Guarded::new(&fill.words[..length], fill.words, fill.guard);
+    let mut lent = Lent {
+        work: work_length.map(words),
+        result: Guarded::new(&fill.bytes[..lengths.result], fill.bytes, fill.guard),
+        rest: Guarded::new(&fill.rest[..lengths.rest], fill.rest, fill.guard),
+    };
+    let number = call(&mut lent);
+    let answer = if lengths.rest < REST_LENGTH {
+        demand(lent.rest.is_kept_but(0), "rest is too short and changed")?;
+        // Only a call with more room tells place and count.
+        let enough = Lengths {
+            rest: REST_LENGTH,
+            ..lengths
+        };
+        let more = lend(work_length, enough, fill, call)?;
+        demand(more.answer.number == number, "the length of rest matters")?;
+        more.answer
+    } else {
+        demand(
+            lent.rest.is_kept_but(REST_LENGTH),
+            "rest changed beyond place and count",
+        )?;
+        let rest = lent.rest.first(REST_LENGTH);
+        Answer {
+            number,
+            place: rest[0] as usize,
+            count: rest[1] as usize,
+        }
+    };
+    look_at_buffers(&lent, &answer)?;
+    Ok(Outcome {
+        answer,
+        written: lent.result.first(answer.count).to_vec(),
+    })
+}
+
+/// Nothing changed but what the answer says.
+fn look_at_buffers(lent: &Lent, answer: &Answer) -> Result<(), String> {
     let count = answer.count;
     demand(
-        count <= result_length,
+        count <= lent.result.length(),
         "more bytes than the result buffer has",
     )?;
     demand(
         answer.number == 0 || count == 0,
         "a refused run has a count",
     )?;
-    demand(result.is_kept_but(count), "bytes not of the result changed")?;
-    if let Some(work) = &work {
-        // Up to question 11 the work slice is not touched.
-        let has_run = answer.number == 0 || answer.number > 11;
-        let cleared = if has_run { WORK_LENGTH } else { 0 };
-        let zeros = work.first(cleared).iter().all(|&number| number == 0);
-        demand(zeros, "the work slice is not cleared")?;
-        demand(work.is_kept_but(cleared), "the work slice changed")?;
-    }
-    Ok(Outcome {
-        answer,
-        written: result.first(count).to_vec(),
-    })
+    demand(
+        lent.result.is_kept_but(count),
+        "bytes not of the result changed",
+    )?;
+    let Some(work) = &lent.work else {
+        return Ok(());
+    };
+    // Up to question 11 the work slice is not touched.
+    let has_run = answer.number == 0 || answer.number > 11;
+    let cleared = if has_run { WORK_LENGTH } else { 0 };
+    demand(
+        cleared <= work.length(),
+        "a run with too short a work slice",
+    )?;
+    let zeros = work.first(cleared).iter().all(|&number| number == 0);
+    demand(zeros, "the work slice is not cleared")?;
+    demand(work.is_kept_but(cleared), "the work slice changed")
+}
+
+fn demand(holds: bool, message: &str) -> Result<(), String> {
+    holds.then_some(()).ok_or(message.to_string())
 }

@@ -1,9 +1,10 @@
-//! The cases M1 to M12 that document 01 states with their answers.
+//! The cases M1 to M12 that document 01 states with their answers, and two with
+//! more than 65,536 bytes.
 
 use crate::library::Answer;
 use crate::limits::*;
 use crate::record::{self, History, Operation, Record};
-use crate::request::{Outcome, Request};
+use crate::request::{Outcome, Request, Run};
 use crate::sessions::{example_w, Draft};
 use crate::vectors::{bytes, Vector};
 
@@ -17,6 +18,9 @@ pub fn cases() -> Vec<(&'static str, Vector)> {
     let m3 = [vec![0; 6], vec![1; 6]].concat();
     let m6 = [&m3[..], &[0]].concat();
     let w = example_w;
+    // Lengths that are those of M3 and of W in their lowest 16 bits.
+    let long = [&m3[..], &[0; 65_536]].concat();
+    let padded = [w(), vec![0; 65_536]].concat();
     vec![
         ("M1", vector(w(), plain(0), finished(m1.clone()))),
         ("M2", vector(w(), plain(1), finished(m2()))),
@@ -41,6 +45,14 @@ pub fn cases() -> Vec<(&'static str, Vector)> {
             vector(levels(&[0x03, 0x03]), Request::Check, refused(4, 0)),
         ),
         ("M12", m12()),
+        (
+            "long list",
+            vector(w(), timetable(&long, 0), refused(13, 12)),
+        ),
+        (
+            "long session",
+            vector(padded, Request::Check, refused(1, 0)),
+        ),
     ]
 }
 
@@ -60,28 +72,16 @@ fn refused(number: u32, place: usize) -> Outcome {
     Outcome::refused(Answer::refused(number, place))
 }
 
-fn plain(clearance: u32) -> Request {
-    Request::Plain {
-        clearance,
-        work_length: WORK_LENGTH,
-        result_length: RESULT_LENGTH,
-    }
+fn plain(clearance: usize) -> Request {
+    Request::run(Run::Plain, clearance)
 }
 
-fn depth_first(clearance: u32) -> Request {
-    Request::DepthFirst {
-        clearance,
-        result_length: RESULT_LENGTH,
-    }
+fn depth_first(clearance: usize) -> Request {
+    Request::run(Run::DepthFirst, clearance)
 }
 
-fn timetable(list: &[u8], clearance: u32) -> Request {
-    Request::Timetable {
-        timetable: list.to_vec(),
-        clearance,
-        work_length: WORK_LENGTH,
-        result_length: RESULT_LENGTH,
-    }
+fn timetable(list: &[u8], clearance: usize) -> Request {
+    Request::run(Run::Timetabled(list.to_vec()), clearance)
 }
 
 fn shown(number: u8, level: u8, fields: [record::Value; FIELDS]) -> Record {

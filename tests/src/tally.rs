@@ -53,6 +53,12 @@ events! {
     InitialElsewhere "version 0 read at another level with later ones",
     ReplyLost "root ended with frames",
     Choice "scheduler step with several levels allowed",
+    NilOfFork "NIL seen in place of a number sent to a fork",
+    NilOfSixteenth "NIL seen in place of a number sent to a 16th fork",
+    NilOfInside "NIL seen in place of a number sent upward inside a manager",
+    NilOfNinthUpward "NIL seen in place of a number sent upward to a 9th frame",
+    NilOfNinth "NIL seen in place of a number sent to a 9th frame",
+    NilOfIncomparable "NIL seen in place of a number sent to an incomparable level",
 }
 
 /// How often each event occurred.
@@ -70,8 +76,15 @@ impl Default for Tally {
 }
 
 impl Tally {
+    /// One that counts nothing.
+    pub fn idle() -> Self {
+        Tally { counts: Vec::new() }
+    }
+
     pub fn saw(&mut self, event: Event) {
-        self.counts[event as usize] += 1;
+        if let Some(count) = self.counts.get_mut(event as usize) {
+            *count += 1;
+        }
     }
 }
 

@@ -1,12 +1,15 @@
-//! Generated calls of the library, each compared with the reference.
+//! Generated calls of the library: its runs are compared with each other, its
+//! answers with the reference.
 
+use crate::clearances;
 use crate::counts::Counts;
+use crate::guarded::GUARD;
 use crate::library::Library;
 use crate::limits::*;
 use crate::random::Random;
-use crate::reader;
 use crate::reference::{self, Reference, Session};
-use crate::request::{perform, Fill, Outcome, Request};
+use crate::request::{perform, Fill, Lengths, Outcome, Request, Run};
+use crate::sessions::rules::{self, Rule};
 use crate::tally::{Event, Tally};
 use crate::tuned::Tuned;
 use crate::vectors::to_hex;
@@ -22,26 +25,29 @@ pub struct Trial<'a> {
     seed: u64,
     random: Random,
     bytes: Vec<u8>,
-    /// Random numbers, small ones, zeros and ones throughout.
+    /// Random numbers other than 0, small ones, zeros and ones throughout.
     words: [Vec<u32>; 4],
+    rules: Vec<Rule>,
     pub counts: Counts,
 }
 
 impl<'a> Trial<'a> {
     pub fn new(library: &'a dyn Library, seed: u64) -> Self {
         let mut random = Random::new(seed);
+        let rules = rules::all();
         Trial {
             library,
             seed,
             bytes: (0..POOL).map(|_| random.byte_below(256)).collect(),
             words: [
-                (0..POOL).map(|_| random.bits() as u32).collect(),
+                (0..POOL).map(|_| random.bits() as u32 | 1).collect(),
                 (0..POOL).map(|_| random.below(32) as u32).collect(),
                 vec![0; POOL],
                 vec![u32::MAX; POOL],
             ],
             random,
-            counts: Counts::default(),
+            counts: Counts::new(&rules),
+            rules,
         }
     }
 
@@ -49,25 +55,37 @@ impl<'a> Trial<'a> {
     pub fn case(&mut self, case: u64) -> Result<(), String> {
         self.random = Random::of_case(self.seed, case);
         let session = sessions::valid(&mut self.random);
-        self.valid(&session)
-            .map_err(|message| format!("{message}\nvalid session {}", to_hex(&session)))?;
-        let session = sessions::damaged(&mut self.random);
-        self.damaged(&session)
-            .map_err(|message| format!("{message}\ndamaged session {}", to_hex(&session)))
+        self.session("valid", &session, Some(0))?;
+        // In half of the cases the rules get broken, each in its turn.
+        if case.is_multiple_of(2) {
+            let number = (case / 2) as usize % self.rules.len();
+            self.counts.add_rule(number);
+            let rule = &self.rules[number];
+            let session = rule.broken(&mut self.random);
+            let (name, question) = (rule.name.clone(), rule.question);
+            self.session(&name, &session, Some(question))
+        } else {
+            let session = sessions::damaged(&mut self.random);
+            self.session("damaged", &session, None)
+        }
     }
 
-    /// Makes a call and compares what it does with what is expected.
-    fn expect(
+    /// Calls about one session, for which the check's answer may be known.
+    pub fn session(
         &mut self,
+        name: &str,
         session: &[u8],
-        request: &Request,
-        expected: &Outcome,
-    ) -> Result<Vec<u8>, String> {
-        let outcome = self.call(self.library, session, request)?;
-        let compared = outcome.compare(expected);
-        compared.map_err(|message| format!("{message}\n{request:?}"))?;
-        self.counts.add(request, &outcome);
-        Ok(outcome.written)
+        expected: Option<u32>,
+    ) -> Result<(), String> {
+        let number = reference::check(session);
+        let tried = if expected.is_some_and(|expected| expected != number) {
+            Err(format!("the reference's check answers {number}"))
+        } else if number == 0 {
+            self.accepted(session)
+        } else {
+            self.refused(session)
+        };
+        tried.map_err(|message| format!("{message}\n{name}, session {}", to_hex(session)))
     }
 
     fn call(
@@ -81,83 +99,139 @@ impl<'a> Trial<'a> {
         let fill = Fill {
             bytes: &self.bytes[start..],
             words: &self.words[self.random.below(4)][start..],
+            rest: &self.words[0][start..],
+            guard: self.random.pick(&[0, GUARD]),
         };
         let outcome = perform(library, session, request, fill);
         outcome.map_err(|message| format!("{message}\n{request:?}"))
     }
 
+    /// A call of the library under test.
+    fn try_library(&mut self, session: &[u8], request: &Request) -> Result<Outcome, String> {
+        let outcome = self.call(self.library, session, request)?;
+        self.counts.add(request, &outcome);
+        Ok(outcome)
+    }
+
+    /// Makes a call and compares what it does with what is expected.
+    fn expect(
+        &mut self,
+        session: &[u8],
+        request: &Request,
+        expected: &Outcome,
+    ) -> Result<(), String> {
+        let outcome = self.try_library(session, request)?;
+        let compared = outcome.compare(expected);
+        compared.map_err(|message| format!("{message}\n{request:?}"))
+    }
+
     /// The reference must do the same, with its own look at what must stay.
     fn expect_as_reference(&mut self, session: &[u8], request: &Request) -> Result<(), String> {
         let expected = self.call(&Reference, session, request)?;
-        self.expect(session, request, &expected)?;
-        Ok(())
+        self.expect(session, request, &expected)
     }
 
-    fn valid(&mut self, bytes: &[u8]) -> Result<(), String> {
-        if reference::check(bytes) != 0 {
-            return Err("the generator made a session that is not accepted".to_string());
-        }
+    fn accepted(&mut self, bytes: &[u8]) -> Result<(), String> {
         self.expect_as_reference(bytes, &Request::Check)?;
         let session = Session::read(bytes);
         let mut tally = Tally::default();
         note_sizes(&session, &mut tally);
-        let expected = reference::depth_first(&session, &mut tally);
+        let left = reference::depth_first(&session, &mut tally);
         let list = timetables::finishing(&mut self.random, &session, &mut tally);
         // Any finishing list leaves what the depth-first run leaves.
-        if reference::plain(&session, &mut tally) != expected
-            || reference::timetabled(&session, &list, &mut tally).as_ref() != Ok(&expected)
+        if reference::plain(&session, &mut tally) != left
+            || reference::timetabled(&session, &list, &mut tally).as_ref() != Ok(&left)
         {
             return Err("runs of the reference differ".to_string());
         }
         self.counts.limits.add(&tally);
         for clearance in session.lattice.levels() {
-            let shown = expected.shown(&session, clearance);
-            self.expect_runs(bytes, clearance, &list, &shown)?;
-            self.emptied(bytes, clearance, &shown)
+            let whole = self.runs_agree(bytes, clearance, &list)?;
+            let expected = Outcome::finished(left.shown(&session, clearance));
+            self.emptied(bytes, clearance, &whole, &expected)
                 .map_err(|message| format!("emptied for {clearance}: {message}"))?;
+            whole
+                .compare(&expected)
+                .map_err(|message| format!("clearance {clearance}: {message}"))?;
+            self.tuned_agrees(bytes, clearance, &list, &expected)?;
         }
         self.other_timetables(bytes, &session, &list)?;
         self.other_buffers(bytes, &session, &list)
     }
 
-    /// All three runs must show the same to a reader.
-    fn expect_runs(
+    /// The plain and the timetabled run show a reader what the depth-first run
+    /// shows, which is given.
+    fn runs_agree(
         &mut self,
         session: &[u8],
         clearance: usize,
         list: &[u8],
-        shown: &[u8],
-    ) -> Result<(), String> {
-        let expected = Outcome::finished(shown.to_vec());
-        let requests = finishing_runs(clearance as u32, list);
-        let mut results = Vec::new();
-        for request in &requests {
-            results.push(self.expect(session, request, &expected)?);
+    ) -> Result<Outcome, String> {
+        let request = self.finishing(Run::DepthFirst, clearance);
+        let depth_first = self.try_library(session, &request)?;
+        for run in [Run::Plain, Run::Timetabled(list.to_vec())] {
+            let request = self.finishing(run, clearance);
+            self.expect(session, &request, &depth_first)
+                .map_err(|message| format!("unlike the depth-first run: {message}"))?;
         }
-        reader::compare(&results[0], &results[1])?;
-        reader::compare(&results[0], &results[2])?;
-        // The tuned variant need not be the library under test, but it must be
-        // right too.
-        let request = &requests[self.random.below(requests.len())];
-        let outcome = self.call(&Tuned, session, request)?;
-        let compared = outcome.compare(&expected);
-        compared.map_err(|message| format!("tuned variant: {message}\n{request:?}"))
+        Ok(depth_first)
+    }
+
+    /// A run with enough room, but for place and count.
+    fn finishing(&mut self, run: Run, clearance: usize) -> Request {
+        let lengths = Lengths {
+            rest: self.rest_length(),
+            ..Lengths::ENOUGH
+        };
+        Request::Run {
+            run,
+            clearance,
+            lengths,
+        }
+    }
+
+    fn rest_length(&mut self) -> usize {
+        self.random.pick(&[0, 1, 2, 2, 3, 3])
     }
 
     /// The session emptied for a level shows the same to a reader of that level.
-    fn emptied(&mut self, bytes: &[u8], clearance: usize, shown: &[u8]) -> Result<(), String> {
+    fn emptied(
+        &mut self,
+        bytes: &[u8],
+        clearance: usize,
+        whole: &Outcome,
+        expected: &Outcome,
+    ) -> Result<(), String> {
         let bytes = reference::emptied(bytes, clearance);
         if reference::check(&bytes) != 0 {
             return Err("not accepted".to_string());
         }
         let session = Session::read(&bytes);
-        let mut tally = Tally::default();
-        let outcome = reference::depth_first(&session, &mut tally);
-        if outcome.shown(&session, clearance) != shown {
+        let outcome = reference::depth_first(&session, &mut Tally::idle());
+        if outcome.shown(&session, clearance) != expected.written {
             return Err("the reference shows other bytes".to_string());
         }
-        let list = timetables::finishing(&mut self.random, &session, &mut tally);
-        self.expect_runs(&bytes, clearance, &list, shown)
+        let list = timetables::finishing(&mut self.random, &session, &mut Tally::idle());
+        self.runs_agree(&bytes, clearance, &list)?.compare(whole)
+    }
+
+    /// The tuned variant is not the library under test, but must be right too.
+    fn tuned_agrees(
+        &mut self,
+        session: &[u8],
+        clearance: usize,
+        list: &[u8],
+        expected: &Outcome,
+    ) -> Result<(), String> {
+        let run = match self.random.below(3) {
+            0 => Run::DepthFirst,
+            1 => Run::Plain,
+            _ => Run::Timetabled(list.to_vec()),
+        };
+        let request = self.finishing(run, clearance);
+        let outcome = self.call(&Tuned, session, &request)?;
+        let compared = outcome.compare(expected);
+        compared.map_err(|message| format!("tuned variant: {message}\n{request:?}"))
     }
 
     /// Spoiled and cut lists.
@@ -174,15 +248,19 @@ impl<'a> Trial<'a> {
                 _ => timetables::spoiled(&mut self.random, list, levels),
             };
             let clearance = self.random.below(levels);
-            let expected = match reference::timetabled(session, &timetable, &mut Tally::default()) {
+            let expected = match reference::timetabled(session, &timetable, &mut Tally::idle()) {
                 Ok(outcome) => Outcome::finished(outcome.shown(session, clearance)),
                 Err(refusal) => Outcome::refused(refusal),
             };
-            let request = Request::Timetable {
-                timetable,
-                clearance: clearance as u32,
-                work_length: WORK_LENGTH + self.random.below(3),
-                result_length: RESULT_LENGTH + self.random.below(3),
+            let lengths = Lengths {
+                work: WORK_LENGTH + self.random.below(3),
+                result: RESULT_LENGTH + self.random.below(3),
+                rest: self.rest_length(),
+            };
+            let request = Request::Run {
+                run: Run::Timetabled(timetable),
+                clearance,
+                lengths,
             };
             self.expect(bytes, &request, &expected)?;
         }
@@ -196,77 +274,54 @@ impl<'a> Trial<'a> {
         session: &Session,
         list: &[u8],
     ) -> Result<(), String> {
-        let levels = session.lattice.levels().len() as u32;
-        for entry in 0..3 {
-            let request = self.any_run(entry, levels, list);
+        let levels = session.lattice.levels().len();
+        for run in [Run::DepthFirst, Run::Plain, Run::Timetabled(list.to_vec())] {
+            let mut clearance = self.random.below(levels);
+            if self.random.one_in(4) {
+                let absent = clearances::absent(levels, clearance);
+                let (name, absent) = self.random.pick(&absent);
+                self.counts.add_clearance(name);
+                clearance = absent;
+            }
+            let request = self.any_lengths(run, clearance);
             self.expect_as_reference(bytes, &request)?;
         }
         Ok(())
     }
 
-    fn any_run(&mut self, entry: usize, levels: u32, list: &[u8]) -> Request {
+    fn any_lengths(&mut self, run: Run, clearance: usize) -> Request {
+        let rest = self.rest_length();
         let random = &mut self.random;
-        let present = random.below(levels as usize) as u32;
-        let clearance = match random.below(8) {
-            0 => levels,
-            1 => random.pick(&[u8::MAX.into(), u32::MAX, 256 + present]),
-            _ => present,
+        let work = WORK_LENGTH + 1 - random.below(3);
+        let result = RESULT_LENGTH + 1 - random.below(3);
+        let lengths = Lengths {
+            work: random.pick(&[0, 1, work, work, work, 9000]),
+            result: random.pick(&[0, 16, result, result, result, 5000]),
+            rest,
         };
-        let work_length = WORK_LENGTH + 1 - random.below(3);
-        let work_length = random.pick(&[0, 1, work_length, work_length, work_length, 9000]);
-        let result_length = RESULT_LENGTH + 1 - random.below(3);
-        let result_length =
-            random.pick(&[0, 16, result_length, result_length, result_length, 5000]);
-        match entry {
-            0 => Request::DepthFirst {
-                clearance,
-                result_length,
-            },
-            1 => Request::Plain {
-                clearance,
-                work_length,
-                result_length,
-            },
-            _ => Request::Timetable {
-                timetable: list.to_vec(),
-                clearance,
-                work_length,
-                result_length,
-            },
+        Request::Run {
+            run,
+            clearance,
+            lengths,
         }
     }
 
-    fn damaged(&mut self, session: &[u8]) -> Result<(), String> {
+    /// The check, and one of the runs, of a session that is not accepted.
+    fn refused(&mut self, session: &[u8]) -> Result<(), String> {
         self.expect_as_reference(session, &Request::Check)?;
         let number = Tuned.check(session);
         if number != reference::check(session) {
             return Err(format!("tuned variant: check answers {number}"));
         }
-        let list: Vec<u8> = (0..6).map(|_| self.random.byte_below(4)).collect();
-        let entry = self.random.below(3);
-        let request = self.any_run(entry, 2, &list);
+        let run = match self.random.below(3) {
+            0 => Run::DepthFirst,
+            1 => Run::Plain,
+            _ => Run::Timetabled((0..6).map(|_| self.random.byte_below(4)).collect()),
+        };
+        let clearance = self.random.pick(&[0, 1, 255, usize::MAX]);
+        let request = self.any_lengths(run, clearance);
         self.expect_as_reference(session, &request)
     }
-}
-
-fn finishing_runs(clearance: u32, list: &[u8]) -> [Request; 3] {
-    [
-        Request::DepthFirst {
-            clearance,
-            result_length: RESULT_LENGTH,
-        },
-        Request::Plain {
-            clearance,
-            work_length: WORK_LENGTH,
-            result_length: RESULT_LENGTH,
-        },
-        Request::Timetable {
-            timetable: list.to_vec(),
-            clearance,
-            work_length: WORK_LENGTH,
-            result_length: RESULT_LENGTH,
-        },
-    ]
 }
 
 fn note_sizes(session: &Session, tally: &mut Tally) {

@@ -15,7 +15,8 @@
 //! LIST has levels with a comma between, 7x3 being three times 7.
 
 use crate::library::Answer;
-use crate::request::{Outcome, Request};
+use crate::limits::REST_LENGTH;
+use crate::request::{Lengths, Outcome, Request, Run};
 use std::fs;
 
 /// A call with its recorded outcome.
@@ -77,34 +78,33 @@ fn call(kind: &str, rest: &str, session: &[u8], shown: &[u8]) -> Option<Vector> 
 }
 
 fn request(kind: &str, timetable: Vec<u8>, numbers: &[usize]) -> Option<(Request, [usize; 3])> {
-    match (kind, numbers) {
-        ("check", &[number, place]) => Some((Request::Check, [number, place, 0])),
-        ("timetable", &[clearance, work_length, result_length, ref answer @ ..]) => Some((
-            Request::Timetable {
-                timetable,
-                clearance: clearance as u32,
-                work_length,
-                result_length,
-            },
-            answer.try_into().ok()?,
-        )),
-        ("plain", &[clearance, work_length, result_length, ref answer @ ..]) => Some((
-            Request::Plain {
-                clearance: clearance as u32,
-                work_length,
-                result_length,
-            },
-            answer.try_into().ok()?,
-        )),
-        ("depth", &[clearance, result_length, ref answer @ ..]) => Some((
-            Request::DepthFirst {
-                clearance: clearance as u32,
-                result_length,
-            },
-            answer.try_into().ok()?,
-        )),
-        _ => None,
-    }
+    let (run, clearance, [work, result], answer) = match (kind, numbers) {
+        ("check", &[number, place]) => return Some((Request::Check, [number, place, 0])),
+        ("timetable", &[clearance, work, result, ref answer @ ..]) => (
+            Run::Timetabled(timetable),
+            clearance,
+            [work, result],
+            answer,
+        ),
+        ("plain", &[clearance, work, result, ref answer @ ..]) => {
+            (Run::Plain, clearance, [work, result], answer)
+        }
+        ("depth", &[clearance, result, ref answer @ ..]) => {
+            (Run::DepthFirst, clearance, [0, result], answer)
+        }
+        _ => return None,
+    };
+    let lengths = Lengths {
+        work,
+        result,
+        rest: REST_LENGTH,
+    };
+    let request = Request::Run {
+        run,
+        clearance,
+        lengths,
+    };
+    Some((request, answer.try_into().ok()?))
 }
 
 fn timetable(text: &str) -> Option<Vec<u8>> {

@@ -5,68 +5,16 @@
 
 use lupinpause_tests::ffi::Compiled;
 use lupinpause_tests::library::{Answer, Library};
-use lupinpause_tests::limits::{RESULT_LENGTH, WORK_LENGTH};
-use lupinpause_tests::random::Random;
+use lupinpause_tests::measured::{Buffers, Case, Entry, CHECK, ENTRIES, SESSIONS};
+use lupinpause_tests::reader;
 use lupinpause_tests::reference::{self, Reference, Session};
 use lupinpause_tests::tally::Tally;
 use lupinpause_tests::tuned::Tuned;
-use lupinpause_tests::{reader, sessions, timetables};
 use std::{env, hint::black_box, process::ExitCode, time::Instant};
 
 /// Wanted length of one measurement: short, so that few are disturbed by other
 /// work on the machine.
 const NANOSECONDS: f64 = 2e5;
-
-/// A session, a finishing list and the clearance of its top level.
-struct Case {
-    session: Vec<u8>,
-    timetable: Vec<u8>,
-    clearance: u32,
-}
-
-/// The buffers that both are lent.
-struct Buffers {
-    work: Vec<u32>,
-    result: Vec<u8>,
-}
-
-impl Buffers {
-    fn cleared() -> Self {
-        Buffers {
-            work: vec![0; WORK_LENGTH],
-            result: vec![0; RESULT_LENGTH],
-        }
-    }
-}
-
-type Entry = fn(&dyn Library, &Case, &mut Buffers) -> Answer;
-
-fn check(library: &dyn Library, case: &Case, _: &mut Buffers) -> Answer {
-    Answer::refused(library.check(&case.session), 0)
-}
-
-fn plain(library: &dyn Library, case: &Case, lent: &mut Buffers) -> Answer {
-    library.run_plain(
-        &case.session,
-        case.clearance,
-        &mut lent.work,
-        &mut lent.result,
-    )
-}
-
-fn timetabled(library: &dyn Library, case: &Case, lent: &mut Buffers) -> Answer {
-    library.run_timetable(
-        &case.session,
-        &case.timetable,
-        case.clearance,
-        &mut lent.work,
-        &mut lent.result,
-    )
-}
-
-fn depth_first(library: &dyn Library, case: &Case, lent: &mut Buffers) -> Answer {
-    library.run_depth_first(&case.session, case.clearance, &mut lent.result)
-}
 
 fn main() -> ExitCode {
     let rounds = match env::args().nth(1).map_or(Ok(201), |text| text.parse()) {
@@ -78,36 +26,25 @@ fn main() -> ExitCode {
     };
     println!("{rounds} rounds; ratio: the library's time by the other's, median (quartiles)");
     println!();
-    for (name, session) in [
-        ("session W", sessions::example_w()),
-        ("typical", sessions::typical()),
-        ("largest, many forks", sessions::largest_by_forks()),
-        ("largest, many steps", sessions::largest_by_steps()),
-    ] {
-        if let Err(message) = measure_session(name, session, rounds) {
-            eprintln!("{name}: {message}");
+    for (_, title, session) in SESSIONS {
+        if let Err(message) = measure_session(title, session(), rounds) {
+            eprintln!("{title}: {message}");
             return ExitCode::FAILURE;
         }
     }
     ExitCode::SUCCESS
 }
 
-fn measure_session(name: &str, bytes: Vec<u8>, rounds: usize) -> Result<(), String> {
+fn measure_session(title: &str, bytes: Vec<u8>, rounds: usize) -> Result<(), String> {
     if reference::check(&bytes) != 0 {
         return Err("not accepted".to_string());
     }
     let session = Session::read(&bytes);
-    let mut tally = Tally::default();
-    let outcome = reference::plain(&session, &mut tally);
-    let clearance = session.lattice.top().ok_or("no top level")?;
-    let shown = outcome.shown(&session, clearance);
-    let case = Case {
-        timetable: timetables::finishing(&mut Random::new(1), &session, &mut tally),
-        session: bytes,
-        clearance: clearance as u32,
-    };
+    let outcome = reference::plain(&session, &mut Tally::idle());
+    let case = Case::new(bytes);
+    let shown = outcome.shown(&session, case.clearance);
     println!(
-        "{name}: {} records, {} managers, {} script steps, {} scheduler steps",
+        "{title}: {} records, {} managers, {} script steps, {} scheduler steps",
         case.session.len() / 16,
         outcome.managers(),
         outcome.script_steps(),
@@ -116,27 +53,22 @@ fn measure_session(name: &str, bytes: Vec<u8>, rounds: usize) -> Result<(), Stri
     println!();
     println!("| entry | library, ns | reference, ns | ratio | tuned variant, ns | ratio |");
     println!("|---|---|---|---|---|---|");
-    let entries: [(&str, Entry); 4] = [
-        ("check", check),
-        ("plain", plain),
-        ("timetabled", timetabled),
-        ("depth-first", depth_first),
-    ];
-    for (name, entry) in entries {
+    for (name, entry) in ENTRIES {
+        let expected = if name == CHECK { &[] } else { &shown[..] };
         for library in [&Compiled as &dyn Library, &Reference, &Tuned] {
             let mut lent = Buffers::cleared();
-            let answer = entry(library, &case, &mut lent);
-            let expected = if name == "check" { &[] } else { &shown[..] };
+            let number = entry(library, &case, &mut lent);
+            let (answer, written) = lent.answer(number);
             if answer != Answer::finished(expected.len()) {
                 return Err(format!("{name}: {answer:?}"));
             }
-            reader::compare(&lent.result[..answer.count], expected)?;
+            reader::compare(written, expected)?;
         }
-        let plain = measure(entry, &Reference, &case, rounds);
+        let reference = measure(entry, &Reference, &case, rounds);
         let tuned = measure(entry, &Tuned, &case, rounds);
         println!(
             "| {name} | {:.0} | {:.0} | {} | {:.0} | {} |",
-            tuned.library, plain.other, plain.ratio, tuned.other, tuned.ratio,
+            tuned.library, reference.other, reference.ratio, tuned.other, tuned.ratio,
         );
     }
     println!();

@@ -1,25 +1,31 @@
-//! Compares the library with the reference: on the recorded vectors, and on
-//! generated sessions, valid and damaged, with all three runs. Ends with a
-//! report of how often each answer and each limit occurred; if one never did,
-//! that is a failure, unless fewer sessions were asked for than by default.
+//! Compares the library with the reference: on the recorded vectors, on the
+//! stated cases, on fixed sessions and on generated ones, valid and damaged, with
+//! all three runs. Ends with a report of how often each answer, each length, each
+//! clearance, each broken rule and each limit occurred; if one never did, that is
+//! a failure, unless fewer sessions were asked for than by default.
 //! Arguments: number of sessions of each sort (20000), seed (1), first case (0).
 
 use lupinpause_tests::counts::Counts;
 use lupinpause_tests::ffi::Compiled;
+use lupinpause_tests::guarded::GUARD;
 use lupinpause_tests::library::Library;
 use lupinpause_tests::reference::Reference;
 use lupinpause_tests::request::{perform, Fill};
 use lupinpause_tests::trial::Trial;
 use lupinpause_tests::tuned::Tuned;
 use lupinpause_tests::vectors::Vector;
-use lupinpause_tests::{stated, vectors};
+use lupinpause_tests::{sessions, stated, vectors};
 use std::fmt::Display;
+use std::panic::{catch_unwind, AssertUnwindSafe};
 use std::process::ExitCode;
 use std::sync::atomic::{AtomicU64, Ordering};
-use std::{env, thread, time::Instant};
+use std::{env, fs, thread, time::Instant};
 
 /// So many sessions meet every limit.
 const ENOUGH: u64 = 20_000;
+
+/// So many vectors are recorded.
+const VECTORS: usize = 2_264;
 
 fn main() -> ExitCode {
     match run() {
@@ -35,8 +41,16 @@ fn run() -> Result<(), String> {
     let count = argument(1, ENOUGH)?;
     let seed = argument(2, 1)?;
     let first = argument(3, 0)?;
-    fixed("vector", &numbered(vectors::read()?))?;
-    fixed("stated case", &stated::cases())?;
+    if count == 0 {
+        return Err("no sessions asked for".to_string());
+    }
+    let recorded = vectors::read()?;
+    if recorded.len() != VECTORS {
+        return Err(format!("{} vectors, not {VECTORS}", recorded.len()));
+    }
+    known("vector", &numbered(recorded))?;
+    known("stated case", &stated::cases())?;
+    fixed(seed)?;
     let start = Instant::now();
     let counts = generated(first, count, seed)?;
     print!("{}", counts.report());
@@ -65,21 +79,20 @@ fn numbered(vectors: Vec<Vector>) -> Vec<(String, Vector)> {
 }
 
 /// Cases with known answers, put to everyone.
-fn fixed(sort: &str, cases: &[(impl Display, Vector)]) -> Result<(), String> {
-    if cases.is_empty() {
-        return Err(format!("no {sort}"));
-    }
-    let fill = Fill {
-        bytes: &[0xa5; 6_000],
-        words: &[0xdead_beef; 10_000],
-    };
+fn known(sort: &str, cases: &[(impl Display, Vector)]) -> Result<(), String> {
     let libraries: [(&str, &dyn Library); 3] = [
         ("reference", &Reference),
         ("tuned variant", &Tuned),
         ("library", &Compiled),
     ];
     for (name, library) in libraries {
-        for (case, vector) in cases {
+        for (i, (case, vector)) in cases.iter().enumerate() {
+            let fill = Fill {
+                bytes: &[0xa5; 6_000],
+                words: &[0xdead_beef; 10_000],
+                rest: &[0xdead_beef; 100],
+                guard: [0, GUARD][i % 2],
+            };
             perform(library, &vector.session, &vector.request, fill)
                 .and_then(|outcome| outcome.compare(&vector.expected))
                 .map_err(|message| format!("{sort} {case}, {name}: {message}"))?;
@@ -90,6 +103,43 @@ fn fixed(sort: &str, cases: &[(impl Display, Vector)]) -> Result<(), String> {
         cases.len()
     );
     Ok(())
+}
+
+/// Sessions that are not generated, and the examples, with all runs and all
+/// clearances.
+fn fixed(seed: u64) -> Result<(), String> {
+    let mut trial = Trial::new(&Compiled, seed);
+    for (name, session) in sessions::FIXED {
+        trial.session(name, &session(), Some(0))?;
+    }
+    let examples = examples()?;
+    for (name, session) in &examples {
+        trial.session(name, session, None)?;
+    }
+    println!(
+        "fixed sessions: {} agree, and {} examples",
+        sessions::FIXED.len(),
+        examples.len()
+    );
+    Ok(())
+}
+
+/// The sessions in examples/ by their files' names.
+fn examples() -> Result<Vec<(String, Vec<u8>)>, String> {
+    let folder = concat!(env!("CARGO_MANIFEST_DIR"), "/../examples");
+    let failed = |error| format!("{folder}: {error}");
+    let mut examples = Vec::new();
+    for entry in fs::read_dir(folder).map_err(failed)? {
+        let path = entry.map_err(failed)?.path();
+        if path.extension().is_some_and(|end| end == "session") {
+            let session = fs::read(&path).map_err(failed)?;
+            examples.push((path.display().to_string(), session));
+        }
+    }
+    match examples.is_empty() {
+        true => Err(format!("{folder}: no session")),
+        false => Ok(examples),
+    }
 }
 
 /// `count` cases, shared between as many threads as the machine runs.
@@ -104,18 +154,21 @@ fn generated(first: u64, count: u64, seed: u64) -> Result<Counts, String> {
             if case >= end {
                 return Ok(trial.counts);
             }
-            if let Err(message) = trial.case(case) {
+            // A panic too tells the case; it is the worker's last.
+            let tried = catch_unwind(AssertUnwindSafe(|| trial.case(case)));
+            let tried = tried.unwrap_or_else(|_| Err("panicked".to_string()));
+            if let Err(message) = tried {
                 // The other threads stop too.
                 next.store(end, Ordering::Relaxed);
                 return Err((case, message));
             }
         }
     };
-    let mut counts = Counts::default();
     let results: Vec<_> = thread::scope(|scope| {
         let workers: Vec<_> = (0..threads).map(|_| scope.spawn(work)).collect();
         workers.into_iter().map(|worker| worker.join()).collect()
     });
+    let mut counts = Trial::new(&Compiled, seed).counts;
     for result in results {
         match result {
             Ok(Ok(more)) => counts.merge(&more),

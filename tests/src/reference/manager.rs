@@ -49,6 +49,8 @@ struct Frame {
     /// The step to be made next, counted from 0.
     next: usize,
     registers: [Value; REGISTERS],
+    /// By what send each register lost a number and is NIL since, if so.
+    lost: [Option<Event>; REGISTERS],
     /// The sender's register that gets the reply, if any.
     reply_to: Option<u8>,
 }
@@ -119,7 +121,7 @@ impl Manager {
         self.steps += 1;
         let mut pops = 0;
         match operation {
-            Operation::Set { a, n } => *self.register(a) = Some(n),
+            Operation::Set { a, n } => self.set(a, Some(n)),
             Operation::Add { a, b } => self.add(a, b, world),
             Operation::Jump { a, target } => {
                 if self.register(a).unwrap_or(0) == 0 {
@@ -128,7 +130,7 @@ impl Manager {
             }
             Operation::Read { a, field } => {
                 let value = world.read(self, self.object(), field);
-                *self.register(a) = value;
+                self.set(a, value);
             }
             Operation::Write { a, field } => {
                 if !self.write(a, field, script.len(), session, world) {
@@ -137,8 +139,8 @@ impl Manager {
             }
             Operation::Send { a, name, object } => self.send(a, name, object, session, world),
             Operation::Quit { a } => {
-                let reply = *self.register(a);
-                self.pop(reply, world);
+                let (reply, lost) = (*self.register(a), self.top().lost[usize::from(a)]);
+                self.pop(reply, lost, world);
                 pops = 1;
             }
         }
@@ -172,6 +174,19 @@ impl Manager {
         &mut self.top().registers[usize::from(a)]
     }
 
+    fn set(&mut self, a: u8, value: Value) {
+        *self.register(a) = value;
+        self.top().lost[usize::from(a)] = None;
+    }
+
+    /// A send after which the register is NIL.
+    fn lose(&mut self, a: u8, event: Event) {
+        let had_number = self.register(a).take().is_some();
+        if had_number {
+            self.top().lost[usize::from(a)] = Some(event);
+        }
+    }
+
     fn object(&self) -> u8 {
         self.frames
             .last()
@@ -184,7 +199,7 @@ impl Manager {
         if x.zip(y).is_some_and(|(x, y)| x.checked_add(y).is_none()) {
             world.saw(Event::AddWraps);
         }
-        *self.register(a) = x.zip(y).map(|(x, y)| x.wrapping_add(y));
+        self.set(a, x.zip(y).map(|(x, y)| x.wrapping_add(y)));
     }
 
     fn jump(&mut self, target: usize, length: usize, world: &mut impl World) {
@@ -224,6 +239,9 @@ impl Manager {
         if value.is_none() {
             world.saw(Event::WriteNil);
         }
+        if let Some(event) = self.top().lost[usize::from(a)] {
+            world.saw(event);
+        }
         world.write(self, object, field, value);
         true
     }
@@ -241,19 +259,31 @@ impl Manager {
             }
             Delivery::FrameWithoutReply => {
                 world.saw(Event::UpwardInside);
-                *self.register(a) = None;
+                self.lose(
+                    a,
+                    match self.frames.len() {
+                        FRAMES_MAX => Event::NilOfNinthUpward,
+                        _ => Event::NilOfInside,
+                    },
+                );
                 self.push(object, name, parameter, None, world);
             }
             Delivery::Fork(level) => {
                 if level != to {
                     world.saw(Event::JoinAboveBoth);
                 }
-                *self.register(a) = None;
+                self.lose(
+                    a,
+                    match self.forks {
+                        FORKS_MAX => Event::NilOfSixteenth,
+                        _ => Event::NilOfFork,
+                    },
+                );
                 self.fork(level, (object, name), parameter, world);
             }
             Delivery::Nothing => {
                 world.saw(Event::IncomparableSend);
-                *self.register(a) = None;
+                self.lose(a, Event::NilOfIncomparable);
             }
         }
     }
@@ -269,7 +299,7 @@ impl Manager {
     ) {
         if self.frames.len() == FRAMES_MAX {
             match reply_to {
-                Some(a) => *self.register(a) = None,
+                Some(a) => self.lose(a, Event::NilOfNinth),
                 None => world.saw(Event::NinthFrameUpward),
             }
             world.saw(Event::NinthFrame);
@@ -280,6 +310,7 @@ impl Manager {
             name,
             next: 0,
             registers: [parameter, None, None, None],
+            lost: [None; REGISTERS],
             reply_to,
         });
         if self.frames.len() == FRAMES_MAX {
@@ -316,12 +347,15 @@ impl Manager {
         });
     }
 
-    /// The top frame replies and goes.
-    fn pop(&mut self, reply: Value, world: &mut impl World) {
+    /// The top frame replies and goes. A reply that is NIL may be so by a loss.
+    fn pop(&mut self, reply: Value, lost: Option<Event>, world: &mut impl World) {
         let frame = self.frames.pop().expect("a running manager has frames");
         match (self.frames.last_mut(), frame.reply_to) {
             (None, _) => self.reply = reply,
-            (Some(sender), Some(a)) => sender.registers[usize::from(a)] = reply,
+            (Some(sender), Some(a)) => {
+                sender.registers[usize::from(a)] = reply;
+                sender.lost[usize::from(a)] = lost;
+            }
             (Some(_), None) if reply.is_some() => world.saw(Event::ReplyThrownAway),
             (Some(_), None) => {}
         }
@@ -338,7 +372,7 @@ impl Manager {
             if length == 0 {
                 world.saw(Event::EmptyFrame);
             }
-            self.pop(None, world);
+            self.pop(None, None, world);
             count += 1;
         }
         if pops > 0 && count > pops {

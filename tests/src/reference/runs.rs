@@ -50,7 +50,7 @@ pub fn depth_first(session: &Session, tally: &mut Tally) -> Outcome {
 /// Questions 1 to 11, of which 10 is put only where there is a work slice.
 fn accept(
     session: &[u8],
-    clearance: u32,
+    clearance: usize,
     work_length: Option<usize>,
     result_length: usize,
 ) -> Result<Session, Answer> {
@@ -59,7 +59,7 @@ fn accept(
         return Err(Answer::refused(number, 0));
     }
     let session = Session::read(session);
-    if !session.lattice.levels().contains(&(clearance as usize)) {
+    if !session.lattice.levels().contains(&clearance) {
         return Err(Answer::refused(9, 0));
     }
     if work_length.is_some_and(|length| length < WORK_LENGTH) {
@@ -71,8 +71,8 @@ fn accept(
     Ok(session)
 }
 
-fn show(outcome: &Outcome, session: &Session, clearance: u32, result: &mut [u8]) -> Answer {
-    let bytes = outcome.shown(session, clearance as usize);
+fn show(outcome: &Outcome, session: &Session, clearance: usize, result: &mut [u8]) -> Answer {
+    let bytes = outcome.shown(session, clearance);
     result[..bytes.len()].copy_from_slice(&bytes);
     Answer::finished(bytes.len())
 }
@@ -89,44 +89,52 @@ impl Library for Reference {
         &self,
         session: &[u8],
         timetable: &[u8],
-        clearance: u32,
+        clearance: usize,
         work: &mut [u32],
         result: &mut [u8],
-    ) -> Answer {
+        rest: &mut [u32],
+    ) -> u32 {
         let session = match accept(session, clearance, Some(work.len()), result.len()) {
             Ok(session) => session,
-            Err(refusal) => return refusal,
+            Err(refusal) => return refusal.give(rest),
         };
-        let outcome = timetabled(&session, timetable, &mut Tally::default());
+        let outcome = timetabled(&session, timetable, &mut Tally::idle());
         work[..WORK_LENGTH].fill(0);
         match outcome {
-            Ok(outcome) => show(&outcome, &session, clearance, result),
-            Err(refusal) => refusal,
+            Ok(outcome) => show(&outcome, &session, clearance, result).give(rest),
+            Err(refusal) => refusal.give(rest),
         }
     }
 
     fn run_plain(
         &self,
         session: &[u8],
-        clearance: u32,
+        clearance: usize,
         work: &mut [u32],
         result: &mut [u8],
-    ) -> Answer {
+        rest: &mut [u32],
+    ) -> u32 {
         let session = match accept(session, clearance, Some(work.len()), result.len()) {
             Ok(session) => session,
-            Err(refusal) => return refusal,
+            Err(refusal) => return refusal.give(rest),
         };
-        let outcome = plain(&session, &mut Tally::default());
+        let outcome = plain(&session, &mut Tally::idle());
         work[..WORK_LENGTH].fill(0);
-        show(&outcome, &session, clearance, result)
+        show(&outcome, &session, clearance, result).give(rest)
     }
 
-    fn run_depth_first(&self, session: &[u8], clearance: u32, result: &mut [u8]) -> Answer {
+    fn run_depth_first(
+        &self,
+        session: &[u8],
+        clearance: usize,
+        result: &mut [u8],
+        rest: &mut [u32],
+    ) -> u32 {
         let session = match accept(session, clearance, None, result.len()) {
             Ok(session) => session,
-            Err(refusal) => return refusal,
+            Err(refusal) => return refusal.give(rest),
         };
-        let outcome = depth_first(&session, &mut Tally::default());
-        show(&outcome, &session, clearance, result)
+        let outcome = depth_first(&session, &mut Tally::idle());
+        show(&outcome, &session, clearance, result).give(rest)
     }
 }

@@ -75,7 +75,7 @@ fn over_a_limit(random: &mut Random) -> Vec<Record> {
     let levels = random.size(1, LEVELS_MAX - 1);
     let masks = lattices::joined(random, levels);
     let steps = random.below(200);
-    match random.below(4) {
+    match random.below(3) {
         0 => {
             let masks = lattices::joined(random, LEVELS_MAX);
             let mut records = sized(random, masks, 4, steps, METHOD_STEPS_MAX).records();
@@ -83,11 +83,10 @@ fn over_a_limit(random: &mut Random) -> Vec<Record> {
             records
         }
         1 => sized(random, masks, OBJECTS_MAX + 1, steps, METHOD_STEPS_MAX).records(),
-        2 => {
+        _ => {
             let steps = STEP_RECORDS_MAX + 1;
             sized(random, masks, OBJECTS_MAX, steps, METHOD_STEPS_MAX).records()
         }
-        _ => sized(random, masks, OBJECTS_MAX, steps, METHOD_STEPS_MAX + 1).records(),
     }
 }
 

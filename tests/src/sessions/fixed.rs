@@ -1,9 +1,21 @@
-//! Fixed sessions: the example of document 01, and sessions for measuring.
+//! Fixed sessions: the example of document 01, a typical one and largest ones.
 
 use super::draft::Draft;
 use super::scene::counted;
 use crate::limits::*;
 use crate::record::Operation::{self, *};
+
+/// Gives the bytes of a session.
+pub type Fixed = fn() -> Vec<u8>;
+
+/// All of them by name.
+pub const FIXED: [(&str, Fixed); 5] = [
+    ("session W", example_w),
+    ("typical", typical),
+    ("largest by forks", largest_by_forks),
+    ("largest by steps", largest_by_steps),
+    ("largest by versions", largest_by_versions),
+];
 
 fn send(a: u8, name: u8, object: u8) -> Operation {
     Send { a, name, object }
@@ -135,6 +147,59 @@ pub fn largest_by_steps() -> Vec<u8> {
         draft.put(object, 1, sum_of_fields());
     }
     padded(draft)
+}
+
+/// A level of which all 32 managers write 16 fields each, 512 versions, and
+/// managers above it that add up what they read there, mostly older versions.
+///
+/// A chain of 4 levels. The root forks 5 managers at level 1. Each of them forks
+/// 10 at level 2, of which 32 are kept, and 5 at level 3.
+pub fn largest_by_versions() -> Vec<u8> {
+    let levels = [0, 1, 2, 2, 2, 2, 2, 2, 3];
+    let [planner, writer, reader] = [1, 2, 8];
+    let mut draft = Draft {
+        masks: vec![0b0001, 0b0011, 0b0111, 0b1111],
+        objects: levels.map(|level| (level, [Some(1); FIELDS])).to_vec(),
+        ..Draft::default()
+    };
+    let forks = vec![
+        Set { a: 0, n: 100 },
+        Add { a: 0, b: 2 },
+        send(0, 0, planner),
+    ];
+    draft.put(0, 0, counted(5, forks));
+    // A field keeps the parameter, as each fork takes it from its register.
+    draft.put(
+        planner,
+        0,
+        vec![Write { a: 0, field: 0 }, send(0, 1, planner)],
+    );
+    let forks = [(2, writer), (2, reader), (3, writer)]
+        .map(|(b, object)| [Read { a: 0, field: 0 }, Add { a: 0, b }, send(0, 0, object)]);
+    draft.put(planner, 1, counted(5, forks.concat()));
+
+    // Five objects get three versions, the writer one.
+    let fields = 0..FIELDS as u8;
+    let mut script: Vec<Operation> = (writer + 1..reader).map(|o| send(0, 0, o)).collect();
+    script.push(Write { a: 0, field: 0 });
+    draft.put(writer, 0, script);
+    for object in writer + 1..reader {
+        let mut script: Vec<Operation> =
+            fields.clone().map(|field| Write { a: 0, field }).collect();
+        script.push(Quit { a: 0 });
+        draft.put(object, 0, script);
+    }
+    for object in writer..reader {
+        let field = object % FIELDS as u8;
+        draft.put(object, 1, vec![Read { a: 1, field }, Quit { a: 1 }]);
+    }
+    let script = fields.map(|field| {
+        let (a, b) = (2, 1);
+        let read = [Read { a, field }, send(b, 1, writer + 1 + field)];
+        [read, [Add { a, b }, Write { a, field }]].concat()
+    });
+    draft.put(reader, 0, script.collect::<Vec<_>>().concat());
+    draft.bytes()
 }
 
 /// 8 levels with 4 objects each.

@@ -10,7 +10,7 @@ use crate::random::Random;
 use crate::record::Operation;
 
 /// A manager that makes 14 to 17 forks at levels above, some of them from
-/// another frame, with writes between them.
+/// another frame, with writes between them and of the last replies.
 pub fn many_forks(random: &mut Random) -> Draft {
     let masks = match random.one_in(3) {
         true => lattices::any(random),
@@ -21,15 +21,17 @@ pub fn many_forks(random: &mut Random) -> Draft {
     let level = scene.lowest_level();
     let (object, other) = (scene.object_at(level), scene.object_at(level));
     let total = scene.random.between(14, 17);
-    let elsewhere = scene.random.between(4, total - 2);
-    let script = sends_up(&mut scene, level, elsewhere);
+    let elsewhere = scene.random.between(4, 12);
+    let mut script = sends_up(&mut scene, level, elsewhere - 1);
+    script.extend(watched_up(&mut scene, level));
     let name = scene.add(other, script);
     let mut script = vec![Operation::Send {
         a: 0,
         name,
         object: other,
     }];
-    script.extend(sends_up(&mut scene, level, total - elsewhere));
+    script.extend(sends_up(&mut scene, level, total - elsewhere - 1));
+    script.extend(watched_up(&mut scene, level));
     while script.len() < METHOD_STEPS_MAX && scene.random.one_in(2) {
         let place = scene.random.below(script.len() + 1);
         script.insert(place, scene.write());
@@ -47,6 +49,15 @@ fn sends_up(scene: &mut Scene, level: usize, count: usize) -> Vec<Operation> {
         .collect()
 }
 
+/// A send to a level above of which the reply shows, if there is one.
+fn watched_up(scene: &mut Scene, level: usize) -> Vec<Operation> {
+    let name = scene.random.byte_below(WORK_NAMES);
+    match scene.object_above(level) {
+        Some(object) => scene.watched_send(name, object),
+        None => Vec::new(),
+    }
+}
+
 /// A level that 31 to 34 forks reach, or many more: from the root, and with
 /// smaller stamps but later from the root's forks at a level between.
 pub fn crowd(random: &mut Random) -> Draft {
@@ -62,7 +73,7 @@ pub fn crowd(random: &mut Random) -> Draft {
     let between = scene.object_where(|lattice, level| {
         lattice.strictly_dominates(level, low) && lattice.strictly_dominates(top, level)
     });
-    // Only in a lattice of two levels is there none between.
+    // There is none between where only the top dominates the lowest level.
     let middle = between.unwrap_or_else(|| scene.object_at(top));
     let middle_level = scene.level_of(middle);
     let high = scene.object_above(middle_level).unwrap_or(middle);
@@ -73,7 +84,8 @@ pub fn crowd(random: &mut Random) -> Draft {
 
     let name = scene.random.byte_below(WORK_NAMES);
     let to_high = send(name, high);
-    let script = repeated(&mut scene, each, to_high);
+    let mut script = repeated(&mut scene, each - 1, to_high);
+    script.extend(scene.watched_send(name, high));
     let to_middle = send(scene.add(middle, script), middle);
     let mut script = vec![to_middle; managers];
     script.extend(vec![to_high; direct]);
@@ -87,9 +99,10 @@ fn send(name: u8, object: u8) -> Operation {
     Operation::Send { a: 0, name, object }
 }
 
-/// An operation `count` times: one after the other, or in a loop.
+/// An operation `count` times, up to 14: one after the other, or in a loop.
+/// Leaves room for three more steps.
 fn repeated(scene: &mut Scene, count: usize, operation: Operation) -> Vec<Operation> {
-    if scene.random.one_in(2) {
+    if count + 3 > METHOD_STEPS_MAX || scene.random.one_in(2) {
         counted(count as u32, vec![operation])
     } else {
         vec![operation; count]
@@ -133,7 +146,8 @@ pub fn tower(random: &mut Random) -> Draft {
 }
 
 /// A frame below its manager's level that sends to levels incomparable with the
-/// manager's: the join lies above both.
+/// manager's: the join lies above both. Its sender writes what it replies, and
+/// sends to such a level itself.
 pub fn join_above(random: &mut Random) -> Draft {
     let masks = lattices::branching(random);
     let mut scene = Scene::new(random, masks);
@@ -146,15 +160,23 @@ pub fn join_above(random: &mut Random) -> Draft {
     let count = scene.random.between(1, 6);
     let mut script = sends_up(&mut scene, low, count);
     script.extend(scene.filler(2));
+    let name = scene.random.byte_below(WORK_NAMES);
+    let receiver = scene.object_above(low).unwrap_or(upper);
+    let (a, send) = scene.numbered_send(name, receiver);
+    script.extend(send);
+    script.push(Operation::Quit { a });
     let name = scene.add(lower, script);
     let mut script = scene.filler(2);
-    for _ in 0..scene.random.between(1, 3) {
-        script.push(Operation::Send {
-            a: 2,
-            name,
-            object: lower,
-        });
-        script.push(scene.write());
+    for _ in 0..scene.random.between(1, 2) {
+        script.extend(scene.watched_send(name, lower));
+    }
+    let level = scene.level_of(upper);
+    let aside = scene.object_where(|lattice, other| {
+        !lattice.dominates(level, other) && !lattice.dominates(other, level)
+    });
+    if let Some(aside) = aside {
+        let name = scene.random.byte_below(WORK_NAMES);
+        script.extend(scene.watched_send(name, aside));
     }
     let name = scene.add(upper, script);
     scene.start_here_or_below(upper, name);

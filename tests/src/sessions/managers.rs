@@ -7,8 +7,8 @@ use crate::limits::*;
 use crate::random::Random;
 use crate::record::Operation;
 
-/// A method that sends to itself 6 to 9 times: 7 to 9 frames, and a tenth
-/// wanted. Without steps after the send all of them pop in one step.
+/// A method that sends to itself, 6 to 9 times if it can: 7 or 8 frames, and
+/// often a ninth wanted. Without steps after the send all pop in one step.
 pub fn recursion(random: &mut Random) -> Draft {
     let masks = lattices::any(random);
     let mut scene = Scene::new(random, masks);
@@ -64,18 +64,46 @@ pub fn path(random: &mut Random) -> Draft {
 fn path_script(scene: &mut Scene, next: Option<(u8, u8)>) -> Vec<Operation> {
     let mut script = scene.filler(2);
     let a = scene.random.byte_below(REGISTERS);
-    let n = scene.random.number();
-    match next {
-        Some((object, name)) => script.push(Operation::Send { a, name, object }),
-        None => script.push(Operation::Set { a, n }),
+    let (n, field) = (scene.random.number(), scene.random.byte_below(FIELDS));
+    script.push(Operation::Set { a, n });
+    if let Some((object, name)) = next {
+        script.push(Operation::Send { a, name, object });
     }
-    match scene.random.below(4) {
-        0 => script.push(Operation::Quit { a }),
-        1 => script.push(scene.write()),
-        2 => script.extend([Operation::Set { a, n }, Operation::Quit { a }]),
+    match scene.random.below(6) {
+        0 | 1 => script.push(Operation::Quit { a }),
+        2 => script.extend([Operation::Write { a, field }, Operation::Quit { a }]),
+        3 => script.push(scene.write()),
+        4 => script.extend([Operation::Set { a, n }, Operation::Quit { a }]),
         _ => {}
     }
     script
+}
+
+/// A frame below its manager's level sends upward inside the manager and replies
+/// what it has then, which its sender writes. Often the stack is full.
+pub fn upward_inside(random: &mut Random) -> Draft {
+    let masks = lattices::any(random);
+    let mut scene = Scene::new(random, masks);
+    let top = scene.top_level();
+    let Some(lower) = scene.object_below(top) else {
+        return scene.draft;
+    };
+    let level = scene.level_of(lower);
+    let receiver = scene.object_above(level).expect("the top is above");
+    let n = scene.random.number();
+    let reply = vec![Operation::Set { a: 1, n }, Operation::Quit { a: 1 }];
+    let name = scene.add(receiver, reply);
+    let (a, mut script) = scene.numbered_send(name, receiver);
+    script.push(Operation::Quit { a });
+    let mut name = scene.add(lower, script);
+    let mut object = lower;
+    for _ in 0..scene.random.pick(&[1, 2, 6, 7, 7, 8]) {
+        let script = scene.watched_send(name, object);
+        object = scene.object_at(top);
+        name = scene.add(object, script);
+    }
+    scene.start_here_or_below(object, name);
+    scene.draft
 }
 
 /// A loop that ends after 255 to 257 steps.

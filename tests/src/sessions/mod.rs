@@ -1,5 +1,4 @@
-//! A deterministic generator of sessions, valid and damaged, and fixed sessions
-//! for measuring.
+//! A deterministic generator of sessions, valid and damaged, and fixed sessions.
 
 mod damage;
 mod draft;
@@ -7,12 +6,13 @@ mod fixed;
 mod forks;
 mod lattices;
 mod managers;
+pub mod rules;
 mod scene;
 mod work;
 
 pub use damage::damaged;
 pub use draft::Draft;
-pub use fixed::{example_w, largest_by_forks, largest_by_steps, typical};
+pub use fixed::{example_w, largest_by_forks, largest_by_steps, typical, Fixed, FIXED};
 
 use crate::limits::*;
 use crate::random::Random;
@@ -27,6 +27,7 @@ fn valid_draft(random: &mut Random) -> Draft {
     let shapes = [
         managers::recursion,
         managers::path,
+        managers::upward_inside,
         managers::long_loop,
         managers::writes,
         managers::late_write,

@@ -179,6 +179,23 @@ impl<'r> Scene<'r> {
         }
     }
 
+    /// A send with a number in its register, and the register.
+    pub fn numbered_send(&mut self, name: u8, object: u8) -> (u8, Vec<Operation>) {
+        let a = self.random.byte_below(2);
+        let n = self.random.number();
+        let send = Operation::Send { a, name, object };
+        (a, vec![Operation::Set { a, n }, send])
+    }
+
+    /// A send with a number in its register, which is written afterwards: so it
+    /// shows whether the reply is NIL.
+    pub fn watched_send(&mut self, name: u8, object: u8) -> Vec<Operation> {
+        let (a, mut script) = self.numbered_send(name, object);
+        let field = self.random.byte_below(FIELDS);
+        script.push(Operation::Write { a, field });
+        script
+    }
+
     /// A send to a method that mostly has steps.
     pub fn send_work(&mut self, object: u8) -> Operation {
         let name = match self.random.one_in(12) {

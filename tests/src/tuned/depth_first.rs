@@ -14,7 +14,7 @@ struct DepthFirst<'a> {
     reply: Value,
 }
 
-pub fn run(tables: &Tables, clearance: u32, result: &mut [u8]) -> Answer {
+pub fn run(tables: &Tables, clearance: usize, result: &mut [u8]) -> Answer {
     let mut run = DepthFirst {
         tables,
         fields: [[None; FIELDS]; OBJECTS_MAX],

@@ -42,7 +42,7 @@ impl Histories {
     pub fn show(
         &self,
         tables: &Tables,
-        clearance: u32,
+        clearance: usize,
         reply: Value,
         field: impl Fn(usize, usize) -> Value,
         result: &mut [u8],

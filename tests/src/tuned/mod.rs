@@ -19,12 +19,12 @@ pub struct Tuned;
 /// Questions 1 to 11, of which 10 is put only where there is a work slice.
 fn accept(
     session: &[u8],
-    clearance: u32,
+    clearance: usize,
     work_length: usize,
     result_length: usize,
 ) -> Result<Tables<'_>, u32> {
     let parts = check::parts(session)?;
-    if clearance as usize >= parts.levels.len() {
+    if clearance >= parts.levels.len() {
         return Err(9);
     }
     if work_length < WORK_LENGTH {
@@ -45,41 +45,50 @@ impl Library for Tuned {
         &self,
         session: &[u8],
         timetable: &[u8],
-        clearance: u32,
+        clearance: usize,
         work: &mut [u32],
         result: &mut [u8],
-    ) -> Answer {
+        rest: &mut [u32],
+    ) -> u32 {
         let tables = match accept(session, clearance, work.len(), result.len()) {
             Ok(tables) => tables,
-            Err(number) => return Answer::refused(number, 0),
+            Err(number) => return Answer::refused(number, 0).give(rest),
         };
         let work = &mut work[..WORK_LENGTH];
         let answer = scheduled::run_timetable(&tables, timetable, clearance, work, result);
         work.fill(0);
-        answer
+        answer.give(rest)
     }
 
     fn run_plain(
         &self,
         session: &[u8],
-        clearance: u32,
+        clearance: usize,
         work: &mut [u32],
         result: &mut [u8],
-    ) -> Answer {
+        rest: &mut [u32],
+    ) -> u32 {
         let tables = match accept(session, clearance, work.len(), result.len()) {
             Ok(tables) => tables,
-            Err(number) => return Answer::refused(number, 0),
+            Err(number) => return Answer::refused(number, 0).give(rest),
         };
         let work = &mut work[..WORK_LENGTH];
         let answer = scheduled::run_plain(&tables, clearance, work, result);
         work.fill(0);
-        answer
+        answer.give(rest)
     }
 
-    fn run_depth_first(&self, session: &[u8], clearance: u32, result: &mut [u8]) -> Answer {
-        match accept(session, clearance, WORK_LENGTH, result.len()) {
+    fn run_depth_first(
+        &self,
+        session: &[u8],
+        clearance: usize,
+        result: &mut [u8],
+        rest: &mut [u32],
+    ) -> u32 {
+        let answer = match accept(session, clearance, WORK_LENGTH, result.len()) {
             Ok(tables) => depth_first::run(&tables, clearance, result),
             Err(number) => Answer::refused(number, 0),
-        }
+        };
+        answer.give(rest)
     }
 }

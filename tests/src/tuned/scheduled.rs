@@ -30,7 +30,7 @@ struct Scheduler<'a> {
 pub fn run_timetable(
     tables: &Tables,
     timetable: &[u8],
-    clearance: u32,
+    clearance: usize,
     work: &mut [u32],
     result: &mut [u8],
 ) -> Answer {
@@ -49,7 +49,7 @@ pub fn run_timetable(
     scheduler.show(clearance, result)
 }
 
-pub fn run_plain(tables: &Tables, clearance: u32, work: &mut [u32], result: &mut [u8]) -> Answer {
+pub fn run_plain(tables: &Tables, clearance: usize, work: &mut [u32], result: &mut [u8]) -> Answer {
     let mut scheduler = Scheduler::new(tables, work);
     // A level stays the lowest-numbered one that may step until its managers
     // have ended: those that it forks are above it.
@@ -176,7 +176,7 @@ impl<'a> Scheduler<'a> {
         }
     }
 
-    fn show(&self, clearance: u32, result: &mut [u8]) -> Answer {
+    fn show(&self, clearance: usize, result: &mut [u8]) -> Answer {
         let newest = |object: usize, field: usize| {
             let number = object * FIELDS + field;
             let position = self.versions.newest(number);
