@@ -15,6 +15,7 @@ use Rattle.session.proofs.Laws.Verdict.{accepted}
 use Rattle.session.proofs.Laws.Emptied.{emptied-message}
 use Rattle.session.proofs.Laws.EmptiedAccepted as session
 use Rattle.session.proofs.Laws.Program.{emptied-program}
+use Rattle.session.specs.Limits.{maxLevels}
 use Rattle.model.specs.Step.{State}
 use Rattle.model.specs.Schedule.{plainOrder}
 use Rattle.model.specs.DepthFirst.{depthFirst}
@@ -45,7 +46,7 @@ plain-finishes q order e =
 pub deep-finishes : DeepFinishes
 deep-finishes q order e = deep-finished q order e
 
-few-of : (s : List ℕ) → verdictOf s ≡ Accepted → programOf s .levels ≤ 8
+few-of : (s : List ℕ) → verdictOf s ≡ Accepted → programOf s .levels ≤ maxLevels
 few-of s a = unfold programOf in few-levels s (accepted s a .three)
 
 -- where a timetabled run passes questions 1 to 11, so does the depth-first run

@@ -17,7 +17,7 @@ use Rattle.session.specs.declared.Value.the-variants.{Nil}
 use Rattle.session.specs.declared.Message.{Message}
 use Rattle.session.proofs.Laws.Contents.{level-limit}
 use Rattle.session.proofs.Laws.Lists.{holds, fails, truth}
-use Rattle.managers.specs.Limits.{maxForks}
+use Rattle.managers.specs.Limits.{maxForks, maxScriptSteps}
 use Rattle.managers.specs.Frame.{frameFor}
 use Rattle.managers.specs.Manager.{isRunning, concluded, started}
 use Rattle.managers.specs.Valid.{Known, Stack, Startable}
@@ -223,7 +223,7 @@ next-again s w₀ w l c₀ k₀ c k i w' r k' g c1 c2 c3 c4 c5 =
 
 -- what is left to do: more steps than it has left
 abbrev pub stepsLeft : Course → ℕ
-stepsLeft c = cond (isRunning (c .ending)) (257 - c .steps) 0
+stepsLeft c = cond (isRunning (c .ending)) (1 + maxScriptSteps - c .steps) 0
 
 pub next-less : (s : List ℕ) (l : ℕ) (c : Course) (k k' : List ℕ) (w w' : Words) (r : Course) → Goes s l c k → Gone s l c k k' w w' r → stepsLeft r < stepsLeft c
 next-less s l c k k' w w' r go g = elim (truth (isRunning (r .ending))) [

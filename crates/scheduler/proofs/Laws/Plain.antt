@@ -14,6 +14,7 @@ use Rattle.session.specs.Program.{Program, programOf}
 use Rattle.session.specs.Questions.{verdictOf}
 use Rattle.session.specs.declared.Verdict.the-variants.{Accepted}
 use Rattle.session.proofs.Laws.Contents.{level-limit, masks-length}
+use Rattle.managers.specs.Limits.{maxScriptSteps}
 use Rattle.managers.specs.Valid.{Leveled}
 use Rattle.managers.specs.declared.Manager.{Manager}
 use Rattle.model.specs.Limits.{maxManagers}
@@ -39,14 +40,14 @@ roomFrom tallies i zero = 0
 roomFrom tallies i (suc k) = (maxManagers - getD tallies i 0) + roomFrom tallies (suc i) k
 
 -- where no manager runs, the steps that a state has left are counted so
-room-is : (tallies : List ℕ) (st : State) (i : ℕ) → ((j : ℕ) → j < length st → (getD tallies (i + j) 0 ≡ length (levelAt st j .ended)) × (levelAt st j .activity ≡ idle)) → 257 * roomFrom tallies i (length st) ≡ total st
+room-is : (tallies : List ℕ) (st : State) (i : ℕ) → ((j : ℕ) → j < length st → (getD tallies (i + j) 0 ≡ length (levelAt st j .ended)) × (levelAt st j .activity ≡ idle)) → (1 + maxScriptSteps) * roomFrom tallies i (length st) ≡ total st
 unfolding roomFrom total
 room-is tallies [] i f = refl
 room-is tallies (v ∷ vs) i f =
     let rest = room-is tallies vs (suc i) (λ j h. let q = f (suc j) (omega arith) in (ap (λ k. getD tallies k 0) (shift i j) ∙ q .0, q .1)) in
     let own = f 0 (omega arith) in
     let first : getD tallies i 0 ≡ length (v .ended) = ap (λ k. getD tallies k 0) (start i) ∙ own .0 in
-    let here : cost v ≡ 257 * (maxManagers - length (v .ended)) = cost-idle v (own .1) in
+    let here : cost v ≡ (1 + maxScriptSteps) * (maxManagers - length (v .ended)) = cost-idle v (own .1) in
     omega (arith, rest, first, here)
   where
     shift : (i j : ℕ) → suc i + j ≡ i + suc j
@@ -55,9 +56,9 @@ room-is tallies (v ∷ vs) i f =
     start : (i : ℕ) → i ≡ i + 0
     start i = omega arith
 
-    cost-idle : (v : Level) → v .activity ≡ idle → cost v ≡ 257 * (maxManagers - length (v .ended))
+    cost-idle : (v : Level) → v .activity ≡ idle → cost v ≡ (1 + maxScriptSteps) * (maxManagers - length (v .ended))
     cost-idle v e =
-        ap (λ a. 257 * (maxManagers - (length (v .ended) + cond {A = ℕ} (isBusy a) 1 0)) + left a) e ∙ omega arith
+        ap (λ a. (1 + maxScriptSteps) * (maxManagers - (length (v .ended) + cond {A = ℕ} (isBusy a) 1 0)) + left a) e ∙ omega arith
 
 -- allowed steps one list after the other
 leads-then : (p : Program) (ls ks : List ℕ) (st t u : State) → Leads p st ls t → Leads p t ks u → Leads p st (ls ++ ks) u
@@ -185,10 +186,10 @@ module _ (s masks : List ℕ) (a : verdictOf s ≡ Accepted) (few : levelCount s
           lower = λ j h _. absurd (omega (arith, h));
         }
 
-    counted : (w : Words) (st : State) → Rests s w st → 257 * roomFrom (w .tallies) 0 (length masks) ≡ total st
+    counted : (w : Words) (st : State) → Rests s w st → (1 + maxScriptSteps) * roomFrom (w .tallies) 0 (length masks) ≡ total st
     counted w st r =
         let y = r .says (λ _. m) .told in
-        ap (λ n. 257 * roomFrom (w .tallies) 0 n) (long ∙ sym (y .levels))
+        ap (λ n. (1 + maxScriptSteps) * roomFrom (w .tallies) 0 n) (long ∙ sym (y .levels))
         ∙ room-is (w .tallies) st 0 (λ j h. let hj : j < levelCount s = rw (sym (y .levels)) h in (ap (λ k. getD (w .tallies) k 0) (zero-less j) ∙ y .level j hj .ended-count, r .idle-all j hj))
       where
         zero-less : (j : ℕ) → 0 + j ≡ j

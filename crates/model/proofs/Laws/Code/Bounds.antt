@@ -18,6 +18,7 @@ use Rattle.model.specs.Fork.{Fork, childOf}
 use Rattle.model.specs.History.{historyOf}
 use Rattle.model.specs.Level.{Version, Activity, idle, busy, Level, arrived, after}
 use Rattle.model.specs.Step.{State, levelAt, viewOf, readAt, Arrival, at, versionsAfter, begun, advanced, moved, moveAt, stepAt}
+use Rattle.model.specs.Limits.{stampDigits}
 use Rattle.model.proofs.Laws.Each.{Each}
 use Rattle.model.proofs.Laws.Steps.Moves.{AtLevel, move-is, seen-sound}
 use Rattle.model.proofs.Laws.Invariant.Rank.{rank}
@@ -33,7 +34,7 @@ use Rattle.model.proofs.Laws.Safe.Safe.{at-fork, at-none}
 
 -- a manager's interval of stamps lies within 32 bits
 abbrev pub Fits32 : Entry → Type 0
-Fits32 a = upTo a ≤ 16 ^ 8
+Fits32 a = upTo a ≤ 16 ^ (stampDigits + 1)
 
 module _ (p : Program) (so : Sound p) (st : State) (o : Orderly p st) (i : (l : ℕ) → l < p .levels → Each Fits32 (entriesIn st l)) (l : ℕ) (h : l < p .levels) where
   change : Change p l (entriesIn st l) (entriesOf l (moveAt p l st .own)) (moveAt p l st .arrival)
@@ -57,7 +58,7 @@ module _ (p : Program) (so : Sound p) (st : State) (o : Orderly p st) (i : (l : 
       by (forks w y m message W e g r hu s f) =
           let same : c ≡ childOf l y m message = at-fork u w c (childOf l y m message) (sym q ∙ e) in
           let a = runningEntry l y (m .forks) in
-          let d = first-of (λ a. a .depth + rank (p .levels) (p .dom) l ≤ 8) a W (entriesIn st l) g (o .grown .shallow l h) in
+          let d = first-of (λ a. a .depth + rank (p .levels) (p .dom) l ≤ stampDigits + 1) a W (entriesIn st l) g (o .grown .shallow l h) in
           within a (fertile p l y (m .forks) so h d f) (first-of Fits32 a W (entriesIn st l) g (i l h)) (ap (waitingEntry u) same ∙ child-entry l u y m message)
 
   -- every step keeps fork stamps within 32 bits

@@ -6,7 +6,7 @@ use mathlib.Core.Bool.{true}
 use mathlib.Core.List.{List, [], _∷_}
 use native.Mathlib.Omega.{arith}
 use lib.ListN.{length}
-use Rattle.session.specs.Limits.{names}
+use Rattle.session.specs.Limits.{names, maxLevels}
 use Rattle.session.specs.Parts.{levelCount, objectCount}
 use Rattle.session.specs.Questions.{verdictOf}
 use Rattle.session.specs.Meaning.{rootOf}
@@ -135,7 +135,7 @@ module _ (s : List ℕ) (a : verdictOf s ≡ Accepted) where
       by (effect.Write o k w) g = unfold Sends in tt
       by (effect.Fork u message) g = unfold Sends childOf in g
 
-  few : programOf s .levels ≤ 8
+  few : programOf s .levels ≤ maxLevels
   unfolding programOf
   few = few-levels s (accepted s a .three)
 

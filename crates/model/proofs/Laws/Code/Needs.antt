@@ -1,6 +1,6 @@
 -- What the code of a run asks of a state, for every state that a run of an accepted session reaches: room for forks and versions, numbers
 -- that fit, managers that may start and step. Assumes nothing.
-use Prim.Native.Nat.{ℕ, _+_, _-_, _≤_, _<_, _^_}
+use Prim.Native.Nat.{ℕ, _+_, _-_, _*_, _≤_, _<_, _^_}
 use mathlib.Core.Path.{_≡_, sym, _∙_, ap, subst}
 use mathlib.Core.Bool.{true, cond}
 use mathlib.Core.List.{List, _∷_, map}
@@ -41,7 +41,7 @@ use Rattle.model.proofs.Laws.Code.Bounds.{Fits32, PacedBy, Paced}
 use Rattle.model.proofs.Laws.Code.Live.{Sendable, Runs, Live, present, next-paced, next-startable}
 
 -- the versions and the write stamp of a level that keeps its limits
-versions-low : (b : Activity) (next ended versions : ℕ) → ended + cond (isBusy b) 1 0 ≤ maxManagers → PacedBy b next ended versions → versions ≤ 512
+versions-low : (b : Activity) (next ended versions : ℕ) → ended + cond (isBusy b) 1 0 ≤ maxManagers → PacedBy b next ended versions → versions ≤ maxManagers * maxWrites
 versions-low idle next ended versions t g = omega (arith, g .1)
 versions-low (busy x m) next ended versions t g = omega (arith, g .1 .1 .1 .0, g .1 .1 .1 .1)
 
@@ -50,7 +50,7 @@ stamp-low idle next ended versions t g = omega (arith, g .0)
 stamp-low (busy x m) next ended versions t g = omega (arith, g .0, g .1 .0, g .1 .1 .0)
 
 -- one more version, where the running manager may still write
-one-more : (v : Level) (x : Fork) (m : Manager) → v .activity ≡ busy x m → Tame v → Paced v → m .writes < maxWrites → length (v .versions) < 512
+one-more : (v : Level) (x : Fork) (m : Manager) → v .activity ≡ busy x m → Tame v → Paced v → m .writes < maxWrites → length (v .versions) < maxManagers * maxWrites
 one-more v x m q t b w =
     let count : startedCount v ≡ length (v .ended) + 1 = ap (λ a. length (v .ended) + cond (isBusy a) 1 0) q in
     let now : PacedBy (busy x m) (v .next) (length (v .ended)) (length (v .versions)) = rw q at b in
@@ -69,8 +69,8 @@ module _ (s : List ℕ) (a : verdictOf s ≡ Accepted) (st : State) (i : Live s 
   live-next =
       omega (arith, live-room, next-paced (levelAt st l .activity) (levelAt st l .next) (length (levelAt st l .ended)) (length (levelAt st l .versions)) paced)
 
-  -- it has at most 512 versions, 16 of each manager
-  pub live-versions : length (levelAt st l .versions) ≤ 512
+  -- it has room for its versions, 16 of each manager
+  pub live-versions : length (levelAt st l .versions) ≤ maxManagers * maxWrites
   live-versions =
       versions-low (levelAt st l .activity) (levelAt st l .next) (length (levelAt st l .ended)) (length (levelAt st l .versions)) (omega (arith, live-room)) paced
 
@@ -103,7 +103,7 @@ module _ (s : List ℕ) (a : verdictOf s ≡ Accepted) (st : State) (i : Live s 
     fits read = stepped-fits (programOf s) read m (sound s a) (present s (m .level) (live-runs .0 .placed))
 
     -- what it writes is a field of a present object of the level, and there is room for the version
-    pub live-write : (read : ℕ → ℕ → Value) (o k : ℕ) (w : Value) → stepped (programOf s) read m .effect ≡ effect.Write o k w → (length (levelAt st l .versions) < 512) × ((programOf s .level o ≡ l) × ((o < objectCount s) × (k < fields)))
+    pub live-write : (read : ℕ → ℕ → Value) (o k : ℕ) (w : Value) → stepped (programOf s) read m .effect ≡ effect.Write o k w → (length (levelAt st l .versions) < maxManagers * maxWrites) × ((programOf s .level o ≡ l) × ((o < objectCount s) × (k < fields)))
     live-write read o k w e =
         let f = subst (Fits (programOf s) m) e (fits read) in
         let g = subst (EffectPresent s) e (stepped-present s a read m (live-runs .0) (live-runs .1 .1)) in
@@ -118,10 +118,10 @@ module _ (s : List ℕ) (a : verdictOf s ≡ Accepted) (st : State) (i : Live s 
     shallow : x .depth ≤ stampDigits
     shallow =
         let p = programOf s in
-        omega (arith, first-entry (λ e. e .depth + rank (p .levels) (p .dom) l ≤ 8) (i .reachable .steady .orderly .grown .shallow l (present s l h)), rank-positive (p .levels) (p .dom) (sound s a .lattice .order) l (present s l h))
+        omega (arith, first-entry (λ e. e .depth + rank (p .levels) (p .dom) l ≤ stampDigits + 1) (i .reachable .steady .orderly .grown .shallow l (present s l h)), rank-positive (p .levels) (p .dom) (sound s a .lattice .order) l (present s l h))
 
     -- what it forks goes to another present level, and the child's stamp fits 32 bits
-    pub live-fork : (read : ℕ → ℕ → Value) (u : ℕ) (message : Message) → stepped (programOf s) read m .effect ≡ effect.Fork u message → (u < levelCount s) × ((u ≡ l → ⊥) × ((x .depth ≤ stampDigits) × ((m .forks < maxForks) × (x .stamp + 16 ^ (8 - x .depth) ≤ 2 ^ 32))))
+    pub live-fork : (read : ℕ → ℕ → Value) (u : ℕ) (message : Message) → stepped (programOf s) read m .effect ≡ effect.Fork u message → (u < levelCount s) × ((u ≡ l → ⊥) × ((x .depth ≤ stampDigits) × ((m .forks < maxForks) × (x .stamp + 16 ^ (stampDigits + 1 - x .depth) ≤ 2 ^ 32))))
     unfolding programOf
     live-fork read u message e =
         let f = subst (Fits (programOf s) m) e (fits read) in

@@ -6,6 +6,7 @@ use native.Mathlib.Decide.{ℕ-discrete}
 use native.Mathlib.Omega.{arith}
 use Rattle.session.specs.Program.{Program}
 use Rattle.session.specs.declared.Message.{Message}
+use Rattle.session.specs.Limits.{maxLevels}
 use Rattle.managers.proofs.Laws.Effects.{Sound}
 use Rattle.model.specs.Level.{hasManager}
 use Rattle.model.specs.Step.{State, levelAt, stepAt}
@@ -27,7 +28,7 @@ pub record Reachable (p : Program) (st : State) : Type 0 where
   pub dated : (l : ℕ) → l < p .levels → Dated (levelAt st l)
 
 -- the session as read in
-pub reachable-start : (p : Program) → Sound p → p .levels ≤ 8 → (root : Message) → Reachable p (readIn p root)
+pub reachable-start : (p : Program) → Sound p → p .levels ≤ maxLevels → (root : Message) → Reachable p (readIn p root)
 reachable-start p so few root =
     record {
       steady = root-steady p so few root;

@@ -22,7 +22,7 @@ use Rattle.managers.specs.declared.Stepped.{Stepped}
 use Rattle.managers.proofs.Laws.Counts.{counts, grown, oneMore, stepped-counts}
 use Rattle.managers.proofs.Laws.Effects.{Sound, Fits, stepped-fits}
 use Rattle.managers.proofs.Laws.Within.{Reaches, stepped-reaches}
-use Rattle.model.specs.Limits.{maxManagers}
+use Rattle.model.specs.Limits.{maxManagers, stampDigits}
 use Rattle.model.specs.Fork.{Fork, childStamp, childOf}
 use Rattle.model.specs.Level.{Version, Level, arrived, after}
 use Rattle.model.specs.Step.{State, levelAt, at, versionsAfter, arrivalOf, moveAt, stepAt}
@@ -81,9 +81,9 @@ module _ (p : Program) (so : Sound p) (st : State) (g : Progress) (u : ℕ) (hu 
   sent : moveAt p u st .arrival ≡ at t child
   sent = sends-next p so st g u hu c m k w r ∙ ap (arrivalOf u c m) e
 
-  shallow : c .depth ≤ 7
+  shallow : c .depth ≤ stampDigits
   shallow =
-      let d = first-of (λ a. a .depth + rank (p .levels) (p .dom) u ≤ 8) (runningEntry u c (m .forks)) [] (entriesIn st u) (ap (entriesOf u) (busy-is p so st g u hu c m (suc k) w r)) (here .grown .shallow u hu) in
+      let d = first-of (λ a. a .depth + rank (p .levels) (p .dom) u ≤ stampDigits + 1) (runningEntry u c (m .forks)) [] (entriesIn st u) (ap (entriesOf u) (busy-is p so st g u hu c m (suc k) w r)) (here .grown .shallow u hu) in
       omega (arith, d, rank-positive (p .levels) (p .dom) (so .lattice .order) u hu)
 
   -- the child's interval of stamps: from the parent's next child to the one after that

@@ -19,6 +19,7 @@ use Rattle.model.specs.Fork.{Fork, childStamp}
 use Rattle.model.specs.Level.{Version, idle, after, newest}
 use Rattle.model.specs.Step.{State, levelAt, viewOf, none, begun, moved, moveAt, stepAt}
 use Rattle.model.specs.DepthFirst.{Tally, Progress, tallyAt}
+use Rattle.model.specs.Limits.{stampDigits}
 use Rattle.model.proofs.Laws.Confluence.{ran, Allowed}
 use Rattle.model.proofs.Laws.Each.{each-map}
 use Rattle.model.proofs.Laws.Invariant.Rank.{rank, rank-positive}
@@ -147,9 +148,9 @@ module _ (p : Program) (so : Sound p) (st : State) (g : Progress) (u : ℕ) (hu 
       ∙ ap (λ v. moved (seenBy u p) (viewOf p u st) u v (v .activity)) (r .is)
       ∙ moved-awaiting (seenBy u p) (viewOf p u st) u (tallyAt g u) (r .versions) c begins (started-seen p u (tallyAt g u .next) (c .message) (r .reaches))
 
-  pub ready-shallow : c .depth + rank (p .levels) (p .dom) u ≤ 8
+  pub ready-shallow : c .depth + rank (p .levels) (p .dom) u ≤ stampDigits + 1
   ready-shallow =
-      first-of (λ a. a .depth + rank (p .levels) (p .dom) u ≤ 8) (waitingEntry u c) [] (entriesIn st u) (ap (entriesOf u) (r .is)) (r .around .steady .orderly .grown .shallow u hu)
+      first-of (λ a. a .depth + rank (p .levels) (p .dom) u ≤ stampDigits + 1) (waitingEntry u c) [] (entriesIn st u) (ap (entriesOf u) (r .is)) (r .around .steady .orderly .grown .shallow u hu)
 
   own-next : levelAt (stepAt p u st) u ≡ after (resting (tallyAt g u) (r .versions)) [] (r .versions) c begins
   own-next = level-stepped p so st (r .around .steady .orderly) u hu ∙ ap (λ m. m .own) ready-move
@@ -173,7 +174,7 @@ module _ (p : Program) (so : Sound p) (st : State) (g : Progress) (u : ℕ) (hu 
       let stamp : begins .stamp ≡ tallyAt g u .next = ap (λ c. c .stamp) counts in
       let none-yet : begins .forks ≡ 0 = ap (λ c. c .forks) counts in
       let steps : begins .steps ≡ 0 = ap (λ c. c .steps) counts in
-      let shallow : c .depth ≤ 7 = omega (arith, ready-shallow, rank-positive (p .levels) (p .dom) (so .lattice .order) u hu) in
+      let shallow : c .depth ≤ stampDigits = omega (arith, ready-shallow, rank-positive (p .levels) (p .dom) (so .lattice .order) u hu) in
       let child : c .stamp ≤ childStamp (c .stamp) (c .depth) (begins .forks + 1) = rw none-yet (omega (arith, child-after (c .stamp) (c .depth) 0)) in
       record {
         versions = r .versions;

@@ -12,6 +12,7 @@ use Rattle.lattice.proofs.Laws.Range.{not-both, all-each, all-every}
 use Rattle.session.specs.Program.{Program}
 use Rattle.session.specs.declared.Message.{Message}
 use Rattle.session.proofs.Laws.Lists.{Truth, holds, fails, truth}
+use Rattle.session.specs.Limits.{maxLevels}
 use Rattle.managers.proofs.Laws.Effects.{Sound}
 use Rattle.model.specs.Lists.{inserted, lastOr}
 use Rattle.model.specs.Fork.{Fork, rootFork}
@@ -47,7 +48,7 @@ root-waits : (x : Fork) → arrived x newLevel ≡ awaiting x newTally []
 unfolding arrived inserted
 root-waits x = refl
 
-module _ (p : Program) (so : Sound p) (few : p .levels ≤ 8) (root : Message) where
+module _ (p : Program) (so : Sound p) (few : p .levels ≤ maxLevels) (root : Message) where
   abbrev r : ℕ
   r = p .level (root .object)
 

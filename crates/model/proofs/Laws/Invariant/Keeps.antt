@@ -18,10 +18,12 @@ use Rattle.managers.specs.declared.Effect.{Effect}
 use Rattle.managers.specs.declared.Effect.the-variants as effect
 use Rattle.managers.proofs.Laws.Counts.{Counts, counts, grown, oneMore, started-counts, stepped-counts}
 use Rattle.managers.proofs.Laws.Effects.{Sound}
+use Rattle.managers.specs.Limits.{maxForks}
 use Rattle.model.specs.Lists.{modify}
 use Rattle.model.specs.Fork.{Fork, childOf}
 use Rattle.model.specs.Level.{Version, Activity, idle, busy, Level, arrived, after}
 use Rattle.model.specs.Step.{State, levelAt, viewOf, readAt, Arrival, none, at, Moved, begun, advanced, moved, moveAt, applied, delivered, stepAt}
+use Rattle.model.specs.Limits.{stampDigits}
 use Rattle.model.proofs.Laws.Steps.Moves.{AtLevel}
 use Rattle.model.proofs.Laws.Steps.Diamond.{seen-level}
 use Rattle.model.proofs.Laws.Lists.{modify-length}
@@ -71,9 +73,9 @@ move-at p l st so h t =
     moved-at (seenBy l p) view l (levelAt view l) (levelAt view l .activity) there there
 
 -- a running manager that may still fork has room for its child
-pub fertile : (p : Program) (l : ℕ) (x : Fork) (k : ℕ) → Sound p → l < p .levels → x .depth + rank (p .levels) (p .dom) l ≤ 8 → k < 15 → Fertile (runningEntry l x k)
+pub fertile : (p : Program) (l : ℕ) (x : Fork) (k : ℕ) → Sound p → l < p .levels → x .depth + rank (p .levels) (p .dom) l ≤ stampDigits + 1 → k < maxForks → Fertile (runningEntry l x k)
 fertile p l x k so h d f =
-    let shallow : x .depth ≤ 7 = omega (arith, d, rank-positive (p .levels) (p .dom) (so .lattice .order) l h) in
+    let shallow : x .depth ≤ stampDigits = omega (arith, d, rank-positive (p .levels) (p .dom) (so .lattice .order) l h) in
     record { after = child-after (x .stamp) (x .depth) k; room = child-within (x .stamp) (x .depth) k shallow f }
 
 -- a level strictly above is another
@@ -175,6 +177,6 @@ step-keeps p l st so h o =
     keeps done t (quiet q r) = quiet-keeps p so l h st o done t (done .arrival) q r
     keeps done t (forks u x m message W q e r hu s f) =
         let a = runningEntry l x (m .forks) in
-        let d = first-of (λ a. a .depth + rank (p .levels) (p .dom) l ≤ 8) a W (entriesIn st l) e (o .grown .shallow l h) in
+        let d = first-of (λ a. a .depth + rank (p .levels) (p .dom) l ≤ stampDigits + 1) a W (entriesIn st l) e (o .grown .shallow l h) in
         arriving (done .arrival) (at u (childOf l x m message)) (modify l (λ _. done .own) st) q
         (fork-keeps p so l h st o done t u (childOf l x m message) a W (child-entry l u x m message) e r hu s (fertile p l x (m .forks) so h d f))

@@ -31,7 +31,7 @@ left (busy x m) = maxScriptSteps - m .steps
 
 -- the scheduler steps that a level can still make
 abbrev pub cost : Level → ℕ
-cost v = 257 * (maxManagers - startedCount v) + left (v .activity)
+cost v = (1 + maxScriptSteps) * (maxManagers - startedCount v) + left (v .activity)
 
 abbrev pub Live : Activity → Type 0
 Live idle = Unit
@@ -58,7 +58,7 @@ after-tame v ws versions x m f h = elim (truth (isRunning (m .ending))) [
   | fails e ↦ rw e (record { room = omega (arith, h, inserted-length (λ h. h .stamp) (historyOf x m) (v .ended)); live = tt })
 ]
 
-after-cost : (v : Level) (ws : List Fork) (versions : List Version) (x : Fork) (m : Manager) → cost (after v ws versions x m) ≤ 257 * (maxManagers - (length (v .ended) + 1)) + (maxScriptSteps - m .steps)
+after-cost : (v : Level) (ws : List Fork) (versions : List Version) (x : Fork) (m : Manager) → cost (after v ws versions x m) ≤ (1 + maxScriptSteps) * (maxManagers - (length (v .ended) + 1)) + (maxScriptSteps - m .steps)
 unfolding after
 after-cost v ws versions x m = elim (truth (isRunning (m .ending))) [
   | holds e ↦ rw e (omega arith)

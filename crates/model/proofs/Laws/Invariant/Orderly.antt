@@ -14,6 +14,7 @@ use Rattle.model.specs.Lists.{modify}
 use Rattle.model.specs.Fork.{Fork}
 use Rattle.model.specs.Level.{Level, newLevel, arrived}
 use Rattle.model.specs.Step.{State, levelAt, viewOf, Arrival, none, at, moveAt, delivered}
+use Rattle.model.specs.Limits.{stampDigits}
 use Rattle.model.proofs.Laws.Lists.{modify-length, modify-at, modify-other}
 use Rattle.model.proofs.Laws.Each.{Each}
 use Rattle.model.proofs.Laws.Invariant.Rank.{rank, rank-falls}
@@ -74,13 +75,13 @@ delivered-length (at u x) st = modify-length u (arrived x) st
 -- the forest, and the length of chains
 pub record Grown (p : Program) (F : ℕ → List Entry) : Type 0 where
   pub forest : Forest (p .levels) (p .dom) F
-  pub shallow : (l : ℕ) → l < p .levels → Each (λ a. a .depth + rank (p .levels) (p .dom) l ≤ 8) (F l)
+  pub shallow : (l : ℕ) → l < p .levels → Each (λ a. a .depth + rank (p .levels) (p .dom) l ≤ stampDigits + 1) (F l)
 
 pub grown-rest : (p : Program) (F G : ℕ → List Entry) → Grown p F → ((k : ℕ) → Rest (F k) (G k)) → Grown p G
 grown-rest p F G g r =
     record {
       forest = forest-rest (p .levels) (p .dom) F G (g .forest) r;
-      shallow = λ l h. rest-each (λ a. a .depth + rank (p .levels) (p .dom) l ≤ 8) (F l) (G l) (r l) (g .shallow l h);
+      shallow = λ l h. rest-each (λ a. a .depth + rank (p .levels) (p .dom) l ≤ stampDigits + 1) (F l) (G l) (r l) (g .shallow l h);
     }
 
 -- the first manager of level l forks at level u
@@ -91,15 +92,15 @@ grown-fork p F G so g l u hl hu lu a W e s f tl tu o =
       shallow = λ k hk. deep k hk (ℕ-discrete k l) (ℕ-discrete k u);
     }
   where
-    at-l : Each (λ a. a .depth + rank (p .levels) (p .dom) l ≤ 8) (a ∷ W)
+    at-l : Each (λ a. a .depth + rank (p .levels) (p .dom) l ≤ stampDigits + 1) (a ∷ W)
     at-l = rw e at (g .shallow l hl)
 
-    child : a .depth + 1 + rank (p .levels) (p .dom) u ≤ 8
+    child : a .depth + 1 + rank (p .levels) (p .dom) u ≤ stampDigits + 1
     child = unfold Each in omega (arith, at-l .0, rank-falls (p .levels) (p .dom) (so .lattice .order) u l hu hl s)
 
-    deep : (k : ℕ) → k < p .levels → Dec (k ≡ l) → Dec (k ≡ u) → Each (λ a. a .depth + rank (p .levels) (p .dom) k ≤ 8) (G k)
+    deep : (k : ℕ) → k < p .levels → Dec (k ≡ l) → Dec (k ≡ u) → Each (λ a. a .depth + rank (p .levels) (p .dom) k ≤ stampDigits + 1) (G k)
     deep k hk (yes q) d = rw (q, tl) (unfold Each in (at-l .0, at-l .1))
-    deep k hk (no n) (yes q) = rw q (tu .each (λ a. a .depth + rank (p .levels) (p .dom) u ≤ 8) child (g .shallow u hu))
+    deep k hk (no n) (yes q) = rw q (tu .each (λ a. a .depth + rank (p .levels) (p .dom) u ≤ stampDigits + 1) child (g .shallow u hu))
     deep k hk (no n) (no q) = rw (o k n q) (g .shallow k hk)
 
 -- the invariant of a state

@@ -3,25 +3,26 @@ use Prim.Native.Nat.{ℕ, suc, _+_, _*_, _-_, _^_, _≤_, _<_}
 use mathlib.Core.Path.{_≡_, _∙_, ap}
 use native.Mathlib.Nat.{pow-succ', suc-mul, one-le-pow, mul-le-mul-right}
 use native.Mathlib.Omega.{arith}
+use Rattle.managers.specs.Limits.{maxForks}
 use Rattle.model.specs.Limits.{stampDigits}
 use Rattle.model.specs.Fork.{childStamp}
 
 -- how many stamps a manager d forks deep has for itself and its descendants
 abbrev pub span : ℕ → ℕ
-span d = 16 ^ (8 - d)
+span d = 16 ^ (stampDigits + 1 - d)
 
 pub span-positive : (d : ℕ) → 0 < span d
-span-positive d = one-le-pow (8 - d) 16 (omega arith)
+span-positive d = one-le-pow (stampDigits + 1 - d) 16 (omega arith)
 
 -- sixteen parts, one for itself and one for each child
-pub span-parts : (d : ℕ) → d ≤ 7 → span d ≡ 16 * span (d + 1)
+pub span-parts : (d : ℕ) → d ≤ stampDigits → span d ≡ 16 * span (d + 1)
 span-parts d h =
-    let e : 8 - d ≡ suc (8 - (d + 1)) = omega arith in
-    ap (λ k. 16 ^ k) e ∙ pow-succ' 16 (8 - (d + 1))
+    let e : stampDigits + 1 - d ≡ suc (stampDigits + 1 - (d + 1)) = omega arith in
+    ap (λ k. 16 ^ k) e ∙ pow-succ' 16 (stampDigits + 1 - (d + 1))
 
 pub child-at : (s d k : ℕ) → childStamp s d k ≡ s + k * span (d + 1)
 child-at s d k =
-    let e : stampDigits - d ≡ 8 - (d + 1) = omega arith in
+    let e : stampDigits - d ≡ stampDigits + 1 - (d + 1) = omega arith in
     ap (λ j. s + k * 16 ^ j) e
 
 -- each child lies one part after the last
@@ -32,9 +33,9 @@ child-next s d k =
     rw (child-at s d (k + 1), child-at s d k, m) (omega arith)
 
 -- all children lie within
-pub child-within : (s d k : ℕ) → d ≤ 7 → k < 15 → childStamp s d (k + 1) + span (d + 1) ≤ s + span d
+pub child-within : (s d k : ℕ) → d ≤ stampDigits → k < maxForks → childStamp s d (k + 1) + span (d + 1) ≤ s + span d
 child-within s d k h l =
-    let part : (k + 1) * span (d + 1) ≤ 15 * span (d + 1) = mul-le-mul-right (span (d + 1)) (omega arith) in
+    let part : (k + 1) * span (d + 1) ≤ maxForks * span (d + 1) = mul-le-mul-right (span (d + 1)) (omega arith) in
     rw (child-at s d (k + 1), span-parts d h) (omega (arith, part))
 
 pub child-after : (s d k : ℕ) → s < childStamp s d (k + 1)

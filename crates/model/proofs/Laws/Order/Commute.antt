@@ -6,6 +6,7 @@ use Rattle.session.specs.Program.{Program}
 use Rattle.managers.proofs.Laws.Effects.{Sound}
 use Rattle.model.specs.Fork.{childOf}
 use Rattle.model.specs.Step.{State, Arrival, none, at, moveAt, stepAt}
+use Rattle.model.specs.Limits.{stampDigits}
 use Rattle.model.proofs.Laws.Confluence.{Commuting}
 use Rattle.model.proofs.Laws.Each.{Each}
 use Rattle.model.proofs.Laws.Invariant.Rank.{rank}
@@ -39,8 +40,8 @@ module _ (p : Program) (so : Sound p) (st : State) (o : Orderly p st) (l k : ℕ
   apart G H b c (quiet q r) d = apart-left b c q
   apart G H b c (forks u x m message Z q e r hu s f) (quiet t g) = apart-right b c t
   apart G H b c (forks u x m message Z q e r hu s f) (forks w y j text W t g z hw v i) =
-      let ex = first-of (λ a. a .depth + rank (p .levels) (p .dom) l ≤ 8) (runningEntry l x (m .forks)) Z (entriesIn st l) e (o .grown .shallow l hl) in
-      let ey = first-of (λ a. a .depth + rank (p .levels) (p .dom) k ≤ 8) (runningEntry k y (j .forks)) W (entriesIn st k) g (o .grown .shallow k hk) in
+      let ex = first-of (λ a. a .depth + rank (p .levels) (p .dom) l ≤ stampDigits + 1) (runningEntry l x (m .forks)) Z (entriesIn st l) e (o .grown .shallow l hl) in
+      let ey = first-of (λ a. a .depth + rank (p .levels) (p .dom) k ≤ stampDigits + 1) (runningEntry k y (j .forks)) W (entriesIn st k) g (o .grown .shallow k hk) in
       apart-both b c (at u (childOf l x m message)) (at w (childOf k y j text)) q t
       (unfold childOf in
       children-apart (p .dom) (runningEntry l x (m .forks)) (runningEntry k y (j .forks)) (fertile p l x (m .forks) so hl ex f) (fertile p k y (j .forks) so hk ey i)

@@ -12,6 +12,7 @@ use Rattle.session.specs.declared.Message.{Message}
 use Rattle.session.specs.declared.Verdict.the-variants.{Accepted}
 use Rattle.session.proofs.Laws.Verdict.{accepted}
 use Rattle.session.proofs.Laws.Numbering.{few-levels}
+use Rattle.session.specs.Limits.{maxLevels}
 use Rattle.managers.proofs.Laws.Effects.{Sound}
 use Rattle.model.specs.Limits.{maxSchedule}
 use Rattle.model.specs.Fork.{rootFork}
@@ -33,7 +34,7 @@ unfolding total
 total-new zero = refl
 total-new (suc n) = omega (arith, total-new n)
 
-module _ (p : Program) (so : Sound p) (few : p .levels ≤ 8) (root : Message) where
+module _ (p : Program) (so : Sound p) (few : p .levels ≤ maxLevels) (root : Message) where
   pub read-in-tame : AllTame (readIn p root)
   read-in-tame k = elim (ℕ-discrete (p .level (root .object)) k) [
     | yes e ↦ rw (sym e, at-root p so few root) (arrived-tame (rootFork (p .levels) root) newLevel new-tame)

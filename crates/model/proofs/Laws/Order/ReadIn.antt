@@ -7,12 +7,14 @@ use native.Mathlib.Omega.{arith}
 use lib.ListN.{replicate, length-replicate}
 use Rattle.session.specs.Program.{Program}
 use Rattle.session.specs.declared.Message.{Message}
+use Rattle.session.specs.Limits.{maxLevels}
 use Rattle.managers.proofs.Laws.Effects.{Sound}
 use Rattle.model.specs.Lists.{inserted}
 use Rattle.model.specs.Fork.{Fork, rootFork}
 use Rattle.model.specs.Level.{newLevel, arrived}
 use Rattle.model.specs.Step.{State, levelAt}
 use Rattle.model.specs.Schedule.{readIn, finished, runOf}
+use Rattle.model.specs.Limits.{stampDigits}
 use Rattle.model.proofs.Laws.Lists.{modify-length, modify-at, modify-other}
 use Rattle.model.proofs.Laws.Each.{Each, Pairwise}
 use Rattle.model.proofs.Laws.Invariant.Rank.{rank, count-most}
@@ -33,7 +35,7 @@ arrived-new : (l : ℕ) (x : Fork) → entriesOf l (arrived x newLevel) ≡ wait
 unfolding arrived inserted
 arrived-new l x = refl
 
-module _ (p : Program) (so : Sound p) (few : p .levels ≤ 8) (root : Message) where
+module _ (p : Program) (so : Sound p) (few : p .levels ≤ maxLevels) (root : Message) where
   abbrev pub r : ℕ
   r = p .level (root .object)
 
@@ -74,7 +76,7 @@ module _ (p : Program) (so : Sound p) (few : p .levels ≤ 8) (root : Message) w
   across j k d (no n) = rw (no-entry j n) tt
   across j k d (yes e) = rw (sym e, root-entry) (rw (no-entry k (λ q. d (sym e ∙ q))) tt, tt)
 
-  shallow : (k : ℕ) → Dec (r ≡ k) → Each (λ a. a .depth + rank (p .levels) (p .dom) k ≤ 8) (F k)
+  shallow : (k : ℕ) → Dec (r ≡ k) → Each (λ a. a .depth + rank (p .levels) (p .dom) k ≤ stampDigits + 1) (F k)
   unfolding Each
   shallow k (yes e) = rw (sym e, root-entry) (omega (arith, few, count-most (p .levels) (λ j. p .dom j r)), tt)
   shallow k (no n) = rw (no-entry k n) tt

@@ -24,6 +24,7 @@ use Rattle.session.proofs.Laws.Numbering.{few-levels}
 use Rattle.session.proofs.Laws.Verdict.{accepted}
 use Rattle.session.proofs.Laws.Emptied.{emptied-message}
 use Rattle.session.proofs.Laws.Program.{emptied-program}
+use Rattle.session.specs.Limits.{maxLevels}
 use Rattle.managers.proofs.Laws.Effects.{Sound}
 use Rattle.model.specs.Lists.{modify}
 use Rattle.model.specs.Level.{newLevel, hasManager, arrived}
@@ -221,7 +222,7 @@ continues p so (k ∷ ks) i st o t a =
     record { more = r .more; end = r .end; run = run-next i p k (ks ++ r .more) st m ∙ r .run; finishes = r .finishes }
 
 -- a whole list that finishes, and what is left of it in what c sees of the program
-module _ (p : Program) (so : Sound p) (few : p .levels ≤ 8) (root : Message) (c : ℕ) (hc : c < p .levels) (ls : List ℕ) (t : State) (e : runOf p root ls ≡ finished t) where
+module _ (p : Program) (so : Sound p) (few : p .levels ≤ maxLevels) (root : Message) (c : ℕ) (hc : c < p .levels) (ls : List ℕ) (t : State) (e : runOf p root ls ≡ finished t) where
   whole : Finishes p ls (readIn p root) t
   unfolding runOf
   whole = finishes 0 p ls (readIn p root) t e
@@ -262,7 +263,7 @@ module _ (s : List ℕ) (a : verdictOf s ≡ Accepted) (c : ℕ) (hc : c < level
   here : c < programOf s .levels
   here = unfold programOf in hc
 
-  few : programOf s .levels ≤ 8
+  few : programOf s .levels ≤ maxLevels
   few = unfold programOf in few-levels s (accepted s a .three)
 
   -- Isolation: each step left is allowed in the emptied session and does the same there, and the last leaves no manager

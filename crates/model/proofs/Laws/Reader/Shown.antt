@@ -8,6 +8,7 @@ use Rattle.session.specs.Lists.{tab, select}
 use Rattle.session.specs.Program.{Program, seenBy}
 use Rattle.session.specs.declared.Message.{Message}
 use Rattle.session.proofs.Laws.Lists.{holds, fails, truth, select-yes, select-no}
+use Rattle.session.specs.Limits.{maxLevels}
 use Rattle.managers.proofs.Laws.Effects.{Sound}
 use Rattle.model.specs.Level.{newest}
 use Rattle.model.specs.Step.{State}
@@ -55,7 +56,7 @@ module _ (p : Program) (so : Sound p) (c : ℕ) (t t' : State) (same : SameUnder
       same-bytes p (seenBy c p) l l (resultOf p t) (resultOf (seenBy c p) t') c order order' g g' (unfold seenBy in refl) (unfold seenBy in refl) objects-seen (reply-seen l h) (λ k hk d. ap (λ v. v .ended) (same k hk d))
 
 -- of a list that finishes, and of the depth-first run of what c sees
-pub reader-sees : (p : Program) → Sound p → p .levels ≤ 8 → (root : Message) (c : ℕ) → c < p .levels → (ls : List ℕ) (t : State) → runOf p root ls ≡ finished t → (order order' : List ℕ) → ordersShown p c order ≡ true → ordersShown (seenBy c p) c order' ≡ true → SameBytes (bytesOf p (p .level (root .object)) (resultOf p t) c order) (bytesOf (seenBy c p) (p .level (root .object)) (resultOfDepthFirst (seenBy c p) (depthFirst (seenBy c p) root)) c order')
+pub reader-sees : (p : Program) → Sound p → p .levels ≤ maxLevels → (root : Message) (c : ℕ) → c < p .levels → (ls : List ℕ) (t : State) → runOf p root ls ≡ finished t → (order order' : List ℕ) → ordersShown p c order ≡ true → ordersShown (seenBy c p) c order' ≡ true → SameBytes (bytesOf p (p .level (root .object)) (resultOf p t) c order) (bytesOf (seenBy c p) (p .level (root .object)) (resultOfDepthFirst (seenBy c p) (depthFirst (seenBy c p) root)) c order')
 reader-sees p so few root c hc ls t e order order' g g' =
     let (ms, (t', (e', same))) = seen-same p so few root c hc ls t e in
     rw (sym (same-result (seenBy c p) (seen-sound c p so) (unfold seenBy in few) root ms t' e'))
