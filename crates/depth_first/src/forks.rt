@@ -50,6 +50,7 @@ fn go_on(
         masks,
         index,
         current,
+        current,
         stack,
         m.level,
         m.height,

@@ -9,5 +9,6 @@ pub mod Advance
 pub mod Ready
 pub mod Step
 pub mod Reads
+pub mod Recall
 pub mod Made
 pub mod Asked

@@ -7,7 +7,7 @@ use lib.Dec.{eqb}
 use lib.ListN.{length, getD, set, drop}
 use Rattle.session.specs.Limits.{maxLevels}
 use Rattle.session.specs.Parts.{levelCount}
-use Rattle.session.specs.Meaning.{levelOf}
+use Rattle.session.specs.Meaning.{levelOf, fieldOf}
 use Rattle.session.specs.Program.{Program, programOf}
 use Rattle.session.specs.declared.Value.{Value}
 use Rattle.session.specs.declared.Value.the-variants.{Nil}
@@ -23,7 +23,7 @@ use Rattle.managers.specs.declared.Ask.the-variants as ask
 use Rattle.model.specs.Limits.{stampDigits, workNumbers}
 use Rattle.model.specs.Fork.{Fork, childStamp}
 use Rattle.model.specs.History.{endBefore}
-use Rattle.model.specs.Level.{Activity, idle, busy}
+use Rattle.model.specs.Level.{Activity, idle, busy, newestTo}
 use Rattle.model.specs.Step.{State, levelAt, readAt, stepAt}
 use Rattle.model.specs.Schedule.{stepRefusal}
 use Rattle.records.specs.Limits.{historyWords}
@@ -31,7 +31,7 @@ use Rattle.records.specs.Fields.{FieldThere, FieldSet}
 use Rattle.records.specs.Histories.{historiesAt, InOrder, HistoryIs, HistoriesThere, Added}
 use Rattle.records.specs.declared.Ended.{Ended}
 use Rattle.queues.specs.Queue.{forkOfRow, forkAt, There, Room, Arrived}
-use Rattle.versions.specs.Log.{logStart, Within}
+use Rattle.versions.specs.Log.{logStart, logOf, Within}
 use Rattle.versions.specs.Order.{PartitionPoint}
 use Rattle.versions.specs.Changes.{Appended}
 use Rattle.level_managers.specs.Kept.{Words, nextPlace, waitingPlace, versionsPlace, busyPlace, tallyNumbers, Says, placed}
@@ -68,6 +68,11 @@ abbrev pub boundIn : ℕ → List ℕ → List ℕ → List ℕ → ℕ → ℕ 
 boundIn n ended tallies queue l j =
     let carried = getD (runningFork n tallies queue l .seen) j 0 in
     cond (eqb carried 0) (endBefore (runningFork n tallies queue l .stamp) (historiesAt ended j (getD tallies j 0))) carried
+
+-- what the words say that it reads of a field of an object of another level
+abbrev pub readIn : List ℕ → Words → ℕ → ℕ → ℕ → Value
+readIn s w l object k =
+    newestTo (boundIn (levelCount s) (w .ended) (w .tallies) (w .queue) l (levelOf s object)) (fieldOf s object k) object k (logOf (w .work) (logStart (levelOf s object)) (getD (w .tallies) (versionsPlace (levelOf s object)) 0))
 
 -- a value is what it reads of a field
 abbrev pub ReadIs : List ℕ → Words → ℕ → ℕ → ℕ → Value → Type 0

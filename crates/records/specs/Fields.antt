@@ -1,7 +1,7 @@
 -- The fields of a run, kept in words. Assumes nothing.
 use Prim.Native.Nat.{ℕ, _+_, _*_, _≤_, _<_}
 use mathlib.Core.Path.{_≡_}
-use mathlib.Core.Bool.{cond}
+use mathlib.Core.Bool.{Bool, true, not, cond}
 use mathlib.Core.List.{List}
 use lib.Dec.{eqb}
 use lib.ListN.{length, getD}
@@ -44,6 +44,16 @@ pub record FieldSet (ws ws' : List ℕ) (o k : ℕ) (v : Value) : Type 0 where
   pub set : fieldAt ws' o k ≡ v
   pub others : (o' k' : ℕ) → k' < fields → (o' ≡ o → k' ≡ k → ⊥) → fieldAt ws' o' k' ≡ fieldAt ws o' k'
   pub outside : Outside ws ws' (fieldPlace o k) (fieldPlace o k + 2)
+
+-- whether field k of object o is known. Words that keep what was read say so by their tag: 0 nothing yet, 1 a number, 2 NIL
+abbrev pub knownAt : List ℕ → ℕ → ℕ → Bool
+knownAt ws o k = not (eqb (getD ws (fieldPlace o k) 0) 0)
+
+-- one field is known to hold v, and the others are known as they were
+pub record Remembered (ws ws' : List ℕ) (o k : ℕ) (v : Value) : Type 0 where
+  pub field : FieldSet ws ws' o k v
+  pub known : knownAt ws' o k ≡ true
+  pub others : (o' k' : ℕ) → k' < fields → (o' ≡ o → k' ≡ k → ⊥) → knownAt ws' o' k' ≡ knownAt ws o' k'
 
 -- "Initial fields": each present object's, and no word behind them is touched
 pub record Filled (s ws ws' : List ℕ) : Type 0 where

@@ -4,7 +4,9 @@ use mathlib.Core.Path.{_≡_}
 use mathlib.Core.Bool.{true, false}
 use mathlib.Core.List.{List}
 use lib.ListN.{length, getD}
-use Rattle.session.specs.Parts.{levelCount}
+use Rattle.session.specs.Limits.{fields}
+use Rattle.session.specs.Parts.{levelCount, objectCount}
+use Rattle.session.specs.Meaning.{levelOf}
 use Rattle.session.specs.Program.{programOf}
 use Rattle.managers.specs.Limits.{maxScriptSteps, maxWrites, maxForks}
 use Rattle.managers.specs.Manager.{isRunning}
@@ -14,11 +16,13 @@ use Rattle.managers.specs.declared.Manager.{Manager}
 use Rattle.model.specs.Level.{idle}
 use Rattle.model.specs.Step.{State, levelAt}
 use Rattle.model.specs.Schedule.{question14, Leads}
+use Rattle.records.specs.Limits.{fieldWords}
+use Rattle.records.specs.Fields.{fieldAt, knownAt}
 use Rattle.stacks.specs.Stack.{stackWords, framesOf}
 use Rattle.stacks.specs.Course.{managerOf, settledOf}
 use Rattle.stacks.specs.declared.Course.{Course}
 use Rattle.level_managers.specs.Kept.{Words, waitingPlace, busyPlace, Roomy, Says, placed}
-use Rattle.level_managers.specs.Steps.{SettleReady, Closed, Settled}
+use Rattle.level_managers.specs.Steps.{readIn, SettleReady, Closed, Settled}
 use Rattle.scheduler.specs.Runs.{SameRest}
 
 -- the level is being run, from state from: m is the only manager that may run
@@ -54,21 +58,30 @@ pub record Goes (s : List ℕ) (l : ℕ) (c : Course) (k : List ℕ) : Type 0 wh
   pub forked : c .forks ≤ maxForks
   pub fits : c .first + maxForks + 1 < 2 ^ 16
 
+-- what is kept of the fields that the manager of level l has read at other levels is what it reads there
+abbrev pub Recalls : List ℕ → Words → ℕ → List ℕ → Type 0
+Recalls s w l seen =
+    (o k : ℕ) → o < objectCount s → k < fields → (levelOf s o ≡ l → ⊥) → knownAt seen o k ≡ true → fieldAt seen o k ≡ readIn s w l o k
+
 -- the words lag behind it, and say that a manager runs, whose history there is room for
-pub record Lags (s : List ℕ) (w : Words) (l : ℕ) (c : Course) (k : List ℕ) : Type 0 where
+pub record Lags (s : List ℕ) (w : Words) (l : ℕ) (c : Course) (k seen : List ℕ) : Type 0 where
   pub from : State
   pub lagging : Lagging s from w l (courseIn s c k)
   pub busy-there : getD (w .tallies) (busyPlace l) 0 ≡ 1
   pub roomy : Roomy w
+  pub recalls : Recalls s w l seen
+  pub seen-there : fieldWords ≤ length seen
 
 -- what it does when it goes on
-pub record Gone (s : List ℕ) (l : ℕ) (c : Course) (k k' : List ℕ) (w w' : Words) (r : Course) : Type 0 where
+pub record Gone (s : List ℕ) (l : ℕ) (c : Course) (k k' seen seen' : List ℕ) (w w' : Words) (r : Course) : Type 0 where
   pub lags : (from : State) → Lagging s from w l (courseIn s c k) → Lagging s from w' l (courseIn s r k')
   pub still : isRunning (r .ending) ≡ true → Goes s l r k'
   pub first : r .first ≡ c .first
   pub forked : r .forks ≤ maxForks
   pub more : isRunning (r .ending) ≡ true → c .steps < r .steps
   pub long : length k' ≡ length k
+  pub recalls : isRunning (r .ending) ≡ true → Recalls s w' l seen'
+  pub seen-long : length seen' ≡ length seen
   pub count : getD (w' .tallies) l 0 ≡ getD (w .tallies) l 0
   pub busy-still : getD (w' .tallies) (busyPlace l) 0 ≡ getD (w .tallies) (busyPlace l) 0
   pub settles : SettleReady (w .ended) (w .tallies) (w .queue) l → SettleReady (w' .ended) (w' .tallies) (w' .queue) l

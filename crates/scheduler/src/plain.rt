@@ -4,6 +4,7 @@ use level_managers::steps;
 use level_managers::tallies;
 use level_managers::tallies::Permit;
 use managers::Ending;
+use records::fields;
 use records::histories;
 use session::Message;
 use stacks::Course;
@@ -16,7 +17,8 @@ ghost use Rattle.scheduler.specs.Runs.{startOf, Rests, LevelReady, Level
 ghost use Rattle.scheduler.specs.Running.{Goes, Lags, Gone, CloseReady, Closes, NextReady, NextDone};
 
 // Makes the script steps of the manager that runs at a level up to the next one that concerns others, and
-// does what that one does.
+// does what that one does. All levels below have ended: what it has read there it would read again, so that is
+// kept in `seen`.
 fn go_on(
     session: &[u8],
     masks: &[u16],
@@ -27,18 +29,20 @@ fn go_on(
     queue: &mut [u32],
     work: &mut [u32],
     stack: &mut [u32],
+    seen: &mut [u32],
     level: usize,
     m: Course,
 ) -> Course
     requires { ⌜ Read (now session) (now masks) (now index) ⌝ }
-    requires { ⌜ Goes (now session) level m (now stack) × Lags (now session) (record { current = now current; ended = now ended; tallies = now tallies; queue = now queue; work = now work }) level m (now stack) ⌝ }
-    ensures { λ r. ⌜ Gone (now (session .entry)) level m (now (stack .entry)) (now (stack .exit)) (record { current = now (current .entry); ended = now (ended .entry); tallies = now (tallies .entry); queue = now (queue .entry); work = now (work .entry) }) (record { current = now (current .exit); ended = now (ended .entry); tallies = now (tallies .exit); queue = now (queue .exit); work = now (work .exit) }) r ⌝ }
+    requires { ⌜ Goes (now session) level m (now stack) × Lags (now session) (record { current = now current; ended = now ended; tallies = now tallies; queue = now queue; work = now work }) level m (now stack) (now seen) ⌝ }
+    ensures { λ r. ⌜ Gone (now (session .entry)) level m (now (stack .entry)) (now (stack .exit)) (now (seen .entry)) (now (seen .exit)) (record { current = now (current .entry); ended = now (ended .entry); tallies = now (tallies .entry); queue = now (queue .entry); work = now (work .entry) }) (record { current = now (current .exit); ended = now (ended .entry); tallies = now (tallies .exit); queue = now (queue .exit); work = now (work .exit) }) r ⌝ }
 {
     let pause = stacks::advance(
         session,
         masks,
         index,
         current,
+        seen,
         stack,
         m.level,
         m.height,
@@ -96,8 +100,9 @@ fn go_on(
                 field,
                 n.near,
             );
-            let seen = found.value;
-            frames::set_register(stack, n.height as usize - 1, into, seen);
+            let value = found.value;
+            fields::remember(seen, object as usize, field as usize, value);
+            frames::set_register(stack, n.height as usize - 1, into, value);
             Course {
                 near: found.reach,
                 ..n
@@ -168,6 +173,7 @@ fn run_next(
     let next = tallies[8 + level] as u16;
     tallies[16 + level] = tallies[16 + level] - 1;
     tallies[32 + level] = 1;
+    let mut seen = [0u32; 192];
     let mut stack = [0u32; 128];
     let mut m = Course::start(&mut stack, level as u8, next, message);
     let mut ending = m.ending;
@@ -182,6 +188,7 @@ fn run_next(
             queue,
             work,
             &mut stack,
+            &mut seen,
             level,
             m,
         );

@@ -22,7 +22,7 @@ use Rattle.managers.specs.declared.Ending.the-variants.{OutOfSteps, OutOfWrites
 use Rattle.managers.specs.declared.Effect.the-variants as effect
 use Rattle.managers.specs.declared.Stepped.{Stepped}
 use Rattle.records.specs.Limits.{fieldWords}
-use Rattle.records.specs.Fields.{fieldAt}
+use Rattle.records.specs.Fields.{fieldAt, knownAt}
 use Rattle.stacks.specs.Stack.{framesOf, frameIn, There}
 use Rattle.stacks.specs.declared.Event.{Event}
 use Rattle.stacks.specs.declared.Event.the-variants as event
@@ -86,10 +86,18 @@ pub record Holds (m : Manager) (w : List ℕ) (level at : ℕ) : Type 0 where
   pub height-is : m .height ≡ at + 1
   pub level-is : m .level ≡ level
 
--- a READ that does not pause sees what the words of the fields say: of all objects, or of those of the level
-abbrev pub Sees : List ℕ → List ℕ → Bool → ℕ → (ℕ → ℕ → Value) → Type 0
-Sees s current all level read =
-    (o k : ℕ) → o < objectCount s → k < fields → (all || eqb (levelOf s o) level) ≡ true → read o k ≡ fieldAt current o k
+-- a READ takes a field from the words of the fields, of any object or of one of the level; of another, from what was read before
+abbrev pub shownIn : List ℕ → List ℕ → List ℕ → Bool → ℕ → ℕ → ℕ → Value
+shownIn s current seen all level o k = cond (all || eqb (levelOf s o) level) (fieldAt current o k) (fieldAt seen o k)
+
+-- it does not pause: of another object, where it is known
+abbrev pub isOpen : List ℕ → List ℕ → Bool → ℕ → ℕ → ℕ → Bool
+isOpen s seen all level o k = (all || eqb (levelOf s o) level) || knownAt seen o k
+
+-- what those words say is so
+abbrev pub Sees : List ℕ → List ℕ → List ℕ → Bool → ℕ → (ℕ → ℕ → Value) → Type 0
+Sees s current seen all level read =
+    (o k : ℕ) → o < objectCount s → k < fields → isOpen s seen all level o k ≡ true → read o k ≡ shownIn s current seen all level o k
 
 -- a step names registers that a frame has, a READ and a WRITE a field that an object has, a SEND a name that a method may have
 abbrev pub Named : Step → Type 0
@@ -102,13 +110,14 @@ Named (Write a b) = (a < registers) × (b < fields)
 Named (Send a b c) = (a < registers) × (b < names)
 Named (Quit a) = a < registers
 
--- an accepted session with its level table, words for its fields, and a known frame of a manager at a present level
-pub record Operable (s masks current w : List ℕ) (level at : ℕ) : Type 0 where
+-- an accepted session with its level table, words for its fields and for what was read, and a known frame of a manager at a present level
+pub record Operable (s masks current seen w : List ℕ) (level at : ℕ) : Type 0 where
   pub leveled : Leveled s masks
   pub there : There w at
   pub known : Known s (frameIn w at)
   pub placed : level < levelCount s
   pub fields-there : fieldWords ≤ length current
+  pub seen-there : fieldWords ≤ length seen
 
 -- is it one that concerns others
 abbrev pub isPause : Move → Bool
@@ -132,8 +141,8 @@ MovePresent s move.Down = Unit
 MovePresent s (move.Pause e) = EventPresent s e
 
 -- an operation by a frame that has passed it is carried out
-pub record Operated (s current : List ℕ) (all : Bool) (level at : ℕ) (w w' : List ℕ) (step : Step) (r : Move) : Type 0 where
-  pub moves : (m : Manager) (read : ℕ → ℕ → Value) → Holds m w level at → Sees s current all level read → operated (programOf s) read m (top m) step ≡ moved read m (framesOf w') r
+pub record Operated (s current seen : List ℕ) (all : Bool) (level at : ℕ) (w w' : List ℕ) (step : Step) (r : Move) : Type 0 where
+  pub moves : (m : Manager) (read : ℕ → ℕ → Value) → Holds m w level at → Sees s current seen all level read → operated (programOf s) read m (top m) step ≡ moved read m (framesOf w') r
   pub live : isPause r ≡ false → 0 < heightAfter (at + 1) r
   pub present : MovePresent s r
   pub long : length w' ≡ length w

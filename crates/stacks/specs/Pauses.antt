@@ -66,12 +66,13 @@ Paused p read m h n fs (event.Write o k v) = Last p read m h n fs (event.Write o
 Paused p read m h n fs (event.Read o k a) = Last p read m h n fs (event.Read o k a)
 Paused p read m h n fs (event.Fork u o b v) = Last p read m h n fs (event.Fork u o b v)
 
--- an accepted session, its level table and method index, words for its fields, and known frames of a manager at a present level
-pub record Advanceable (s masks index current w : List ℕ) (level h n : ℕ) : Type 0 where
+-- an accepted session, its level table and method index, words for its fields and for what was read, and known frames of a manager at a present level
+pub record Advanceable (s masks index current seen w : List ℕ) (level h n : ℕ) : Type 0 where
   pub indexed : Indexed s index
   pub leveled : Leveled s masks
   pub placed : level < levelCount s
   pub fields-there : fieldWords ≤ length current
+  pub seen-there : fieldWords ≤ length seen
   pub room : stackWords ≤ length w
   pub stack : Stack (Known s) h (framesOf w)
   pub live : 0 < h
@@ -110,8 +111,8 @@ isLast (move.Pause e) = isOver e
 abbrev pub turnsLeft : ℕ → ℕ → ℕ
 turnsLeft h n = 2 * (maxScriptSteps - n) + h
 
-pub record Turned (s current : List ℕ) (all : Bool) (level h n : ℕ) (w w' : List ℕ) (r : Turn) : Type 0 where
-  pub turned : (m : Manager) (read : ℕ → ℕ → Value) → Stands m w level h n → Sees s current all level read → TurnedBy (programOf s) read m (r .height) (r .steps) (framesOf w') (r .made)
+pub record Turned (s current seen : List ℕ) (all : Bool) (level h n : ℕ) (w w' : List ℕ) (r : Turn) : Type 0 where
+  pub turned : (m : Manager) (read : ℕ → ℕ → Value) → Stands m w level h n → Sees s current seen all level read → TurnedBy (programOf s) read m (r .height) (r .steps) (framesOf w') (r .made)
   pub stack : isLast (r .made) ≡ false → Stack (Known s) (r .height) (framesOf w')
   pub live : isPause (r .made) ≡ false → 0 < r .height
   pub made : r .steps ≤ maxScriptSteps
@@ -122,8 +123,8 @@ pub record Turned (s current : List ℕ) (all : Bool) (level h n : ℕ) (w w' : 
   pub long : length w' ≡ length w
 
 -- it has made steps up to a pause
-pub record Advanced (s current : List ℕ) (all : Bool) (level h n : ℕ) (w w' : List ℕ) (r : Pause) : Type 0 where
-  pub paused : (m : Manager) (read : ℕ → ℕ → Value) → Stands m w level h n → Sees s current all level read → Paused (programOf s) read m (r .height) (r .steps) (framesOf w') (r .event)
+pub record Advanced (s current seen : List ℕ) (all : Bool) (level h n : ℕ) (w w' : List ℕ) (r : Pause) : Type 0 where
+  pub paused : (m : Manager) (read : ℕ → ℕ → Value) → Stands m w level h n → Sees s current seen all level read → Paused (programOf s) read m (r .height) (r .steps) (framesOf w') (r .event)
   pub stack : isOver (r .event) ≡ false → Stack (Known s) (r .height) (framesOf w')
   pub made : r .steps ≤ maxScriptSteps
   pub more : isOver (r .event) ≡ false → n < r .steps

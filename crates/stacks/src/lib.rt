@@ -8,6 +8,7 @@ mod operations;
 use managers::Ending;
 use operations::Move;
 use records::Ended;
+use records::values;
 use session::Message;
 use session::Step;
 use session::Value;
@@ -155,23 +156,26 @@ fn take_turn(
     masks: &[u16],
     index: &[u16],
     current: &[u32],
+    seen: &[u32],
     stack: &mut [u32],
     level: u8,
     height: u8,
     steps: u16,
     all: bool,
 ) -> Turn
-    requires { ⌜ Advanceable (now session) (now masks) (now index) (now current) (now stack) level height steps ⌝ }
-    ensures { λ r. ⌜ Turned (now (session .entry)) (now (current .entry)) all level height steps (now (stack .entry)) (now (stack .exit)) r ⌝ }
+    requires { ⌜ Advanceable (now session) (now masks) (now index) (now current) (now seen) (now stack) level height steps ⌝ }
+    ensures { λ r. ⌜ Turned (now (session .entry)) (now (current .entry)) (now (seen .entry)) all level height steps (now (stack .entry)) (now (stack .exit)) r ⌝ }
 {
     let at = height as usize - 1;
     let step = frames::next_step(session, index, stack, at);
     if is_end(step) {
         if at == 0 {
+            // NIL, by a call: so the value is stored whole, and a caller that loads it whole need not wait.
+            let none = values::value_of(0, 0);
             return Turn {
                 height,
                 steps,
-                made: Move::Pause(Event::Finished(Value::Nil)),
+                made: Move::Pause(Event::Finished(none)),
             };
         }
         frames::answer(stack, at, Value::Nil);
@@ -189,7 +193,7 @@ fn take_turn(
         };
     }
     frames::pass(stack, at);
-    let made = operations::operate(session, masks, current, stack, level, at, step, all);
+    let made = operations::operate(session, masks, current, seen, stack, level, at, step, all);
     Turn {
         height: height_after(height, made),
         steps: steps + 1,
@@ -205,19 +209,31 @@ pub fn advance(
     masks: &[u16],
     index: &[u16],
     current: &[u32],
+    seen: &[u32],
     stack: &mut [u32],
     level: u8,
     height: u8,
     steps: u16,
     all: bool,
 ) -> Pause
-    requires { ⌜ Advanceable (now session) (now masks) (now index) (now current) (now stack) level height steps ⌝ }
-    ensures { λ r. ⌜ Advanced (now (session .entry)) (now (current .entry)) all level height steps (now (stack .entry)) (now (stack .exit)) r ⌝ }
+    requires { ⌜ Advanceable (now session) (now masks) (now index) (now current) (now seen) (now stack) level height steps ⌝ }
+    ensures { λ r. ⌜ Advanced (now (session .entry)) (now (current .entry)) (now (seen .entry)) all level height steps (now (stack .entry)) (now (stack .exit)) r ⌝ }
 {
     let mut h = height;
     let mut n = steps;
     loop {
-        let t = take_turn(session, masks, index, current, stack, level, h, n, all);
+        let t = take_turn(
+            session,
+            masks,
+            index,
+            current,
+            seen,
+            stack,
+            level,
+            h,
+            n,
+            all,
+        );
         h = t.height;
         n = t.steps;
         let made = t.made;

@@ -8,8 +8,12 @@ use session::Step;
 use session::Value;
 use session::contents;
 ghost use Prim.Native.Nat.{_<_};
-ghost use mathlib.Core.Bool.{cond};
+ghost use mathlib.Core.Path.{_≡_};
+ghost use mathlib.Core.Bool.{true, cond};
+ghost use lib.ListN.{length};
+ghost use Rattle.lattice.specs.Table.{dominates, isOrdered};
 ghost use Rattle.session.specs.Limits.{registers, fields as fieldCount};
+ghost use Rattle.filter.specs.Filter.{fateOf};
 ghost use Rattle.managers.specs.Value.{isNilOr0};
 ghost use Rattle.managers.specs.Frame.{frameFor, register, atStep};
 ghost use Rattle.managers.specs.Manager.{top, withTop, popped, called, forked};
@@ -40,11 +44,13 @@ fn jump(stack: &mut [u32], at: usize, a: u8, b: u8)
     }
 }
 
-// READ field `b` into register `a`: of any object, or of one of the level; else it is left to others.
+// READ field `b` into register `a`: of any object, or of one of the level; of another as it was read before;
+// else it is left to others.
 fn read(
     session: &[u8],
     masks: &[u16],
     current: &[u32],
+    seen: &[u32],
     stack: &mut [u32],
     level: u8,
     at: usize,
@@ -52,28 +58,34 @@ fn read(
     b: u8,
     all: bool,
 ) -> Move
-    requires { ⌜ Operable (now session) (now masks) (now current) (now stack) level at × (a < registers) × (b < fieldCount) ⌝ }
-    ensures { λ r. ⌜ Operated (now (session .entry)) (now (current .entry)) all level at (now (stack .entry)) (now (stack .exit)) (Step.Read a b) r ⌝ }
+    requires { ⌜ Operable (now session) (now masks) (now current) (now seen) (now stack) level at × (a < registers) × (b < fieldCount) ⌝ }
+    ensures { λ r. ⌜ Operated (now (session .entry)) (now (current .entry)) (now (seen .entry)) all level at (now (stack .entry)) (now (stack .exit)) (Step.Read a b) r ⌝ }
 {
     let object = frames::object(stack, at);
-    if !all && contents::level_of(session, masks, object as usize) != level as usize {
-        return Move::Pause(Event::Read {
-            object,
-            field: b,
-            into: a,
-        });
+    if all || contents::level_of(session, masks, object as usize) == level as usize {
+        let value = fields::get(current, object as usize, b as usize);
+        frames::set_register(stack, at, a, value);
+        return Move::Stay;
     }
-    let seen = fields::get(current, object as usize, b as usize);
-    frames::set_register(stack, at, a, seen);
-    Move::Stay
+    if fields::is_known(seen, object as usize, b as usize) {
+        let value = fields::get(seen, object as usize, b as usize);
+        frames::set_register(stack, at, a, value);
+        return Move::Stay;
+    }
+    Move::Pause(Event::Read {
+        object,
+        field: b,
+        into: a,
+    })
 }
 
-// WRITE register `a` to field `b`: of an object of the level. `current` and `all` are for its contract, which
-// is that of every operation.
+// WRITE register `a` to field `b`: of an object of the level. `current`, `seen` and `all` are for its
+// contract, which is that of every operation.
 fn write(
     session: &[u8],
     masks: &[u16],
     current: &[u32],
+    seen: &[u32],
     stack: &[u32],
     level: u8,
     at: usize,
@@ -81,8 +93,8 @@ fn write(
     b: u8,
     all: bool,
 ) -> Move
-    requires { ⌜ Operable (now session) (now masks) (now current) (now stack) level at × (a < registers) × (b < fieldCount) ⌝ }
-    ensures { λ r. ⌜ Operated (now (session .entry)) (now (current .entry)) all level at (now (stack .entry)) (now (stack .entry)) (Step.Write a b) r ⌝ }
+    requires { ⌜ Operable (now session) (now masks) (now current) (now seen) (now stack) level at × (a < registers) × (b < fieldCount) ⌝ }
+    ensures { λ r. ⌜ Operated (now (session .entry)) (now (current .entry)) (now (seen .entry)) all level at (now (stack .entry)) (now (stack .entry)) (Step.Write a b) r ⌝ }
 {
     let object = frames::object(stack, at);
     if contents::level_of(session, masks, object as usize) != level as usize {
@@ -124,12 +136,23 @@ fn fork(stack: &mut [u32], at: usize, a: u8, b: u8, c: u8, level: u8) -> Move
     })
 }
 
-// SEND name `b` to object `c`, with register `a` as parameter and for the reply. `current` and `all` are for
-// its contract.
+// What becomes of a message, by the filter. The table is lent on by its parts: handed on as it came, it would
+// be loaded whole before the caller's two stores of it are done, at each SEND.
+fn fate_by(masks: &[u16], manager: usize, sender: usize, receiver: usize) -> Fate
+    requires { ⌜ isOrdered (now masks) ≡ true ⌝ }
+    ensures { λ r. ⌜ r ≡ fateOf (length (now (masks .entry))) (dominates (now (masks .entry))) manager sender receiver ⌝ }
+{
+    let n = masks.len();
+    filter::fate_of(&masks[..n], manager, sender, receiver)
+}
+
+// SEND name `b` to object `c`, with register `a` as parameter and for the reply. `current`, `seen` and
+// `all` are for its contract.
 fn send(
     session: &[u8],
     masks: &[u16],
     current: &[u32],
+    seen: &[u32],
     stack: &mut [u32],
     level: u8,
     at: usize,
@@ -138,12 +161,12 @@ fn send(
     c: u8,
     all: bool,
 ) -> Move
-    requires { ⌜ Operable (now session) (now masks) (now current) (now stack) level at × (a < registers) × Method c b (now session) ⌝ }
-    ensures { λ r. ⌜ Operated (now (session .entry)) (now (current .entry)) all level at (now (stack .entry)) (now (stack .exit)) (Step.Send a b c) r ⌝ }
+    requires { ⌜ Operable (now session) (now masks) (now current) (now seen) (now stack) level at × (a < registers) × Method c b (now session) ⌝ }
+    ensures { λ r. ⌜ Operated (now (session .entry)) (now (current .entry)) (now (seen .entry)) all level at (now (stack .entry)) (now (stack .exit)) (Step.Send a b c) r ⌝ }
 {
     let sender = contents::level_of(session, masks, frames::object(stack, at) as usize);
     let receiver = contents::level_of(session, masks, c as usize);
-    let fate = filter::fate_of(masks, level as usize, sender, receiver);
+    let fate = fate_by(masks, level as usize, sender, receiver);
     match fate {
         Fate::Call => call(stack, at, a, b, c, true),
         Fate::Discard => call(stack, at, a, b, c, false),
@@ -174,15 +197,16 @@ pub fn operate(
     session: &[u8],
     masks: &[u16],
     current: &[u32],
+    seen: &[u32],
     stack: &mut [u32],
     level: u8,
     at: usize,
     step: Step,
     all: bool,
 ) -> Move
-    requires { ⌜ Operable (now session) (now masks) (now current) (now stack) level at ⌝ }
+    requires { ⌜ Operable (now session) (now masks) (now current) (now seen) (now stack) level at ⌝ }
     requires { ⌜ Aimed (now session) step × Named step ⌝ }
-    ensures { λ r. ⌜ Operated (now (session .entry)) (now (current .entry)) all level at (now (stack .entry)) (now (stack .exit)) step r ⌝ }
+    ensures { λ r. ⌜ Operated (now (session .entry)) (now (current .entry)) (now (seen .entry)) all level at (now (stack .entry)) (now (stack .exit)) step r ⌝ }
 {
     match step {
         Step::End => Move::Stay,
@@ -200,9 +224,21 @@ pub fn operate(
             jump(stack, at, a, b);
             Move::Stay
         }
-        Step::Read { a, b } => read(session, masks, current, stack, level, at, a, b, all),
-        Step::Write { a, b } => write(session, masks, current, stack, level, at, a, b, all),
-        Step::Send { a, b, c } => send(session, masks, current, stack, level, at, a, b, c, all),
+        Step::Read { a, b } => read(session, masks, current, seen, stack, level, at, a, b, all),
+        Step::Write { a, b } => write(session, masks, current, seen, stack, level, at, a, b, all),
+        Step::Send { a, b, c } => send(
+            session,
+            masks,
+            current,
+            seen,
+            stack,
+            level,
+            at,
+            a,
+            b,
+            c,
+            all,
+        ),
         Step::Quit { a } => quit(stack, at, a),
     }
 }

@@ -113,13 +113,14 @@ module _ (s masks index : List ℕ) (a : Read s masks index) (left : ℕ) (f : F
   abbrev program : Program
   program = programOf s
 
-  pub go-able : Advanceable s masks index (w .current) k (c .level) (c .height) (c .steps)
+  pub go-able : Advanceable s masks index (w .current) (w .current) k (c .level) (c .height) (c .steps)
   go-able =
       record {
         indexed = record { accepted = a .accepted; index-is = a .index-is };
         leveled = record { accepted = a .accepted; masks-are = a .masks-are };
         placed = rw (go .level) (go .fork .placed);
         fields-there = q .1 .fields-there;
+        seen-there = q .1 .fields-there;
         room = go .room;
         stack = go .stack;
         live = go .live;
@@ -129,7 +130,7 @@ module _ (s masks index : List ℕ) (a : Read s masks index) (left : ℕ) (f : F
   placed : f .level < programOf s .levels
   placed = unfold programOf in go .fork .placed
 
-  module _ (k' : List ℕ) (r : Pause) (ad : Advanced s (w .current) true (c .level) (c .height) (c .steps) k k' r) where
+  module _ (k' : List ℕ) (r : Pause) (ad : Advanced s (w .current) (w .current) true (c .level) (c .height) (c .steps) k k' r) where
     abbrev m : Manager
     m = managerOf c (framesOf k)
 

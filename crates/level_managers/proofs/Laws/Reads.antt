@@ -1,6 +1,6 @@
 -- What the manager that runs at a level reads, from the words: the current field at its level, and below the newest version up to its
 -- bound there. Assumes nothing.
-use Prim.Native.Nat.{ℕ, _^_, _<_}
+use Prim.Native.Nat.{ℕ, _^_, _≤_, _<_}
 use mathlib.Core.Path.{_≡_, refl, sym, _∙_, ap, ap₂}
 use mathlib.Core.Bool.{cond}
 use mathlib.Core.List.{List}
@@ -20,17 +20,17 @@ use Rattle.managers.specs.declared.Manager.{Manager}
 use Rattle.model.specs.Fork.{Fork}
 use Rattle.model.specs.History.{History, endBefore}
 use Rattle.model.specs.Level.{Version, newestTo}
-use Rattle.model.specs.Step.{State, levelAt, readBound}
+use Rattle.model.specs.Step.{State, levelAt, readBound, readAt}
 use Rattle.model.proofs.Laws.Safe.Reads.{read-own, read-below}
 use Rattle.model.proofs.Laws.Code.Live.{Live}
 use Rattle.model.proofs.Laws.Code.Needs.{live-ends, live-versions, live-falling}
 use Rattle.records.specs.Fields.{fieldAt, FieldThere}
 use Rattle.records.specs.Histories.{historiesAt}
-use Rattle.versions.specs.Log.{logStart, logOf, Within}
+use Rattle.versions.specs.Log.{maxVersions, logStart, logOf, Within}
 use Rattle.versions.specs.Order.{StampsRise, PartitionPoint}
 use Rattle.versions.proofs.Laws.Order.{stamps-rise}
 use Rattle.level_managers.specs.Kept.{Words, versionsPlace, LevelTold}
-use Rattle.level_managers.specs.Steps.{Busy, IsBusy, runningFork, BoundReady, boundIn, ReadIs, ReachIs}
+use Rattle.level_managers.specs.Steps.{Busy, IsBusy, runningFork, BoundReady, boundIn, readIn, ReadIs, ReachIs}
 use Rattle.level_managers.proofs.Laws.Ready.{told-fork, busy-settles}
 use Rattle.level_managers.proofs.Laws.Step.{says-live}
 
@@ -92,6 +92,21 @@ module _ {s masks : List ℕ} (a : Leveled s masks) {w : Words} {l : ℕ} {ms : 
   versions-rise : StampsRise (w .work) (logStart j) (getD (w .tallies) (versionsPlace j) 0)
   versions-rise =
       stamps-rise (w .work) (logStart j) (getD (w .tallies) (versionsPlace j) 0) (rw versions-are (live-falling s (a .accepted) st live j h))
+
+-- what is read at another level is what the words say
+module _ {s masks : List ℕ} (a : Leveled s masks) {w : Words} {l : ℕ} {ms : ℕ → Manager} {st : State} {x : Fork} {m : Manager} (b : Busy s w l ms st x m) (o k : ℕ) (there : o < objectCount s) where
+  pub read-in : (levelOf s o ≡ l → ⊥) → readAt (programOf s) st l x o k ≡ readIn s w l o k
+  unfolding programOf
+  read-in apart =
+      let h = level-present s (a .accepted) o there in
+      read-below (programOf s) st l x o k apart
+      ∙ ap₂ (λ (v : ℕ) (vs : List Version). newestTo v (fieldOf s o k) o k vs) (sym (bound-is a b h)) (sym (versions-are a b h))
+
+  -- and there is no more of it than a level has room for
+  pub read-few : getD (w .tallies) (versionsPlace (levelOf s o)) 0 ≤ maxVersions
+  read-few =
+      let h = level-present s (a .accepted) o there in
+      versions-there a b h 0 (omega arith) .fits
 
 -- a read of field k of object o, which lies at level j
 module _ {s masks : List ℕ} (a : Leveled s masks) {w : Words} {l : ℕ} (q : IsBusy s w l) {o k : ℕ} (here : (o < objectCount s) × (k < fields)) {j : ℕ} (lies : j ≡ levelOf s o) where

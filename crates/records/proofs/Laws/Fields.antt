@@ -1,8 +1,10 @@
 -- Fields kept in words: one set, and all filled. Assumes nothing.
-use Prim.Native.Nat.{ℕ, _+_, _*_, _/_, _%_, _<_}
-use mathlib.Core.Path.{_≡_, refl, _∙_, ap₂}
+use Prim.Native.Nat.{ℕ, _+_, _-_, _*_, _/_, _%_, _<_}
+use mathlib.Core.Path.{_≡_, refl, _∙_, ap, ap₂}
+use mathlib.Core.Bool.{true, not}
 use mathlib.Core.List.{List}
 use native.Mathlib.Omega.{arith}
+use lib.Dec.{eqb}
 use lib.ListN.{set, length-set}
 use lib.Seq.{getD-set-same, getD-set-other}
 use Rattle.session.specs.Limits.{fields}
@@ -15,26 +17,26 @@ use Rattle.model.specs.Result.{tag, numberIn}
 use Rattle.rows.specs.Change.{Outside}
 use Rattle.rows.proofs.Laws.Outside.{outside-none, outside-wider, outside-then}
 use Rattle.rows.proofs.Laws.Moves.{outside-set}
-use Rattle.records.specs.Fields.{valueOf, fieldPlace, fieldAt, FieldThere, FieldSet, Filled}
+use Rattle.records.specs.Fields.{valueOf, fieldPlace, fieldAt, FieldThere, FieldSet, Remembered, Filled}
 
 -- a value is read back from its two words
 pub value-back : (v : Value) → valueOf (tag v) (numberIn v) ≡ v
 value-back Nil = refl
 value-back (Number n) = refl
 
--- a field whose two words are its value's holds it, and the others hold what they held
-pub field-set : (ws : List ℕ) (o k t n : ℕ) (v : Value) → FieldThere ws o k → t ≡ tag v → n ≡ numberIn v
+-- a field whose two words say a value holds it, and the others hold what they held
+pub field-stored : (ws : List ℕ) (o k t n : ℕ) (v : Value) → FieldThere ws o k → valueOf t n ≡ v
     → FieldSet ws (set (set ws (fieldPlace o k) t) (fieldPlace o k + 1) n) o k v
 unfolding fieldAt
-field-set ws o k t n v h et en =
+field-stored ws o k t n v h is =
     let at = fieldPlace o k in
     let one = set ws at t in
     record {
       set =
           ap₂ valueOf
-          (getD-set-other one (at + 1) at n 0 (omega arith) ∙ getD-set-same ws at t 0 (omega (arith, h .room, h .object, h .field)) ∙ et)
-          (getD-set-same one (at + 1) n 0 (omega (arith, length-set ws at t, h .room, h .object, h .field)) ∙ en)
-          ∙ value-back v;
+          (getD-set-other one (at + 1) at n 0 (omega arith) ∙ getD-set-same ws at t 0 (omega (arith, h .room, h .object, h .field)))
+          (getD-set-same one (at + 1) n 0 (omega (arith, length-set ws at t, h .room, h .object, h .field)))
+          ∙ is;
       others = λ o' k' l m.
           let apart : fields * o' + k' ≡ fields * o + k → ⊥ = λ e. m (omega (arith, h .field)) (omega (arith, h .field)) in
           ap₂ valueOf
@@ -44,6 +46,38 @@ field-set ws o k t n v h et en =
       outside =
           outside-set ws one at (at + 2) (at + 1) n (omega arith) (omega arith)
           (outside-set ws ws at (at + 2) at t (omega arith) (omega arith) (outside-none ws at (at + 2)));
+    }
+
+-- so does one whose words are its value's
+pub field-set : (ws : List ℕ) (o k t n : ℕ) (v : Value) → FieldThere ws o k → t ≡ tag v → n ≡ numberIn v
+    → FieldSet ws (set (set ws (fieldPlace o k) t) (fieldPlace o k + 1) n) o k v
+field-set ws o k t n v h et en = field-stored ws o k t n v h (ap₂ valueOf et en ∙ value-back v)
+
+-- a value that is known, as two words: the tag is 2 where it is NIL
+known-back : (v : Value) → valueOf (2 - tag v) (numberIn v) ≡ v
+known-back Nil = refl
+known-back (Number n) = refl
+
+known-tag : (v : Value) → not (eqb (2 - tag v) 0) ≡ true
+known-tag Nil = refl
+known-tag (Number n) = refl
+
+-- a field whose words are those of a known value is remembered
+pub field-remembered : (ws : List ℕ) (o k t n : ℕ) (v : Value) → FieldThere ws o k → t ≡ 2 - tag v → n ≡ numberIn v
+    → Remembered ws (set (set ws (fieldPlace o k) t) (fieldPlace o k + 1) n) o k v
+field-remembered ws o k t n v h et en =
+    let at = fieldPlace o k in
+    let one = set ws at t in
+    record {
+      field = field-stored ws o k t n v h (ap₂ valueOf et en ∙ known-back v);
+      known =
+          ap (λ x. not (eqb x 0))
+          (getD-set-other one (at + 1) at n 0 (omega arith) ∙ getD-set-same ws at t 0 (omega (arith, h .room, h .object, h .field)) ∙ et)
+          ∙ known-tag v;
+      others = λ o' k' l m.
+          let apart : fields * o' + k' ≡ fields * o + k → ⊥ = λ e. m (omega (arith, h .field)) (omega (arith, h .field)) in
+          ap (λ x. not (eqb x 0))
+          (getD-set-other one (at + 1) (fieldPlace o' k') n 0 (omega (arith, apart)) ∙ getD-set-other ws at (fieldPlace o' k') t 0 (λ e. apart (omega arith)));
     }
 
 -- the first i fields are filled

@@ -3,17 +3,21 @@ use Prim.Native.Nat.{ℕ, _+_, _-_, _≤_, _<_}
 use mathlib.Core.Path.{_≡_, refl, sym, _∙_, ap, subst}
 use mathlib.Core.Bool.{true, false, cond}
 use mathlib.Core.List.{List, []}
+use native.Mathlib.Decide.{ℕ-discrete}
 use native.Mathlib.Omega.{arith}
 use lib.ListN.{length, getD, set}
 use lib.Seq.{getD-set-other}
 use Rattle.lattice.proofs.Laws.Range.{not-both}
 use Rattle.session.specs.Limits.{maxLevels}
+use Rattle.session.specs.Parts.{objectCount}
+use Rattle.session.specs.Meaning.{levelOf}
 use Rattle.session.specs.Program.{Program, programOf}
 use Rattle.session.specs.Questions.{verdictOf}
 use Rattle.session.specs.declared.Verdict.the-variants.{Accepted}
 use Rattle.session.specs.declared.Value.{Value}
 use Rattle.session.specs.declared.Value.the-variants.{Nil}
 use Rattle.session.specs.declared.Message.{Message}
+use Rattle.session.proofs.Laws.Accepted.{level-present}
 use Rattle.session.proofs.Laws.Contents.{level-limit}
 use Rattle.session.proofs.Laws.Lists.{holds, fails, truth}
 use Rattle.managers.specs.Limits.{maxWrites, maxForks}
@@ -28,11 +32,13 @@ use Rattle.managers.specs.declared.Effect.the-variants as effect
 use Rattle.managers.specs.declared.Ending.the-variants.{Finished, OutOfSteps, OutOfWrites}
 use Rattle.model.specs.Fork.{Fork}
 use Rattle.model.specs.Step.{State, readAt}
-use Rattle.records.specs.Fields.{fieldAt}
+use Rattle.model.proofs.Laws.Code.Needs.{live-fork}
+use Rattle.versions.specs.Log.{maxVersions}
+use Rattle.records.specs.Fields.{fieldAt, Remembered}
 use Rattle.managers.proofs.Laws.Accepted.{known-register}
 use Rattle.managers.proofs.Laws.Stack.{replaced-stack}
 use Rattle.stacks.specs.Stack.{framesOf, frameIn, There, Replaced}
-use Rattle.stacks.specs.Moves.{caused, Sees, EventPresent}
+use Rattle.stacks.specs.Moves.{caused, shownIn, Sees, EventPresent}
 use Rattle.stacks.specs.Pauses.{Inside, standing, counting, Last, Paused, isOver, Advanceable, Stands, Advanced}
 use Rattle.stacks.specs.Course.{managerOf, settledOf}
 use Rattle.stacks.specs.declared.Course.{Course}
@@ -41,10 +47,12 @@ use Rattle.stacks.specs.declared.Event.the-variants as event
 use Rattle.stacks.specs.declared.Pause.{Pause}
 use Rattle.stacks.proofs.Laws.Events.{after, does-write, does-spent, does-read, does-fork, does-unforked}
 use Rattle.level_managers.specs.Kept.{Words, waitingPlace, versionsPlace, busyPlace, placed}
-use Rattle.level_managers.specs.Steps.{Read, IsBusy, ReadIs, WriteReady, Wrote, ForkReady, Forked, Parts, EffectReady, EffectDone}
-use Rattle.scheduler.specs.Running.{Draining, Lagging, courseIn, Goes, Lags, Gone}
+use Rattle.level_managers.specs.Steps.{Read, Busy, IsBusy, readIn, ReadIs, WriteReady, Wrote, ForkReady, Forked, Parts, EffectReady, EffectDone}
+use Rattle.scheduler.specs.Running.{Draining, Lagging, courseIn, Goes, Recalls, Lags, Gone}
+use Rattle.level_managers.proofs.Laws.Reads.{read-in, read-few}
+use Rattle.level_managers.proofs.Laws.Recall.{write-recalls, fork-recalls}
 use Rattle.level_managers.proofs.Laws.Ready.{settle-after}
-use Rattle.level_managers.proofs.Laws.Step.{rest-effect}
+use Rattle.level_managers.proofs.Laws.Step.{says-live, rest-effect}
 use Rattle.level_managers.proofs.Laws.Made.{partsOf}
 use Rattle.scheduler.proofs.Laws.Lagging.{Running, quiet-runs, running-busy, running-effect, running-step, running-quiet, lag-quiet, lag-running, running-start, running-sees}
 
@@ -105,7 +113,7 @@ nearBy c reach =
       near = reach;
     }
 
-module _ (s masks index : List ℕ) (rd : Read s masks index) (w : Words) (l : ℕ) (c : Course) (k : List ℕ) (goes : Goes s l c k) (there : Lags s w l c k) where
+module _ (s masks index : List ℕ) (rd : Read s masks index) (w : Words) (l : ℕ) (c : Course) (k seen : List ℕ) (goes : Goes s l c k) (there : Lags s w l c k seen) where
   abbrev acc : verdictOf s ≡ Accepted
   acc = rd .indexed .accepted
 
@@ -115,13 +123,14 @@ module _ (s masks index : List ℕ) (rd : Read s masks index) (w : Words) (l : �
   m₀ : Manager
   m₀ = managerOf c (framesOf k)
 
-  pub able : Advanceable s masks index (w .current) k (c .level) (c .height) (c .steps)
+  pub able : Advanceable s masks index (w .current) seen k (c .level) (c .height) (c .steps)
   able =
       record {
         indexed = rd .indexed;
         leveled = rd .leveled;
         placed = rw (goes .level) (goes .placed-there);
         fields-there = there .roomy .current;
+        seen-there = there .seen-there;
         room = goes .room;
         stack = goes .stack;
         live = goes .live;
@@ -132,12 +141,12 @@ module _ (s masks index : List ℕ) (rd : Read s masks index) (w : Words) (l : �
   stands =
       record { frames-are = refl; height-is = refl; steps-are = refl; level-is = refl; running = goes .running }
 
-  module _ (k₁ : List ℕ) (r : Pause) (ad : Advanced s (w .current) false (c .level) (c .height) (c .steps) k k₁ r) where
-    paused : (read : ℕ → ℕ → Value) → Sees s (w .current) false (c .level) read → Paused p read (managerOf c (framesOf k)) (r .height) (r .steps) (framesOf k₁) (r .event)
+  module _ (k₁ : List ℕ) (r : Pause) (ad : Advanced s (w .current) seen false (c .level) (c .height) (c .steps) k k₁ r) where
+    paused : (read : ℕ → ℕ → Value) → Sees s (w .current) seen false (c .level) read → Paused p read (managerOf c (framesOf k)) (r .height) (r .steps) (framesOf k₁) (r .event)
     paused read see = ad .paused (managerOf c (framesOf k)) read stands see
 
-    seen-level : (read : ℕ → ℕ → Value) → Sees s (w .current) false l read → Sees s (w .current) false (c .level) read
-    seen-level read see = subst (λ j. Sees s (w .current) false j read) (sym (goes .level)) see
+    seen-level : (read : ℕ → ℕ → Value) → Sees s (w .current) seen false l read → Sees s (w .current) seen false (c .level) read
+    seen-level read see = subst (λ j. Sees s (w .current) seen false j read) (sym (goes .level)) see
 
     small : l < maxLevels
     small = omega (arith, goes .placed-there, level-limit s acc)
@@ -155,16 +164,16 @@ module _ (s masks index : List ℕ) (rd : Read s masks index) (w : Words) (l : �
         begins = running-start s acc l (goes .placed-there) from w (concluded p (managerOf c (framesOf k))) drains (there .busy-there)
 
       -- it ends: with steps that concern nobody else, or it had
-      ends : (b : Manager) → ((read : ℕ → ℕ → Value) → Sees s (w .current) false (c .level) read → Inside p read (concluded p (managerOf c (framesOf k))) b) → Lagging s from w l b
+      ends : (b : Manager) → ((read : ℕ → ℕ → Value) → Sees s (w .current) seen false (c .level) read → Inside p read (concluded p (managerOf c (framesOf k))) b) → Lagging s from w l b
       ends b inside = elim (truth (isRunning (concluded p (managerOf c (framesOf k)) .ending))) [
         | holds run ↦
             let (x, g) = begins run in
             let read = readAt p (drains run .state) l x in
-            let see = running-sees s acc l (goes .placed-there) from w (concluded p (managerOf c (framesOf k))) x read g in
+            let see = running-sees s acc l (goes .placed-there) from (rd .leveled) w (concluded p (managerOf c (framesOf k))) x read g seen (there .recalls) in
             let (j, q) = inside read (seen-level read see) in
             lag-quiet s acc l (goes .placed-there) from w x read j (concluded p (managerOf c (framesOf k))) b lag-then (λ _. g) q
         | fails e ↦
-            let read = fieldAt (w .current) in
+            let read = shownIn s (w .current) seen false (c .level) in
             let (j, q) = inside read (λ o k _ _ _. refl) in
             let x : Fork = record { stamp = 0; depth = 0; seen = []; message = record { object = 0; name = 0; parameter = Nil } } in
             lag-quiet s acc l (goes .placed-there) from w x read j (concluded p (managerOf c (framesOf k))) b lag-then (λ run. absurd (not-both (isRunning (concluded p (managerOf c (framesOf k)) .ending)) run e)) q
@@ -180,11 +189,11 @@ module _ (s masks index : List ℕ) (rd : Read s masks index) (w : Words) (l : �
       before : (e : Event) → r .event ≡ e → isOver e ≡ false → Before e
       before e is o =
           let m = concluded p (managerOf c (framesOf k)) in
-          let first = paused-last (fieldAt (w .current)) e o (subst (Paused p (fieldAt (w .current)) (managerOf c (framesOf k)) (r .height) (r .steps) (framesOf k₁)) is (paused (fieldAt (w .current)) (λ o k _ _ _. refl))) in
-          let run = quiet-runs p (fieldAt (w .current)) (first .inside .0) m (standing (managerOf c (framesOf k)) (r .height) (first .frames) (first .steps)) (first .inside .1) (goes .running) in
+          let first = paused-last (shownIn s (w .current) seen false (c .level)) e o (subst (Paused p (shownIn s (w .current) seen false (c .level)) (managerOf c (framesOf k)) (r .height) (r .steps) (framesOf k₁)) is (paused (shownIn s (w .current) seen false (c .level)) (λ o k _ _ _. refl))) in
+          let run = quiet-runs p (shownIn s (w .current) seen false (c .level)) (first .inside .0) m (standing (managerOf c (framesOf k)) (r .height) (first .frames) (first .steps)) (first .inside .1) (goes .running) in
           let (x, g) = begins run in
           let read = readAt p (drains run .state) l x in
-          let see = running-sees s acc l (goes .placed-there) from w m x read g in
+          let see = running-sees s acc l (goes .placed-there) from (rd .leveled) w m x read g seen (there .recalls) in
           let d = paused-last read e o (subst (Paused p read (managerOf c (framesOf k)) (r .height) (r .steps) (framesOf k₁)) is (paused read (seen-level read see))) in
           record {
             fork = x;
@@ -206,9 +215,11 @@ module _ (s masks index : List ℕ) (rd : Read s masks index) (w : Words) (l : �
         ready n is =
             running-effect s acc l (goes .placed-there) from w here (g .fork) (g .read) (g .runs) (n .effect) (ap (λ n. n .effect) (g .last .does ∙ is))
 
+        busy-at : Busy s w l (placed l here (λ _. here)) (g .runs .drain .state) (g .fork) here
+        busy-at = running-busy s acc l (goes .placed-there) from w here (g .fork) (g .read) (g .runs) (λ _. here)
+
         busy-now : IsBusy s w l
-        busy-now =
-            (placed l here (λ _. here), (g .runs .drain .state, (g .fork, (here, running-busy s acc l (goes .placed-there) from w here (g .fork) (g .read) (g .runs) (λ _. here)))))
+        busy-now = (placed l here (λ _. here), (g .runs .drain .state, (g .fork, (here, busy-at))))
 
         reads-now : (o i : ℕ) (v : Value) → ReadIs s w l o i v → g .read o i ≡ v
         reads-now o i v is =
@@ -231,7 +242,7 @@ module _ (s masks index : List ℕ) (rd : Read s masks index) (w : Words) (l : �
         }
 
     -- it has ended, and no words change
-    over-gone : (n : Course) → isRunning (n .ending) ≡ false → n .first ≡ c .first → n .forks ≡ c .forks → ((from : State) → Lagging s from w l (courseIn s c k) → Lagging s from w l (managerOf n (framesOf k₁))) → Gone s l c k k₁ w w n
+    over-gone : (n : Course) → isRunning (n .ending) ≡ false → n .first ≡ c .first → n .forks ≡ c .forks → ((from : State) → Lagging s from w l (courseIn s c k) → Lagging s from w l (managerOf n (framesOf k₁))) → Gone s l c k k₁ seen seen w w n
     over-gone n o e1 e2 lags =
         record {
           lags = λ from lag. subst (λ b. Lagging s from w l (cond b (concluded p (managerOf n (framesOf k₁))) (managerOf n (framesOf k₁)))) (sym o) (lags from lag);
@@ -240,17 +251,19 @@ module _ (s masks index : List ℕ) (rd : Read s masks index) (w : Words) (l : �
           forked = rw e2 (goes .forked);
           more = λ x. absurd (not-both (isRunning (n .ending)) x o);
           long = ad .long;
+          recalls = λ x. absurd (not-both (isRunning (n .ending)) x o);
+          seen-long = refl;
           count = refl;
           busy-still = refl;
           settles = λ z. z;
           rest = refl;
         }
 
-    pub gone-finished : (v : Value) → r .event ≡ event.Finished v → Gone s l c k k₁ w w (record { level = c .level; first = c .first; steps = r .steps; writes = c .writes; forks = c .forks; ending = Finished; reply = v; height = 0; near = c .near })
+    pub gone-finished : (v : Value) → r .event ≡ event.Finished v → Gone s l c k k₁ seen seen w w (record { level = c .level; first = c .first; steps = r .steps; writes = c .writes; forks = c .forks; ending = Finished; reply = v; height = 0; near = c .near })
     gone-finished v is =
         over-gone _ refl refl refl (λ from lag. ends from lag _ (λ read see. subst (Paused p read (managerOf c (framesOf k)) (r .height) (r .steps) (framesOf k₁)) is (paused read see)))
 
-    pub gone-out : r .event ≡ event.OutOfSteps → Gone s l c k k₁ w w (record { level = c .level; first = c .first; steps = r .steps; writes = c .writes; forks = c .forks; ending = OutOfSteps; reply = c .reply; height = r .height; near = c .near })
+    pub gone-out : r .event ≡ event.OutOfSteps → Gone s l c k k₁ seen seen w w (record { level = c .level; first = c .first; steps = r .steps; writes = c .writes; forks = c .forks; ending = OutOfSteps; reply = c .reply; height = r .height; near = c .near })
     gone-out is =
         over-gone _ refl refl refl (λ from lag. ends from lag _ (λ read see. subst (Paused p read (managerOf c (framesOf k)) (r .height) (r .steps) (framesOf k₁)) is (paused read see)))
 
@@ -275,8 +288,8 @@ module _ (s masks index : List ℕ) (rd : Read s masks index) (w : Words) (l : �
     event-present e is = subst (EventPresent s) is (ad .present)
 
     -- a course that runs on after an event with an effect
-    on-gone : (e : Event) → r .event ≡ e → isOver e ≡ false → (n : Course) (k' : List ℕ) (q : Parts) (eff : Effect) → n .ending ≡ c .ending → n .level ≡ c .level → n .first ≡ c .first → n .height ≡ r .height → n .steps ≡ r .steps → n .writes ≤ maxWrites → n .forks ≤ maxForks → length k' ≡ length k → Stack (Known s) (r .height) (framesOf k') → EffectDone (partsOf w) q l (c .first + c .forks) (c .forks) eff → ((u : ℕ) (message : Message) → eff ≡ effect.Fork u message → u < maxLevels) → ((from : State) (lag : Lagging s from w l (courseIn s c k)) (g : Before from lag e) → counting p (caused (g .read) (here from lag e g) (framesOf k₁) e) ≡ record { manager = settledOf p (managerOf n (framesOf k')); effect = eff }) → Gone s l c k k' w (record { current = q .current; ended = w .ended; tallies = q .tallies; queue = q .queue; work = q .work }) n
-    on-gone e is o n k' q eff e1 e2 e3 e4 e5 e6 e7 long known d low does =
+    on-gone : (e : Event) → r .event ≡ e → isOver e ≡ false → (n : Course) (k' seen' : List ℕ) (q : Parts) (eff : Effect) → n .ending ≡ c .ending → n .level ≡ c .level → n .first ≡ c .first → n .height ≡ r .height → n .steps ≡ r .steps → n .writes ≤ maxWrites → n .forks ≤ maxForks → length k' ≡ length k → Stack (Known s) (r .height) (framesOf k') → EffectDone (partsOf w) q l (c .first + c .forks) (c .forks) eff → ((u : ℕ) (message : Message) → eff ≡ effect.Fork u message → u < maxLevels) → ((from : State) (lag : Lagging s from w l (courseIn s c k)) (g : Before from lag e) → counting p (caused (g .read) (here from lag e g) (framesOf k₁) e) ≡ record { manager = settledOf p (managerOf n (framesOf k')); effect = eff }) → Recalls s (record { current = q .current; ended = w .ended; tallies = q .tallies; queue = q .queue; work = q .work }) l seen' → length seen' ≡ length seen → Gone s l c k k' seen seen' w (record { current = q .current; ended = w .ended; tallies = q .tallies; queue = q .queue; work = q .work }) n
+    on-gone e is o n k' seen' q eff e1 e2 e3 e4 e5 e6 e7 long known d low does recalls' same =
         record {
           lags = λ from lag.
               let g = before from lag e is o in
@@ -286,15 +299,24 @@ module _ (s masks index : List ℕ) (rd : Read s masks index) (w : Words) (l : �
           forked = e7;
           more = λ _. rw e5 (ad .more (ap isOver is ∙ o));
           long = long;
+          recalls = λ _. recalls';
+          seen-long = same;
           count = effect-count (partsOf w) q l (c .first + c .forks) (c .forks) eff small d;
           busy-still = effect-busy (partsOf w) q l (c .first + c .forks) (c .forks) eff small low d;
           settles = λ z. settle-after (partsOf w) q (w .ended) l (c .first + c .forks) (c .forks) eff d z;
           rest = rest-effect (partsOf w) q l (c .first + c .forks) (c .forks) eff d;
         }
 
+    -- an object's level, and how many versions there are at it
+    object-low : (o : ℕ) → o < objectCount s → levelOf s o < maxLevels
+    object-low o ho = omega (arith, level-present s acc o ho, level-limit s acc)
+
+    reads-few : (e : Event) → r .event ≡ e → isOver e ≡ false → (o : ℕ) → o < objectCount s → getD (w .tallies) (versionsPlace (levelOf s o)) 0 ≤ maxVersions
+    reads-few e is o object ho = read-few (rd .leveled) (busy-at (there .from) (there .lagging) e (now e is o)) object 0 ho
+
     -- a WRITE
     module _ (o i : ℕ) (v : Value) (is : r .event ≡ event.Write o i v) where
-      pub gone-spent : maxWrites ≤ c .writes → Gone s l c k k₁ w w (after c r (c .writes) (c .forks) OutOfWrites)
+      pub gone-spent : maxWrites ≤ c .writes → Gone s l c k k₁ seen seen w w (after c r (c .writes) (c .forks) OutOfWrites)
       gone-spent all =
           over-gone (after c r (c .writes) (c .forks) OutOfWrites) refl refl refl (λ from lag.
           let g = before from lag (event.Write o i v) is refl in
@@ -310,32 +332,53 @@ module _ (s masks index : List ℕ) (rd : Read s masks index) (w : Words) (l : �
             let g = now (event.Write o i v) is refl in
             ready (there .from) (there .lagging) (event.Write o i v) g _ (made (there .from) (there .lagging) g)
 
-        pub gone-wrote : (current' tallies' work' : List ℕ) → Wrote (w .current) current' (w .tallies) tallies' (w .work) work' l (c .first + c .forks) o i v → Gone s l c k k₁ w (record { current = current'; ended = w .ended; tallies = tallies'; queue = w .queue; work = work' }) (after c r (c .writes + 1) (c .forks) (c .ending))
+        pub gone-wrote : (current' tallies' work' : List ℕ) → Wrote (w .current) current' (w .tallies) tallies' (w .work) work' l (c .first + c .forks) o i v → Gone s l c k k₁ seen seen w (record { current = current'; ended = w .ended; tallies = tallies'; queue = w .queue; work = work' }) (after c r (c .writes + 1) (c .forks) (c .ending))
         gone-wrote current' tallies' work' d =
-            on-gone (event.Write o i v) is refl (after c r (c .writes + 1) (c .forks) (c .ending)) k₁ (record { current = current'; tallies = tallies'; queue = w .queue; work = work' }) (effect.Write o i v) refl refl refl refl refl (omega (arith, few)) (goes .forked) (ad .long) (event-known (event.Write o i v) is refl) (d, refl) (λ u message e. absurd (no-fork o i v u message e)) made
+            on-gone (event.Write o i v) is refl (after c r (c .writes + 1) (c .forks) (c .ending)) k₁ seen (record { current = current'; tallies = tallies'; queue = w .queue; work = work' }) (effect.Write o i v) refl refl refl refl refl (omega (arith, few)) (goes .forked) (ad .long) (event-known (event.Write o i v) is refl) (d, refl) (λ u message e. absurd (no-fork o i v u message e)) made
+            (λ o' k' ho hk apart known. there .recalls o' k' ho hk apart known ∙ sym (write-recalls s w l small o' k' (object-low o' ho) apart current' tallies' work' (c .first + c .forks) o i v d (reads-few (event.Write o i v) is refl o' ho))) refl
 
     -- a READ of a lower level's field
     module _ (o i a : ℕ) (is : r .event ≡ event.Read o i a) where
       pub read-busy : IsBusy s w l
       read-busy = busy-now (there .from) (there .lagging) (event.Read o i a) (now (event.Read o i a) is refl)
 
-      pub gone-read : (v : Value) (reach : ℕ) → ReadIs s w l o i v → (k₂ : List ℕ) → Replaced k₁ k₂ (r .height - 1) (withRegister (frameIn k₁ (r .height - 1)) a v) → Gone s l c k k₂ w w (nearBy (after c r (c .writes) (c .forks) (c .ending)) reach)
-      gone-read v reach sees k₂ z =
+      -- what was read is kept, beside what was kept before
+      remembers : (v : Value) → ReadIs s w l o i v → (seen' : List ℕ) → Remembered seen seen' o i v → Recalls s w l seen'
+      remembers v sees seen' kept o' k' ho hk apart known = elim (ℕ-discrete o' o) [
+        | yes eo ↦ elim (ℕ-discrete k' i) [
+          | yes ek ↦ rw (eo, ek) (kept .field .set ∙ is-read (λ z. apart (ap (levelOf s) eo ∙ z)))
+          | no nk ↦ other (λ _ z. nk z)
+        ]
+        | no no' ↦ other (λ z _. no' z)
+      ]
+        where
+          is-read : (levelOf s o ≡ l → ⊥) → v ≡ readIn s w l o i
+          is-read apart =
+              let run = busy-at (there .from) (there .lagging) (event.Read o i a) (now (event.Read o i a) is refl) in
+              sym (sees _ _ _ _ run) ∙ read-in (rd .leveled) run o i (event-present (event.Read o i a) is .0) apart
+
+          other : (o' ≡ o → k' ≡ i → ⊥) → fieldAt seen' o' k' ≡ readIn s w l o' k'
+          other d = kept .field .others o' k' hk d ∙ there .recalls o' k' ho hk apart (sym (kept .others o' k' hk d) ∙ known)
+
+      pub gone-read : (v : Value) (reach : ℕ) → ReadIs s w l o i v → (seen' : List ℕ) → Remembered seen seen' o i v → length seen' ≡ length seen → (k₂ : List ℕ) → Replaced k₁ k₂ (r .height - 1) (withRegister (frameIn k₁ (r .height - 1)) a v) → Gone s l c k k₂ seen seen' w w (nearBy (after c r (c .writes) (c .forks) (c .ending)) reach)
+      gone-read v reach sees seen' kept same k₂ z =
           let live = event-live (event.Read o i a) is refl in
           let known = event-known (event.Read o i a) is refl in
           let top-known : Known s (frameIn k₁ (r .height - 1)) = known .each (r .height - 1) (omega (arith, live)) in
           let then : Stack (Known s) (r .height) (framesOf k₂) = rw (z .frames) (replaced-stack (Known s) (managerOf (after c r (c .writes) (c .forks) (c .ending)) (framesOf k₁)) (withRegister (frameIn k₁ (r .height - 1)) a v) known (known-register s (frameIn k₁ (r .height - 1)) a v top-known)) in
-          on-gone (event.Read o i a) is refl (nearBy (after c r (c .writes) (c .forks) (c .ending)) reach) k₂ (partsOf w) effect.Nothing refl refl refl refl refl (goes .wrote) (goes .forked) (z .long ∙ ad .long) then refl (λ u message e. absurd (nothing-fork u message e))
+          on-gone (event.Read o i a) is refl (nearBy (after c r (c .writes) (c .forks) (c .ending)) reach) k₂ seen' (partsOf w) effect.Nothing refl refl refl refl refl (goes .wrote) (goes .forked) (z .long ∙ ad .long) then refl (λ u message e. absurd (nothing-fork u message e))
           (λ from lag g.
           does-read p (g .read) c r (framesOf k) (g .last .frames) (framesOf k₁) (g .last .steps) (g .last .one-more) o i a (framesOf k₂)
           (z .frames ∙ ap (λ u. set (framesOf k₁) (r .height - 1) (withRegister (frameIn k₁ (r .height - 1)) a u)) (sym (reads-now from lag (event.Read o i a) g o i v sees))))
+          (remembers v sees seen' kept) same
 
     -- a fork
     module _ (u o b : ℕ) (v : Value) (is : r .event ≡ event.Fork u o b v) where
-      pub gone-unforked : maxForks ≤ c .forks → Gone s l c k k₁ w w (after c r (c .writes) (c .forks) (c .ending))
+      pub gone-unforked : maxForks ≤ c .forks → Gone s l c k k₁ seen seen w w (after c r (c .writes) (c .forks) (c .ending))
       gone-unforked all =
-          on-gone (event.Fork u o b v) is refl (after c r (c .writes) (c .forks) (c .ending)) k₁ (partsOf w) effect.Nothing refl refl refl refl refl (goes .wrote) (goes .forked) (ad .long) (event-known (event.Fork u o b v) is refl) refl (λ u message e. absurd (nothing-fork u message e))
+          on-gone (event.Fork u o b v) is refl (after c r (c .writes) (c .forks) (c .ending)) k₁ seen (partsOf w) effect.Nothing refl refl refl refl refl (goes .wrote) (goes .forked) (ad .long) (event-known (event.Fork u o b v) is refl) refl (λ u message e. absurd (nothing-fork u message e))
           (λ from lag g. does-unforked p (g .read) c r (framesOf k) (g .last .frames) (framesOf k₁) (g .last .steps) (g .last .one-more) u o b v all)
+          (there .recalls) refl
 
       module _ (few : c .forks < maxForks) where
         abbrev message : Message
@@ -350,6 +393,14 @@ module _ (s masks index : List ℕ) (rd : Read s masks index) (w : Words) (l : �
             let g = now (event.Fork u o b v) is refl in
             ready (there .from) (there .lagging) (event.Fork u o b v) g _ (makes (there .from) (there .lagging) g)
 
-        pub gone-forked : (tallies' queue' : List ℕ) → Forked (w .tallies) tallies' (w .queue) queue' l (c .first + c .forks) (c .forks) u (record { object = o; name = b; parameter = v }) → Gone s l c k k₁ w (record { current = w .current; ended = w .ended; tallies = tallies'; queue = queue'; work = w .work }) (after c r (c .writes) (c .forks + 1) (c .ending))
+        -- it goes to another level
+        upward : l ≡ u → ⊥
+        upward e =
+            let g = now (event.Fork u o b v) is refl in
+            let run = busy-at (there .from) (there .lagging) (event.Fork u o b v) g in
+            live-fork s acc (g .runs .drain .state) (says-live s acc w _ (g .runs .drain .state) (run .says)) l (goes .placed-there) (g .fork) (here (there .from) (there .lagging) (event.Fork u o b v) g) (g .runs .runs) (g .read) u (record { object = o; name = b; parameter = v }) (ap (λ n. n .effect) (g .last .does ∙ makes (there .from) (there .lagging) g)) .1 .0 (sym e)
+
+        pub gone-forked : (tallies' queue' : List ℕ) → Forked (w .tallies) tallies' (w .queue) queue' l (c .first + c .forks) (c .forks) u (record { object = o; name = b; parameter = v }) → Gone s l c k k₁ seen seen w (record { current = w .current; ended = w .ended; tallies = tallies'; queue = queue'; work = w .work }) (after c r (c .writes) (c .forks + 1) (c .ending))
         gone-forked tallies' queue' d =
-            on-gone (event.Fork u o b v) is refl (after c r (c .writes) (c .forks + 1) (c .ending)) k₁ (record { current = w .current; tallies = tallies'; queue = queue'; work = w .work }) (effect.Fork u (record { object = o; name = b; parameter = v })) refl refl refl refl refl (goes .wrote) (omega (arith, few)) (ad .long) (event-known (event.Fork u o b v) is refl) (d, (refl, refl)) (λ u' message' e. subst (λ x. x < maxLevels) (ap (forkLevel 0) e) (fork-ready .room .level)) makes
+            on-gone (event.Fork u o b v) is refl (after c r (c .writes) (c .forks + 1) (c .ending)) k₁ seen (record { current = w .current; tallies = tallies'; queue = queue'; work = w .work }) (effect.Fork u (record { object = o; name = b; parameter = v })) refl refl refl refl refl (goes .wrote) (omega (arith, few)) (ad .long) (event-known (event.Fork u o b v) is refl) (d, (refl, refl)) (λ u' message' e. subst (λ x. x < maxLevels) (ap (forkLevel 0) e) (fork-ready .room .level)) makes
+            (λ o' k' ho hk apart known. there .recalls o' k' ho hk apart known ∙ sym (fork-recalls s w l small o' k' (object-low o' ho) apart tallies' queue' (c .first + c .forks) (c .forks) u (record { object = o; name = b; parameter = v }) d (fork-ready .room .level) upward (fork-ready .there .placed))) refl

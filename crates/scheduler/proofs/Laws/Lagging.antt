@@ -6,9 +6,11 @@ use mathlib.Core.List.{List}
 use native.Mathlib.Decide.{ℕ-discrete}
 use native.Mathlib.Omega.{arith}
 use borrow.Author.Tests.{eq-eqb, eqb-true}
+use lib.Dec.{eqb}
 use lib.ListN.{length, getD}
+use Rattle.lattice.proofs.Laws.Range.{not-both}
 use Rattle.session.specs.Limits.{maxLevels, fields}
-use Rattle.session.specs.Parts.{levelCount}
+use Rattle.session.specs.Parts.{levelCount, objectCount}
 use Rattle.session.specs.Meaning.{levelOf}
 use Rattle.session.specs.Program.{Program, programOf}
 use Rattle.session.specs.Questions.{verdictOf}
@@ -16,7 +18,9 @@ use Rattle.session.specs.declared.Verdict.the-variants.{Accepted}
 use Rattle.session.specs.declared.Value.{Value}
 use Rattle.session.specs.declared.Step.{Step}
 use Rattle.session.specs.declared.Step.the-variants as op
+use Rattle.session.proofs.Laws.Lists.{holds, fails, truth}
 use Rattle.session.proofs.Laws.Contents.{level-limit, object-limit}
+use Rattle.managers.specs.Valid.{Leveled}
 use Rattle.managers.specs.Frame.{atStep}
 use Rattle.managers.specs.Manager.{isRunning, top, nextStep, operated, stepped, counted}
 use Rattle.managers.specs.declared.Frame.{Frame}
@@ -32,12 +36,14 @@ use Rattle.model.proofs.Laws.Lists.{modify-at, modify-other}
 use Rattle.model.proofs.Laws.Order.Accepted.{sound}
 use Rattle.model.proofs.Laws.Code.Live.{Live, present}
 use Rattle.model.proofs.Laws.Code.Direct.{step-advance}
+use Rattle.records.specs.Fields.{fieldAt, knownAt}
 use Rattle.stacks.specs.Pauses.{Quietly}
 use Rattle.stacks.specs.Moves.{Sees}
 use Rattle.level_managers.specs.Kept.{Words, busyPlace, Runs, LevelTold, Says, placed}
 use Rattle.level_managers.specs.Permits.{managed}
 use Rattle.level_managers.specs.Steps.{Busy, Parts, EffectReady, EffectDone, Settled}
-use Rattle.scheduler.specs.Running.{Draining, Lagging}
+use Rattle.scheduler.specs.Running.{Draining, Lagging, Recalls}
+use Rattle.level_managers.proofs.Laws.Reads.{read-in}
 use Rattle.level_managers.proofs.Laws.Made.{partsOf, settled-on}
 use Rattle.level_managers.proofs.Laws.Ready.{told-runs, effect-ready}
 use Rattle.level_managers.proofs.Laws.Settle.{placed-own}
@@ -205,9 +211,20 @@ module _ (s : List ℕ) (a : verdictOf s ≡ Accepted) (l : ℕ) (h : l < levelC
       (x, record { drain = g; runs = e; reads = λ o k. refl })
 
   -- at its level it reads what the words of the fields say
-  pub running-sees : (w : Words) (m : Manager) (x : Fork) (read : ℕ → ℕ → Value) → Running w m x read → Sees s (w .current) false l read
+  own-read : (w : Words) (m : Manager) (x : Fork) (read : ℕ → ℕ → Value) → Running w m x read → (o k : ℕ) → o < objectCount s → k < fields → levelOf s o ≡ l → read o k ≡ fieldAt (w .current) o k
   unfolding readAt programOf
-  running-sees w m x read g o k ho hk e =
-      let own : levelOf s o ≡ l = eqb-true (levelOf s o) l e in
-      sym (g .reads o k)
-      ∙ rw (eq-eqb (levelOf s o) l own) (sym (g .drain .says (λ _. m) .told .field o k ho hk))
+  own-read w m x read g o k ho hk own =
+      sym (g .reads o k) ∙ rw (eq-eqb (levelOf s o) l own) (sym (g .drain .says (λ _. m) .told .field o k ho hk))
+
+  -- and at other levels what is kept of its reads
+  pub running-sees : {masks : List ℕ} → Leveled s masks → (w : Words) (m : Manager) (x : Fork) (read : ℕ → ℕ → Value) → Running w m x read → (seen : List ℕ) → Recalls s w l seen → Sees s (w .current) seen false l read
+  running-sees lent w m x read g seen recalls o k ho hk e = elim (truth (eqb (levelOf s o) l)) [
+    | holds q ↦ own-read w m x read g o k ho hk (eqb-true (levelOf s o) l q) ∙ rw q refl
+    | fails q ↦
+        let apart : levelOf s o ≡ l → ⊥ = λ z. not-both (eqb (levelOf s o) l) (eq-eqb (levelOf s o) l z) q in
+        let known : knownAt seen o k ≡ true = rw q at e in
+        sym (g .reads o k)
+        ∙ read-in lent (running-busy w m x read g (λ _. m)) o k ho apart
+        ∙ sym (recalls o k ho hk apart known)
+        ∙ rw q refl
+  ]

@@ -3,9 +3,10 @@ use Prim.Native.Nat.{ℕ, _+_, _-_, _^_, _≤_, _<_}
 use mathlib.Core.Path.{_≡_, refl, _∙_, ap, subst}
 use mathlib.Core.Bool.{true, false, cond}
 use mathlib.Core.List.{List, []}
+use native.Mathlib.Decide.{decLt}
 use native.Mathlib.Omega.{arith}
 use borrow.Author.Tests.{lt-ltb, le-ltb}
-use lib.ListN.{length, getD, set, length-set}
+use lib.ListN.{length, getD, set, replicate, length-set, length-replicate, getD-replicate, List·getD-eq-default}
 use lib.Seq.{getD-set-same, getD-set-other}
 use Rattle.lattice.proofs.Laws.Range.{not-both}
 use Rattle.session.specs.Limits.{maxLevels}
@@ -27,6 +28,8 @@ use Rattle.managers.proofs.Laws.Stack.{first-stack}
 use Rattle.model.specs.Limits.{maxManagers}
 use Rattle.model.specs.Step.{State, levelAt}
 use Rattle.model.proofs.Laws.Code.Progress.{allowed}
+use Rattle.records.specs.Limits.{fieldWords}
+use Rattle.records.specs.Fields.{fieldPlace}
 use Rattle.stacks.specs.Stack.{stackWords, framesOf}
 use Rattle.stacks.specs.Course.{managerOf, begun}
 use Rattle.stacks.specs.declared.Course.{Course}
@@ -34,14 +37,27 @@ use Rattle.level_managers.specs.Kept.{Words, nextPlace, waitingPlace, busyPlace
 use Rattle.level_managers.specs.Permits.{managed}
 use Rattle.level_managers.specs.Steps.{Read, runningFork, SettleReady, begunTallies, StartReady}
 use Rattle.scheduler.specs.Runs.{SameRest, LevelReady, LevelDone}
-use Rattle.scheduler.specs.Running.{Draining, Lagging, courseIn, Goes, Lags, Gone, CloseReady, Closes, NextReady, NextDone}
+use Rattle.scheduler.specs.Running.{Draining, Lagging, courseIn, Goes, Recalls, Lags, Gone, CloseReady, Closes, NextReady, NextDone}
 use Rattle.level_managers.proofs.Laws.Made as made
 use Rattle.scheduler.proofs.Laws.Level.{LevelLoop, drain-may, drain-step, level-start, level-done}
 
+-- words that hold 0 say 0 at every place
+zeros : (n i : ℕ) → getD {A = ℕ} (replicate n 0) i 0 ≡ 0
+zeros n i = elim (decLt i n) [
+  | yes h ↦ getD-replicate n i 0 0 h
+  | no h ↦ List·getD-eq-default (replicate n 0) 0 (rw (length-replicate {A = ℕ} n 0) (omega (arith, h)))
+]
+
+-- so nothing is known in them
+none-known : (s : List ℕ) (w : Words) (l : ℕ) → Recalls s w l (replicate fieldWords 0)
+none-known s w l o k ho hk apart known = absurd (not-both false (rw (zeros fieldWords (fieldPlace o k)) at known) refl)
+
 -- what holds each time round while the manager runs, from its course c₀ on
-pub record NextLoop (s : List ℕ) (w₀ w : Words) (l : ℕ) (c₀ : Course) (k₀ : List ℕ) (c : Course) (k : List ℕ) : Type 0 where
+pub record NextLoop (s : List ℕ) (w₀ w : Words) (l : ℕ) (c₀ : Course) (k₀ : List ℕ) (c : Course) (k seen : List ℕ) : Type 0 where
   pub lags : (from : State) → Lagging s from w₀ l (courseIn s c₀ k₀) → Lagging s from w l (courseIn s c k)
   pub still : isRunning (c .ending) ≡ true → Goes s l c k
+  pub recalls : isRunning (c .ending) ≡ true → Recalls s w l seen
+  pub seen-long : length seen ≡ fieldWords
   pub forked : c .forks ≤ maxForks
   pub fits : c .first + maxForks + 1 < 2 ^ 16
   pub busy-there : getD (w .tallies) (busyPlace l) 0 ≡ 1
@@ -135,7 +151,7 @@ module _ (s masks index : List ℕ) (rd : Read s masks index) (w₀ : Words) (l 
         let less = getD t (waitingPlace l) 0 - 1 in
         length-set (set t (waitingPlace l) less) (busyPlace l) 1 ∙ length-set t (waitingPlace l) less
 
-    pub next-start : NextLoop s begunWords begunWords l c k c k
+    pub next-start : NextLoop s begunWords begunWords l c k c k (replicate fieldWords 0)
     next-start =
         let t = w₀ .tallies in
         let less = getD t (waitingPlace l) 0 - 1 in
@@ -143,6 +159,8 @@ module _ (s masks index : List ℕ) (rd : Read s masks index) (w₀ : Words) (l 
         record {
           lags = λ from lag. lag;
           still = λ _. goes;
+          recalls = λ _. none-known s begunWords l;
+          seen-long = length-replicate {A = ℕ} fieldWords 0;
           forked = goes .forked;
           fits = goes .fits;
           busy-there = getD-set-same (set t (waitingPlace l) less) (busyPlace l) 1 0 there;
@@ -156,7 +174,7 @@ module _ (s masks index : List ℕ) (rd : Read s masks index) (w₀ : Words) (l 
           work-long = refl;
         }
 
-    module _ (w : Words) (c' : Course) (k' : List ℕ) (i : NextLoop s begunWords w l c k c' k') where
+    module _ (w : Words) (c' : Course) (k' seen : List ℕ) (i : NextLoop s begunWords w l c k c' k' seen) where
       roomy-now : Roomy w
       roomy-now =
           record {
@@ -167,7 +185,7 @@ module _ (s masks index : List ℕ) (rd : Read s masks index) (w₀ : Words) (l 
             work = rw (i .work-long) (roomy .work);
           }
 
-      pub next-goes : isRunning (c' .ending) ≡ true → Goes s l c' k' × Lags s w l c' k'
+      pub next-goes : isRunning (c' .ending) ≡ true → Goes s l c' k' × Lags s w l c' k' seen
       next-goes run = (
         i .still run,
         record {
@@ -175,6 +193,8 @@ module _ (s masks index : List ℕ) (rd : Read s masks index) (w₀ : Words) (l 
           lagging = i .lags (z .from) (lagging (z .from) (z .held) (z .drains));
           busy-there = i .busy-there;
           roomy = roomy-now;
+          recalls = i .recalls run;
+          seen-there = rw (i .seen-long) (omega arith);
         },
       )
 
@@ -203,11 +223,13 @@ module _ (s masks index : List ℕ) (rd : Read s masks index) (w₀ : Words) (l 
           }
 
 -- the manager has gone on
-pub next-again : (s : List ℕ) (w₀ w : Words) (l : ℕ) (c₀ : Course) (k₀ : List ℕ) (c : Course) (k : List ℕ) → NextLoop s w₀ w l c₀ k₀ c k → (w' : Words) (r : Course) (k' : List ℕ) → Gone s l c k k' w w' r → length (w' .current) ≡ length (w .current) → length (w' .ended) ≡ length (w .ended) → length (w' .tallies) ≡ length (w .tallies) → length (w' .queue) ≡ length (w .queue) → length (w' .work) ≡ length (w .work) → NextLoop s w₀ w' l c₀ k₀ r k'
-next-again s w₀ w l c₀ k₀ c k i w' r k' g c1 c2 c3 c4 c5 =
+pub next-again : (s : List ℕ) (w₀ w : Words) (l : ℕ) (c₀ : Course) (k₀ : List ℕ) (c : Course) (k seen : List ℕ) → NextLoop s w₀ w l c₀ k₀ c k seen → (w' : Words) (r : Course) (k' seen' : List ℕ) → Gone s l c k k' seen seen' w w' r → length (w' .current) ≡ length (w .current) → length (w' .ended) ≡ length (w .ended) → length (w' .tallies) ≡ length (w .tallies) → length (w' .queue) ≡ length (w .queue) → length (w' .work) ≡ length (w .work) → NextLoop s w₀ w' l c₀ k₀ r k' seen'
+next-again s w₀ w l c₀ k₀ c k seen i w' r k' seen' g c1 c2 c3 c4 c5 =
     record {
       lags = λ from d. g .lags from (i .lags from d);
       still = g .still;
+      recalls = g .recalls;
+      seen-long = g .seen-long ∙ i .seen-long;
       forked = g .forked;
       fits = rw (g .first) (i .fits);
       busy-there = g .busy-still ∙ i .busy-there;
@@ -225,8 +247,8 @@ next-again s w₀ w l c₀ k₀ c k i w' r k' g c1 c2 c3 c4 c5 =
 abbrev pub stepsLeft : Course → ℕ
 stepsLeft c = cond (isRunning (c .ending)) (1 + maxScriptSteps - c .steps) 0
 
-pub next-less : (s : List ℕ) (l : ℕ) (c : Course) (k k' : List ℕ) (w w' : Words) (r : Course) → Goes s l c k → Gone s l c k k' w w' r → stepsLeft r < stepsLeft c
-next-less s l c k k' w w' r go g = elim (truth (isRunning (r .ending))) [
+pub next-less : (s : List ℕ) (l : ℕ) (c : Course) (k k' seen seen' : List ℕ) (w w' : Words) (r : Course) → Goes s l c k → Gone s l c k k' seen seen' w w' r → stepsLeft r < stepsLeft c
+next-less s l c k k' seen seen' w w' r go g = elim (truth (isRunning (r .ending))) [
   | holds e ↦ rw (go .running, e) (omega (arith, g .more e, g .still e .made))
   | fails e ↦ rw (go .running, e) (omega (arith, go .made))
 ]

@@ -70,17 +70,17 @@ no-last move.Down e = refl
 no-last (move.Pause x) e = absurd (not-both true refl e)
 
 -- what holds each time round: steps that concern nobody else led here
-pub record Going (s masks index current : List ℕ) (all : Bool) (level h₀ n₀ : ℕ) (w₀ w : List ℕ) (h n : ℕ) : Type 0 where
-  pub inside : (m : Manager) (read : ℕ → ℕ → Value) → Stands m w₀ level h₀ n₀ → Sees s current all level read → Inside (programOf s) read (concluded (programOf s) m) (concluded (programOf s) (standing m h (framesOf w) n))
-  pub able : Advanceable s masks index current w level h n
+pub record Going (s masks index current seen : List ℕ) (all : Bool) (level h₀ n₀ : ℕ) (w₀ w : List ℕ) (h n : ℕ) : Type 0 where
+  pub inside : (m : Manager) (read : ℕ → ℕ → Value) → Stands m w₀ level h₀ n₀ → Sees s current seen all level read → Inside (programOf s) read (concluded (programOf s) m) (concluded (programOf s) (standing m h (framesOf w) n))
+  pub able : Advanceable s masks index current seen w level h n
   pub grown : n₀ ≤ n
   pub long : length w ≡ length w₀
 
-module _ (s masks index current : List ℕ) (all : Bool) (level h₀ n₀ : ℕ) (w₀ : List ℕ) where
+module _ (s masks index current seen : List ℕ) (all : Bool) (level h₀ n₀ : ℕ) (w₀ : List ℕ) where
   abbrev p : Program
   p = programOf s
 
-  pub going-start : Advanceable s masks index current w₀ level h₀ n₀ → Going s masks index current all level h₀ n₀ w₀ w₀ h₀ n₀
+  pub going-start : Advanceable s masks index current seen w₀ level h₀ n₀ → Going s masks index current seen all level h₀ n₀ w₀ w₀ h₀ n₀
   unfolding Quietly
   going-start a =
       record {
@@ -90,12 +90,12 @@ module _ (s masks index current : List ℕ) (all : Bool) (level h₀ n₀ : ℕ)
         long = refl;
       }
 
-  module _ (w : List ℕ) (h n : ℕ) (g : Going s masks index current all level h₀ n₀ w₀ w h n) (w' : List ℕ) (r : Turn) (t : Turned s current all level h n w w' r) where
+  module _ (w : List ℕ) (h n : ℕ) (g : Going s masks index current seen all level h₀ n₀ w₀ w h n) (w' : List ℕ) (r : Turn) (t : Turned s current seen all level h n w w' r) where
     stands : (m : Manager) → Stands m w₀ level h₀ n₀ → Stands (standing m h (framesOf w) n) w level h n
     stands m a =
         record { frames-are = refl; height-is = refl; steps-are = refl; level-is = a .level-is; running = a .running }
 
-    pub going-on : isPause (r .made) ≡ false → Going s masks index current all level h₀ n₀ w₀ w' (r .height) (r .steps)
+    pub going-on : isPause (r .made) ≡ false → Going s masks index current seen all level h₀ n₀ w₀ w' (r .height) (r .steps)
     going-on e =
         record {
           inside = λ m read a see.
@@ -106,6 +106,7 @@ module _ (s masks index current : List ℕ) (all : Bool) (level h₀ n₀ : ℕ)
             leveled = g .able .leveled;
             placed = g .able .placed;
             fields-there = g .able .fields-there;
+            seen-there = g .able .seen-there;
             room = rw (t .long) (g .able .room);
             stack = t .stack (no-last (r .made) e);
             live = t .live e;
@@ -115,7 +116,7 @@ module _ (s masks index current : List ℕ) (all : Bool) (level h₀ n₀ : ℕ)
           long = t .long ∙ g .long;
         }
 
-    pub going-pauses : (e : Event) → r .made ≡ move.Pause e → Advanced s current all level h₀ n₀ w₀ w' (record { height = r .height; steps = r .steps; event = e })
+    pub going-pauses : (e : Event) → r .made ≡ move.Pause e → Advanced s current seen all level h₀ n₀ w₀ w' (record { height = r .height; steps = r .steps; event = e })
     going-pauses e q =
         record {
           paused = λ m read a see.

@@ -33,9 +33,9 @@ use Rattle.managers.specs.declared.Effect.the-variants as effect
 use Rattle.managers.specs.declared.Stepped.{Stepped}
 use Rattle.managers.proofs.Laws.Send.{send-by}
 use Rattle.managers.proofs.Laws.Settle.{popped-last, popped-to}
-use Rattle.records.specs.Fields.{fieldAt}
+use Rattle.records.specs.Fields.{fieldAt, knownAt}
 use Rattle.stacks.specs.Stack.{framesOf, frameIn, Replaced}
-use Rattle.stacks.specs.Moves.{with, caused, moved, Holds, Operated, Does, Method}
+use Rattle.stacks.specs.Moves.{with, caused, moved, Holds, shownIn, isOpen, Operated, Does, Method}
 use Rattle.stacks.specs.declared.Event.the-variants as event
 use Rattle.stacks.specs.declared.operations.Move.{Move}
 use Rattle.stacks.specs.declared.operations.Move.the-variants as move
@@ -193,12 +193,12 @@ quit-last at w a v none e =
     }
 
 -- whole operations
-module _ (s current : List ℕ) (all : Bool) (level at : ℕ) (w w' : List ℕ) where
+module _ (s current seen : List ℕ) (all : Bool) (level at : ℕ) (w w' : List ℕ) where
   -- one that the code was told
-  pub operated-as : (i j : Step) (r : Move) → i ≡ j → Operated s current all level at w w' j r → Operated s current all level at w w' i r
-  operated-as i j r e d = subst (λ x. Operated s current all level at w w' x r) (sym e) d
+  pub operated-as : (i j : Step) (r : Move) → i ≡ j → Operated s current seen all level at w w' j r → Operated s current seen all level at w w' i r
+  operated-as i j r e d = subst (λ x. Operated s current seen all level at w w' x r) (sym e) d
 
-  pub set-operated : (a n : ℕ) → Replaced w w' at (withRegister (frameIn w at) a (Number n)) → Operated s current all level at w w' (op.Set a n) move.Stay
+  pub set-operated : (a n : ℕ) → Replaced w w' at (withRegister (frameIn w at) a (Number n)) → Operated s current seen all level at w w' (op.Set a n) move.Stay
   unfolding operated moved
   set-operated a n r =
       record {
@@ -208,7 +208,7 @@ module _ (s current : List ℕ) (all : Bool) (level at : ℕ) (w w' : List ℕ) 
         long = r .long;
       }
 
-  pub add-operated : (a b : ℕ) (v : Value) → v ≡ sum (register (frameIn w at) a) (register (frameIn w at) b) → Replaced w w' at (withRegister (frameIn w at) a v) → Operated s current all level at w w' (op.Add a b) move.Stay
+  pub add-operated : (a b : ℕ) (v : Value) → v ≡ sum (register (frameIn w at) a) (register (frameIn w at) b) → Replaced w w' at (withRegister (frameIn w at) a v) → Operated s current seen all level at w w' (op.Add a b) move.Stay
   unfolding operated moved
   add-operated a b v e r =
       record {
@@ -219,7 +219,7 @@ module _ (s current : List ℕ) (all : Bool) (level at : ℕ) (w w' : List ℕ) 
         long = r .long;
       }
 
-  pub jump-operated : (a b : ℕ) → Replaced w w' at (cond (isNilOr0 (register (frameIn w at) a)) (atStep (frameIn w at) b) (frameIn w at)) → Operated s current all level at w w' (op.Jump a b) move.Stay
+  pub jump-operated : (a b : ℕ) → Replaced w w' at (cond (isNilOr0 (register (frameIn w at) a)) (atStep (frameIn w at) b) (frameIn w at)) → Operated s current seen all level at w w' (op.Jump a b) move.Stay
   unfolding operated moved
   jump-operated a b r =
       record {
@@ -229,22 +229,32 @@ module _ (s current : List ℕ) (all : Bool) (level at : ℕ) (w w' : List ℕ) 
         long = r .long;
       }
 
-  -- a READ that sees what the words of the fields say
-  pub read-operated : (a b o : ℕ) (v : Value) → o ≡ frameIn w at .object → frameIn w at .object < objectCount s → b < fields → (all ≡ true) ⊎ (levelOf s o ≡ level) → v ≡ fieldAt current o b → Replaced w w' at (withRegister (frameIn w at) a v) → Operated s current all level at w w' (op.Read a b) move.Stay
+  -- a READ that takes what the words say
+  read-operated : (a b o : ℕ) (v : Value) → o ≡ frameIn w at .object → frameIn w at .object < objectCount s → b < fields → isOpen s seen all level o b ≡ true → v ≡ shownIn s current seen all level o b → Replaced w w' at (withRegister (frameIn w at) a v) → Operated s current seen all level at w w' (op.Read a b) move.Stay
   unfolding operated moved
-  read-operated a b o v eo present field seen ev r =
+  read-operated a b o v eo present field free ev r =
       record {
         moves = λ m read h sees.
-            let same : v ≡ read (frameIn w at .object) b =
-            ev ∙ sym (sees o b (rw eo present) field (either all (levelOf s o) level seen)) ∙ ap (λ x. read x b) eo in
+            let same : v ≡ read (frameIn w at .object) b = ev ∙ sym (sees o b (rw eo present) field free) ∙ ap (λ x. read x b) eo in
             ap quiet (replaced-top m w level at h (λ f. withRegister f a (read (f .object) b)) w' (subst (λ x. Replaced w w' at (withRegister (frameIn w at) a x)) same r));
         live = λ _. omega arith;
         present = tt;
         long = r .long;
       }
 
+  -- those of the fields
+  pub read-current : (a b o : ℕ) (v : Value) → o ≡ frameIn w at .object → frameIn w at .object < objectCount s → b < fields → (all ≡ true) ⊎ (levelOf s o ≡ level) → v ≡ fieldAt current o b → Replaced w w' at (withRegister (frameIn w at) a v) → Operated s current seen all level at w w' (op.Read a b) move.Stay
+  read-current a b o v eo present field own ev r =
+      let e = either all (levelOf s o) level own in
+      read-operated a b o v eo present field (rw e refl) (ev ∙ rw e refl) r
+
+  -- those of what was read before
+  pub read-known : (a b o : ℕ) (v : Value) → o ≡ frameIn w at .object → frameIn w at .object < objectCount s → b < fields → all ≡ false → (levelOf s o ≡ level → ⊥) → knownAt seen o b ≡ true → v ≡ fieldAt seen o b → Replaced w w' at (withRegister (frameIn w at) a v) → Operated s current seen all level at w w' (op.Read a b) move.Stay
+  read-known a b o v eo present field some apart known ev r =
+      read-operated a b o v eo present field (rw (some, ne-eqb (levelOf s o) level apart, known) refl) (ev ∙ rw (some, ne-eqb (levelOf s o) level apart) refl) r
+
   -- a SEND, by what becomes of its message
-  pub send-operated : (masks : List ℕ) → Leveled s masks → (a b c x y : ℕ) (t : Fate) (r : Move) → x ≡ levelOf s (frameIn w at .object) → y ≡ levelOf s c → fateOf (length masks) (dominates masks) level x y ≡ t → Method c b s → Does (Method c b) at w w' (λ m. sent m (top m) a b c t) r → Operated s current all level at w w' (op.Send a b c) r
+  pub send-operated : (masks : List ℕ) → Leveled s masks → (a b c x y : ℕ) (t : Fate) (r : Move) → x ≡ levelOf s (frameIn w at .object) → y ≡ levelOf s c → fateOf (length masks) (dominates masks) level x y ≡ t → Method c b s → Does (Method c b) at w w' (λ m. sent m (top m) a b c t) r → Operated s current seen all level at w w' (op.Send a b c) r
   send-operated masks lent a b c x y t r ex ey e names d =
       record {
         moves = λ m read h sees.
@@ -255,17 +265,17 @@ module _ (s current : List ℕ) (all : Bool) (level at : ℕ) (w w' : List ℕ) 
         long = d .long;
       }
 
-  pub quit-operated : (a : ℕ) (r : Move) → Does (λ _. Unit) at w w' (λ m. record { manager = popped (withTop m (top m)) (register (top m) a); effect = effect.Nothing }) r → Operated s current all level at w w' (op.Quit a) r
+  pub quit-operated : (a : ℕ) (r : Move) → Does (λ _. Unit) at w w' (λ m. record { manager = popped (withTop m (top m)) (register (top m) a); effect = effect.Nothing }) r → Operated s current seen all level at w w' (op.Quit a) r
   unfolding operated
   quit-operated a r d = record { moves = λ m read h sees. d .moves m read level h; live = d .live; present = d .present s tt; long = d .long }
 
 -- those that write no frame: the script's end; a READ that is left to others; a WRITE of an object of another level, and one of the level
-module _ (s current : List ℕ) (all : Bool) (level at : ℕ) (w : List ℕ) where
-  pub end-operated : Operated s current all level at w w op.End move.Stay
+module _ (s current seen : List ℕ) (all : Bool) (level at : ℕ) (w : List ℕ) where
+  pub end-operated : Operated s current seen all level at w w op.End move.Stay
   unfolding operated moved
   end-operated = record { moves = λ m read h sees. ap (λ fs. quiet (with m fs)) (h .frames-are); live = λ _. omega arith; present = tt; long = refl }
 
-  pub read-left : (a b o : ℕ) → o ≡ frameIn w at .object → frameIn w at .object < objectCount s → a < registers → b < fields → Operated s current all level at w w (op.Read a b) (move.Pause (event.Read o b a))
+  pub read-left : (a b o : ℕ) → o ≡ frameIn w at .object → frameIn w at .object < objectCount s → a < registers → b < fields → Operated s current seen all level at w w (op.Read a b) (move.Pause (event.Read o b a))
   unfolding operated moved caused
   read-left a b o e present into field =
       record {
@@ -280,7 +290,7 @@ module _ (s current : List ℕ) (all : Bool) (level at : ℕ) (w : List ℕ) whe
         long = refl;
       }
 
-  pub write-apart : (a b : ℕ) → (levelOf s (frameIn w at .object) ≡ level → ⊥) → Operated s current all level at w w (op.Write a b) move.Stay
+  pub write-apart : (a b : ℕ) → (levelOf s (frameIn w at .object) ≡ level → ⊥) → Operated s current seen all level at w w (op.Write a b) move.Stay
   unfolding operated moved written programOf
   write-apart a b apart =
       record {
@@ -292,7 +302,7 @@ module _ (s current : List ℕ) (all : Bool) (level at : ℕ) (w : List ℕ) whe
         long = refl;
       }
 
-  pub write-left : (a b o : ℕ) (v : Value) → levelOf s (frameIn w at .object) ≡ level → o ≡ frameIn w at .object → v ≡ register (frameIn w at) a → frameIn w at .object < objectCount s → b < fields → Operated s current all level at w w (op.Write a b) (move.Pause (event.Write o b v))
+  pub write-left : (a b o : ℕ) (v : Value) → levelOf s (frameIn w at .object) ≡ level → o ≡ frameIn w at .object → v ≡ register (frameIn w at) a → frameIn w at .object < objectCount s → b < fields → Operated s current seen all level at w w (op.Write a b) (move.Pause (event.Write o b v))
   unfolding operated moved programOf
   write-left a b o v own eo ev present field =
       record {

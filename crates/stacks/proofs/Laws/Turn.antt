@@ -29,9 +29,8 @@ use Rattle.managers.specs.declared.Ending.the-variants.{Running}
 use Rattle.managers.specs.declared.Manager.{Manager}
 use Rattle.managers.proofs.Laws.Stack.{below-stack, answered-stack, below-each, operated-stack}
 use Rattle.managers.proofs.Laws.Accepted.{known-register, passed-known, next-keeps}
-use Rattle.records.specs.Fields.{fieldAt}
 use Rattle.stacks.specs.Stack.{framesOf, frameIn, Replaced}
-use Rattle.stacks.specs.Moves.{moved, heightAfter, Holds, Sees, Named, isPause, Operated}
+use Rattle.stacks.specs.Moves.{moved, heightAfter, Holds, shownIn, Sees, Named, isPause, Operated}
 use Rattle.stacks.specs.Pauses.{Quietly, TurnedBy, isLast, turnsLeft, Advanceable, Stands, Turned}
 use Rattle.stacks.specs.declared.Event.the-variants as event
 use Rattle.stacks.specs.declared.operations.Move.{Move}
@@ -78,7 +77,7 @@ next-named s a f = elim (decLt (f .next) (length (methodOf s (f .object) (f .nam
       rw none tt
 ]
 
-module _ (s masks index current w : List ℕ) (all : Bool) (level h n : ℕ) (a : Advanceable s masks index current w level h n) (at : ℕ) (at-is : at ≡ h - 1) where
+module _ (s masks index current seen w : List ℕ) (all : Bool) (level h n : ℕ) (a : Advanceable s masks index current seen w level h n) (at : ℕ) (at-is : at ≡ h - 1) where
   abbrev p : Program
   p = programOf s
 
@@ -86,7 +85,7 @@ module _ (s masks index current w : List ℕ) (all : Bool) (level h n : ℕ) (a 
   top-is m t = rw (t .frames-are, t .height-is, at-is) refl
 
   -- the last frame is at its script's end
-  pub turn-last : at ≡ 0 → isEnd (nextStep p (frameIn w at)) ≡ true → Turned s current all level h n w w (record { height = h; steps = n; made = move.Pause (event.Finished Nil) })
+  pub turn-last : at ≡ 0 → isEnd (nextStep p (frameIn w at)) ≡ true → Turned s current seen all level h n w w (record { height = h; steps = n; made = move.Pause (event.Finished Nil) })
   unfolding Quietly
   turn-last z q =
       record {
@@ -104,7 +103,7 @@ module _ (s masks index current w : List ℕ) (all : Bool) (level h n : ℕ) (a 
       }
 
   -- another is
-  pub turn-pops : (w' : List ℕ) → 0 < at → isEnd (nextStep p (frameIn w at)) ≡ true → Replaced w w' (at - 1) (withRegister (frameIn w (at - 1)) (frameIn w at .into) (cond (frameIn w at .returns) Nil Nil)) → Turned s current all level h n w w' (record { height = h - 1; steps = n; made = move.Stay })
+  pub turn-pops : (w' : List ℕ) → 0 < at → isEnd (nextStep p (frameIn w at)) ≡ true → Replaced w w' (at - 1) (withRegister (frameIn w (at - 1)) (frameIn w at .into) (cond (frameIn w at .returns) Nil Nil)) → Turned s current seen all level h n w w' (record { height = h - 1; steps = n; made = move.Stay })
   unfolding Quietly
   turn-pops w' b q r =
       let two : 2 ≤ h = omega (arith, a .live, at-is, b) in
@@ -133,7 +132,7 @@ module _ (s masks index current w : List ℕ) (all : Bool) (level h n : ℕ) (a 
       }
 
   -- the 256th step left it
-  pub turn-out : maxScriptSteps ≤ n → isEnd (nextStep p (frameIn w at)) ≡ false → Turned s current all level h n w w (record { height = h; steps = n; made = move.Pause event.OutOfSteps })
+  pub turn-out : maxScriptSteps ≤ n → isEnd (nextStep p (frameIn w at)) ≡ false → Turned s current seen all level h n w w (record { height = h; steps = n; made = move.Pause event.OutOfSteps })
   unfolding Quietly
   turn-out k q =
       record {
@@ -150,7 +149,7 @@ module _ (s masks index current w : List ℕ) (all : Bool) (level h n : ℕ) (a 
       }
 
   -- it makes a step: w₁ has its frame passed, and w' the operation done
-  module _ (w₁ w' : List ℕ) (step : Step) (made : Move) (few : n < maxScriptSteps) (is : step ≡ nextStep p (frameIn w at)) (q : isEnd (nextStep p (frameIn w at)) ≡ false) (r : Replaced w w₁ at (atStep (frameIn w at) (frameIn w at .next + 1))) (o : Operated s current all level at w₁ w' step made) where
+  module _ (w₁ w' : List ℕ) (step : Step) (made : Move) (few : n < maxScriptSteps) (is : step ≡ nextStep p (frameIn w at)) (q : isEnd (nextStep p (frameIn w at)) ≡ false) (r : Replaced w w₁ at (atStep (frameIn w at) (frameIn w at .next + 1))) (o : Operated s current seen all level at w₁ w' step made) where
     abbrev passed : Manager → Manager
     passed m = withTop m (atStep (top m) (top m .next + 1))
 
@@ -162,14 +161,14 @@ module _ (s masks index current w : List ℕ) (all : Bool) (level h n : ℕ) (a 
           level-is = t .level-is;
         }
 
-    does : (m : Manager) (read : ℕ → ℕ → Value) → Stands m w level h n → Sees s current all level read → operated p read m (atStep (top m) (top m .next + 1)) (nextStep p (top m)) ≡ moved read m (framesOf w') made
+    does : (m : Manager) (read : ℕ → ℕ → Value) → Stands m w level h n → Sees s current seen all level read → operated p read m (atStep (top m) (top m .next + 1)) (nextStep p (top m)) ≡ moved read m (framesOf w') made
     does m read t see =
         let next : nextStep p (top m) ≡ step = ap (nextStep p) (top-is m t) ∙ sym is in
         step-moves m p read (framesOf w') made (omega (arith, t .height-is, a .live)) (rw (t .frames-are) (omega (arith, a .stack .room, a .stack .low, t .height-is)))
         (rw (top-is m t) q)
         (ap (operated p read (passed m) (top (passed m))) next ∙ o .moves (passed m) read (held m t) see)
 
-    turned : (m : Manager) (read : ℕ → ℕ → Value) → Stands m w level h n → Sees s current all level read → TurnedBy p read m (heightAfter h made) (n + 1) (framesOf w') made
+    turned : (m : Manager) (read : ℕ → ℕ → Value) → Stands m w level h n → Sees s current seen all level read → TurnedBy p read m (heightAfter h made) (n + 1) (framesOf w') made
     turned m read t see =
         subst (λ k. TurnedBy p read m (heightAfter k made) (n + 1) (framesOf w') made) (t .height-is)
         (subst (λ k. TurnedBy p read m (heightAfter (m .height) made) (k + 1) (framesOf w') made) (t .steps-are)
@@ -202,7 +201,7 @@ module _ (s masks index current w : List ℕ) (all : Bool) (level h n : ℕ) (a 
     stack-then : isLast made ≡ false → Stack (Known s) (heightAfter h made) (framesOf w')
     unfolding ghost
     stack-then e =
-        let read = fieldAt current in
+        let read = shownIn s current seen all level in
         let f = top ghost in
         let acc = a .indexed .accepted in
         let done = operated-stack (Known s) (known-register s) p read ghost (atStep f (f .next + 1)) (nextStep p f) (a .stack) (passed-known s acc f known-top) (next-keeps s acc ghost f known-top) in
@@ -214,7 +213,7 @@ module _ (s masks index current w : List ℕ) (all : Bool) (level h n : ℕ) (a 
       | holds e ↦ omega (arith, last-height h made e, a .stack .low)
     ]
 
-    pub turn-steps : Turned s current all level h n w w' (record { height = heightAfter h made; steps = n + 1; made = made })
+    pub turn-steps : Turned s current seen all level h n w w' (record { height = heightAfter h made; steps = n + 1; made = made })
     turn-steps =
         record {
           turned = turned;

@@ -15,16 +15,16 @@ use Rattle.stacks.proofs.advance.Statement.{statement}
 use Rattle.stacks.proofs.advance.Tie as tie
 
 abbrev Inv-loop : tie.InvT-loop
-Inv-loop session masks index current stack₀ level height steps all h₀ n₀ stack h n =
-    Going session masks index current all level height steps stack₀ stack h n
+Inv-loop session masks index current seen stack₀ level height steps all h₀ n₀ stack h n =
+    Going session masks index current seen all level height steps stack₀ stack h n
 
 abbrev μ-loop : tie.MeasureT-loop
-μ-loop session masks index current stack₀ level height steps all h₀ n₀ stack h n = turnsLeft h n
+μ-loop session masks index current seen stack₀ level height steps all h₀ n₀ stack h n = turnsLeft h n
 
 loop-holds : tie.Need-loop-holds Inv-loop μ-loop
 loop-holds c =
-    let s = c .before .before .before .before .before in
-    going-start (s .args .session .now) (s .args .masks .now) (s .args .index .now) (s .args .current .now) (s .args .all) (s .args .level) (s .args .height) (s .args .steps) (s .args .stack .now) (s .pre)
+    let s = c .before .before .before .before .before .before in
+    going-start (s .args .session .now) (s .args .masks .now) (s .args .index .now) (s .args .current .now) (s .args .seen .now) (s .args .all) (s .args .level) (s .args .height) (s .args .steps) (s .args .stack .now) (s .pre)
 
 take-turn-requires : tie.Need-take-turn-requires Inv-loop μ-loop
 take-turn-requires c κs = c .before .loop .inv .able
@@ -37,9 +37,9 @@ same-length c = search needs
 
 returns : tie.Need-returns Inv-loop μ-loop
 returns c =
-    let s = c .before .before .before .before .before .before .before .before .before .before .before .before .before in
+    let s = c .before .before .before .before .before .before .before .before .before .before .before .before .before .before in
     let l = c .before .before .before .before .before .before .before .loop in
-    going-pauses (s .args .session .now) (s .args .masks .now) (s .args .index .now) (s .args .current .now) (s .args .all) (s .args .level) (s .args .height) (s .args .steps) (s .args .stack .now) (l .stack) (l .h) (l .n) (l .inv) _ (c .before .before .before .before .before .take-turn .result) (c .before .before .before .before .before .take-turn .ensures) _ (c .before .made .given .1)
+    going-pauses (s .args .session .now) (s .args .masks .now) (s .args .index .now) (s .args .current .now) (s .args .seen .now) (s .args .all) (s .args .level) (s .args .height) (s .args .steps) (s .args .stack .now) (l .stack) (l .h) (l .n) (l .inv) _ (c .before .before .before .before .before .take-turn .result) (c .before .before .before .before .before .take-turn .ensures) _ (c .before .made .given .1)
 
 -- a move of another tag than the pause's
 other : (r : Move) → OneOf (0 ∷ 1 ∷ 2 ∷ []) (tagOf move.the-type r) → isPause r ≡ false
@@ -53,9 +53,9 @@ loop-less c = c .before .before .before .take-turn .ensures .less (other (c .bef
 
 loop-again : tie.Need-loop-again Inv-loop μ-loop
 loop-again c =
-    let s = c .before .before .before .before .before .before .before .before .before .before .before in
+    let s = c .before .before .before .before .before .before .before .before .before .before .before .before in
     let l = c .before .before .before .before .before .loop in
-    going-on (s .args .session .now) (s .args .masks .now) (s .args .index .now) (s .args .current .now) (s .args .all) (s .args .level) (s .args .height) (s .args .steps) (s .args .stack .now) (l .stack) (l .h) (l .n) (l .inv) _ (c .before .before .before .take-turn .result) (c .before .before .before .take-turn .ensures) (other (c .before .before .before .take-turn .result .made) (c .match .keys2))
+    going-on (s .args .session .now) (s .args .masks .now) (s .args .index .now) (s .args .current .now) (s .args .seen .now) (s .args .all) (s .args .level) (s .args .height) (s .args .steps) (s .args .stack .now) (l .stack) (l .h) (l .n) (l .inv) _ (c .before .before .before .take-turn .result) (c .before .before .before .take-turn .ensures) (other (c .before .before .before .take-turn .result .made) (c .match .keys2))
 
 pub advance-spec : {M : Type 1} → statement M
 advance-spec =

@@ -177,7 +177,7 @@ go-on-returns : (t : ℕ) → go-on-lts.Need-returns (
 go-on-returns t c =
     let z = c .before .before .before .before .before .before .before .before .before .before .before .before .before .before .before .before .before in
     let a = c .before .before .before .before .before .before .before .advance in
-    go-spent (z .args .session .now) (z .args .masks .now) (z .args .index .now) (z .pre .1 .0) (z .args .left) (z .args .fork) (z .args .m) (z .args .stack .now) (z .pre .1 .1 .1) (record { current = z .args .current .now; ended = z .args .ended .now; tallies = z .args .tallies .now }) (z .pre .1 .1 .0) (a .last .1 .1 .1 .1 .0) (a .result) (a .ensures) (c .before .before .before .event2 .given .0 .0) (c .before .before .before .event2 .given .0 .1 .0) (c .before .before .before .event2 .given .0 .1 .1 .0) (c .before .before .before .event2 .given .1) (c .if1 .taken)
+    go-spent (z .args .session .now) (z .args .masks .now) (z .args .index .now) (z .pre .1 .0) (z .args .left) (z .args .fork) (z .args .m) (z .args .stack .now) (z .pre .1 .1 .1) (record { current = z .args .current .now; ended = z .args .ended .now; tallies = z .args .tallies .now }) (z .pre .1 .1 .0) (a .last .1 .1 .1 .1 .1 .0) (a .result) (a .ensures) (c .before .before .before .event2 .given .0 .0) (c .before .before .before .event2 .given .0 .1 .0) (c .before .before .before .event2 .given .0 .1 .1 .0) (c .before .before .before .event2 .given .1) (c .if1 .taken)
 
 go-on-cast-set : (t : ℕ) → go-on-lts.Need-cast-set (
   advance-reads.Asked,
@@ -228,7 +228,7 @@ go-on-set-requires : (t : ℕ) → go-on-lts.Need-set-requires (
 go-on-set-requires t c κs =
     let z = c .before .before .before .before .before .before .before .before .before .before .before .before .before .before .before .before .before .before in
     let a = c .before .before .before .before .before .before .before .before .advance in
-    write-there (z .args .session .now) (z .args .masks .now) (z .args .index .now) (z .pre .1 .0) (z .args .left) (z .args .fork) (z .args .m) (z .args .stack .now) (z .pre .1 .1 .1) (record { current = z .args .current .now; ended = z .args .ended .now; tallies = z .args .tallies .now }) (z .pre .1 .1 .0) (a .last .1 .1 .1 .1 .0) (a .result) (a .ensures) (c .before .before .before .before .event2 .given .0 .0) (c .before .before .before .before .event2 .given .0 .1 .0) (c .before .before .before .before .event2 .given .0 .1 .1 .0) (c .before .before .before .before .event2 .given .1)
+    write-there (z .args .session .now) (z .args .masks .now) (z .args .index .now) (z .pre .1 .0) (z .args .left) (z .args .fork) (z .args .m) (z .args .stack .now) (z .pre .1 .1 .1) (record { current = z .args .current .now; ended = z .args .ended .now; tallies = z .args .tallies .now }) (z .pre .1 .1 .0) (a .last .1 .1 .1 .1 .1 .0) (a .result) (a .ensures) (c .before .before .before .before .event2 .given .0 .0) (c .before .before .before .before .event2 .given .0 .1 .0) (c .before .before .before .before .event2 .given .0 .1 .1 .0) (c .before .before .before .before .event2 .given .1)
 
 go-on-add-writes : (t : ℕ) → go-on-lts.Need-add-writes (
   advance-reads.Asked,
@@ -312,7 +312,7 @@ go-on-get-requires : (t : ℕ) → go-on-lts.Need-get-requires (
 go-on-get-requires t c κs =
     let z = c .before .before .before .before .before .before .before .before .before .before .before .before .before .before .before .before in
     let a = c .before .before .before .before .before .before .advance in
-    read-there (z .args .session .now) (z .args .masks .now) (z .args .index .now) (z .pre .1 .0) (z .args .left) (z .args .fork) (z .args .m) (z .args .stack .now) (z .pre .1 .1 .1) (record { current = z .args .current .now; ended = z .args .ended .now; tallies = z .args .tallies .now }) (z .pre .1 .1 .0) (a .last .1 .1 .1 .1 .0) (a .result) (a .ensures) (c .before .before .event3 .given .0 .0) (c .before .before .event3 .given .0 .1 .0) (c .before .before .event3 .given .0 .1 .1 .0) (c .before .before .event3 .given .1)
+    read-there (z .args .session .now) (z .args .masks .now) (z .args .index .now) (z .pre .1 .0) (z .args .left) (z .args .fork) (z .args .m) (z .args .stack .now) (z .pre .1 .1 .1) (record { current = z .args .current .now; ended = z .args .ended .now; tallies = z .args .tallies .now }) (z .pre .1 .1 .0) (a .last .1 .1 .1 .1 .1 .0) (a .result) (a .ensures) (c .before .before .event3 .given .0 .0) (c .before .before .event3 .given .0 .1 .0) (c .before .before .event3 .given .0 .1 .1 .0) (c .before .before .event3 .given .1)
 
 go-on-cast-set-register : (t : ℕ) → go-on-lts.Need-cast-set-register (
   advance-reads.Asked,
@@ -347,7 +347,7 @@ go-on-sub-set-register : (t : ℕ) → go-on-lts.Need-sub-set-register (
 go-on-sub-set-register t c =
     let z = c .before .before .before .before .before .before .before .before .before .before .before .before .before .before .before .before .before .before .before in
     let a = c .before .before .before .before .before .before .before .before .before .advance in
-    read-live (z .args .session .now) (z .args .masks .now) (z .args .index .now) (z .pre .1 .0) (z .args .left) (z .args .fork) (z .args .m) (z .args .stack .now) (z .pre .1 .1 .1) (record { current = z .args .current .now; ended = z .args .ended .now; tallies = z .args .tallies .now }) (z .pre .1 .1 .0) (a .last .1 .1 .1 .1 .0) (a .result) (a .ensures) (c .before .before .before .before .before .event3 .given .0 .0) (c .before .before .before .before .before .event3 .given .0 .1 .0) (c .before .before .before .before .before .event3 .given .0 .1 .1 .0) (c .before .before .before .before .before .event3 .given .1)
+    read-live (z .args .session .now) (z .args .masks .now) (z .args .index .now) (z .pre .1 .0) (z .args .left) (z .args .fork) (z .args .m) (z .args .stack .now) (z .pre .1 .1 .1) (record { current = z .args .current .now; ended = z .args .ended .now; tallies = z .args .tallies .now }) (z .pre .1 .1 .0) (a .last .1 .1 .1 .1 .1 .0) (a .result) (a .ensures) (c .before .before .before .before .before .event3 .given .0 .0) (c .before .before .before .before .before .event3 .given .0 .1 .0) (c .before .before .before .before .before .event3 .given .0 .1 .1 .0) (c .before .before .before .before .before .event3 .given .1)
 
 go-on-set-register-requires : (t : ℕ) → go-on-lts.Need-set-register-requires (
   advance-reads.Asked,
@@ -366,7 +366,7 @@ go-on-set-register-requires : (t : ℕ) → go-on-lts.Need-set-register-requires
 go-on-set-register-requires t c κs =
     let z = c .before .before .before .before .before .before .before .before .before .before .before .before .before .before .before .before .before .before .before in
     let a = c .before .before .before .before .before .before .before .before .before .advance in
-    read-frame (z .args .session .now) (z .args .masks .now) (z .args .index .now) (z .pre .1 .0) (z .args .left) (z .args .fork) (z .args .m) (z .args .stack .now) (z .pre .1 .1 .1) (record { current = z .args .current .now; ended = z .args .ended .now; tallies = z .args .tallies .now }) (z .pre .1 .1 .0) (a .last .1 .1 .1 .1 .0) (a .result) (a .ensures) (c .before .before .before .before .before .event3 .given .0 .0) (c .before .before .before .before .before .event3 .given .0 .1 .0) (c .before .before .before .before .before .event3 .given .0 .1 .1 .0) (c .before .before .before .before .before .event3 .given .1)
+    read-frame (z .args .session .now) (z .args .masks .now) (z .args .index .now) (z .pre .1 .0) (z .args .left) (z .args .fork) (z .args .m) (z .args .stack .now) (z .pre .1 .1 .1) (record { current = z .args .current .now; ended = z .args .ended .now; tallies = z .args .tallies .now }) (z .pre .1 .1 .0) (a .last .1 .1 .1 .1 .1 .0) (a .result) (a .ensures) (c .before .before .before .before .before .event3 .given .0 .0) (c .before .before .before .before .before .event3 .given .0 .1 .0) (c .before .before .before .before .before .event3 .given .0 .1 .1 .0) (c .before .before .before .before .before .event3 .given .1)
 
 go-on-enum-known-event-4 : (t : ℕ) → go-on-lts.Need-enum-known-event-4 (
   advance-reads.Asked,
@@ -433,7 +433,7 @@ go-on-returns-2 : (t : ℕ) → go-on-lts.Need-returns-2 (
 go-on-returns-2 t c =
     let z = c .before .before .before .before .before .before .before .before .before .before .before .before .before .before .before .before .before in
     let a = c .before .before .before .before .before .before .before .advance in
-    go-unforked (z .args .session .now) (z .args .masks .now) (z .args .index .now) (z .pre .1 .0) (z .args .left) (z .args .fork) (z .args .m) (z .args .stack .now) (z .pre .1 .1 .1) (record { current = z .args .current .now; ended = z .args .ended .now; tallies = z .args .tallies .now }) (z .pre .1 .1 .0) (a .last .1 .1 .1 .1 .0) (a .result) (a .ensures) (c .before .before .before .event4 .given .0 .0) (c .before .before .before .event4 .given .0 .1 .0) (c .before .before .before .event4 .given .0 .1 .1 .0) (c .before .before .before .event4 .given .0 .1 .1 .1 .0) (c .before .before .before .event4 .given .1) (c .if2 .taken)
+    go-unforked (z .args .session .now) (z .args .masks .now) (z .args .index .now) (z .pre .1 .0) (z .args .left) (z .args .fork) (z .args .m) (z .args .stack .now) (z .pre .1 .1 .1) (record { current = z .args .current .now; ended = z .args .ended .now; tallies = z .args .tallies .now }) (z .pre .1 .1 .0) (a .last .1 .1 .1 .1 .1 .0) (a .result) (a .ensures) (c .before .before .before .event4 .given .0 .0) (c .before .before .before .event4 .given .0 .1 .0) (c .before .before .before .event4 .given .0 .1 .1 .0) (c .before .before .before .event4 .given .0 .1 .1 .1 .0) (c .before .before .before .event4 .given .1) (c .if2 .taken)
 
 go-on-child-stamp-requires : (t : ℕ) → go-on-lts.Need-child-stamp-requires (
   advance-reads.Asked,
@@ -452,7 +452,7 @@ go-on-child-stamp-requires : (t : ℕ) → go-on-lts.Need-child-stamp-requires (
 go-on-child-stamp-requires t c κs =
     let z = c .before .before .before .before .before .before .before .before .before .before .before .before .before .before .before .before .before in
     let a = c .before .before .before .before .before .before .before .advance in
-    fork-stamps (z .args .session .now) (z .args .masks .now) (z .args .index .now) (z .pre .1 .0) (z .args .left) (z .args .fork) (z .args .m) (z .args .stack .now) (z .pre .1 .1 .1) (record { current = z .args .current .now; ended = z .args .ended .now; tallies = z .args .tallies .now }) (z .pre .1 .1 .0) (a .last .1 .1 .1 .1 .0) (a .result) (a .ensures) (c .before .before .before .event4 .given .0 .0) (c .before .before .before .event4 .given .0 .1 .0) (c .before .before .before .event4 .given .0 .1 .1 .0) (c .before .before .before .event4 .given .0 .1 .1 .1 .0) (c .before .before .before .event4 .given .1) (c .if2 .left)
+    fork-stamps (z .args .session .now) (z .args .masks .now) (z .args .index .now) (z .pre .1 .0) (z .args .left) (z .args .fork) (z .args .m) (z .args .stack .now) (z .pre .1 .1 .1) (record { current = z .args .current .now; ended = z .args .ended .now; tallies = z .args .tallies .now }) (z .pre .1 .1 .0) (a .last .1 .1 .1 .1 .1 .0) (a .result) (a .ensures) (c .before .before .before .event4 .given .0 .0) (c .before .before .before .event4 .given .0 .1 .0) (c .before .before .before .event4 .given .0 .1 .1 .0) (c .before .before .before .event4 .given .0 .1 .1 .1 .0) (c .before .before .before .event4 .given .1) (c .if2 .left)
 
 go-on-add-depth : (t : ℕ) → go-on-lts.Need-add-depth (
   advance-reads.Asked,
@@ -488,7 +488,7 @@ go-on-run-kept-requires : (t : ℕ) → go-on-lts.Need-run-kept-requires (
 go-on-run-kept-requires t c κs =
     let z = c .before .before .before .before .before .before .before .before .before .before .before .before .before .before .before .before .before .before .before .before .before .before in
     let a = c .before .before .before .before .before .before .before .before .before .before .before .before .advance in
-    (omega (arith, z .pre .0), (z .pre .1 .0, (z .pre .1 .1 .0, fork-runs (z .args .session .now) (z .args .masks .now) (z .args .index .now) (z .pre .1 .0) (z .args .left) (z .args .fork) (z .args .m) (z .args .stack .now) (z .pre .1 .1 .1) (record { current = z .args .current .now; ended = z .args .ended .now; tallies = z .args .tallies .now }) (z .pre .1 .1 .0) (a .last .1 .1 .1 .1 .0) (a .result) (a .ensures) (c .before .before .before .before .before .before .before .before .event4 .given .0 .0) (c .before .before .before .before .before .before .before .before .event4 .given .0 .1 .0) (c .before .before .before .before .before .before .before .before .event4 .given .0 .1 .1 .0) (c .before .before .before .before .before .before .before .before .event4 .given .0 .1 .1 .1 .0) (c .before .before .before .before .before .before .before .before .event4 .given .1) (c .before .before .before .before .before .if2 .left) (c .before .before .before .before .child-stamp .result) (c .before .before .before .before .child-stamp .ensures))))
+    (omega (arith, z .pre .0), (z .pre .1 .0, (z .pre .1 .1 .0, fork-runs (z .args .session .now) (z .args .masks .now) (z .args .index .now) (z .pre .1 .0) (z .args .left) (z .args .fork) (z .args .m) (z .args .stack .now) (z .pre .1 .1 .1) (record { current = z .args .current .now; ended = z .args .ended .now; tallies = z .args .tallies .now }) (z .pre .1 .1 .0) (a .last .1 .1 .1 .1 .1 .0) (a .result) (a .ensures) (c .before .before .before .before .before .before .before .before .event4 .given .0 .0) (c .before .before .before .before .before .before .before .before .event4 .given .0 .1 .0) (c .before .before .before .before .before .before .before .before .event4 .given .0 .1 .1 .0) (c .before .before .before .before .before .before .before .before .event4 .given .0 .1 .1 .1 .0) (c .before .before .before .before .before .before .before .before .event4 .given .1) (c .before .before .before .before .before .if2 .left) (c .before .before .before .before .child-stamp .result) (c .before .before .before .before .child-stamp .ensures))))
 
 go-on-add-forks : (t : ℕ) → go-on-lts.Need-add-forks (
   advance-reads.Asked,
@@ -556,7 +556,7 @@ go-on-returns-3 : (t : ℕ) → go-on-lts.Need-returns-3 (
 go-on-returns-3 t c =
     let z = c .before .before .before .before .before .before .before .before .before .before .before .before .before .before .before in
     let a = c .before .before .before .before .before .advance in
-    go-finishes (z .args .session .now) (z .args .masks .now) (z .args .index .now) (z .pre .1 .0) (z .args .left) (z .args .fork) (z .args .m) (z .args .stack .now) (z .pre .1 .1 .1) (record { current = z .args .current .now; ended = z .args .ended .now; tallies = z .args .tallies .now }) (z .pre .1 .1 .0) (a .last .1 .1 .1 .1 .0) (a .result) (a .ensures) (c .before .event .given .0 .0) (c .before .event .given .1)
+    go-finishes (z .args .session .now) (z .args .masks .now) (z .args .index .now) (z .pre .1 .0) (z .args .left) (z .args .fork) (z .args .m) (z .args .stack .now) (z .pre .1 .1 .1) (record { current = z .args .current .now; ended = z .args .ended .now; tallies = z .args .tallies .now }) (z .pre .1 .1 .0) (a .last .1 .1 .1 .1 .1 .0) (a .result) (a .ensures) (c .before .event .given .0 .0) (c .before .event .given .1)
 
 go-on-same-length-7 : (t : ℕ) → go-on-lts.Need-same-length-7 (
   advance-reads.Asked,
@@ -607,7 +607,7 @@ go-on-returns-4 : (t : ℕ) → go-on-lts.Need-returns-4 (
 go-on-returns-4 t c =
     let z = c .before .before .before .before .before .before .before .before .before .before .before .before .before .before in
     let a = c .before .before .before .before .advance in
-    go-out (z .args .session .now) (z .args .masks .now) (z .args .index .now) (z .pre .1 .0) (z .args .left) (z .args .fork) (z .args .m) (z .args .stack .now) (z .pre .1 .1 .1) (record { current = z .args .current .now; ended = z .args .ended .now; tallies = z .args .tallies .now }) (z .pre .1 .1 .0) (a .last .1 .1 .1 .1 .0) (a .result) (a .ensures) (c .enum-told .given .1)
+    go-out (z .args .session .now) (z .args .masks .now) (z .args .index .now) (z .pre .1 .0) (z .args .left) (z .args .fork) (z .args .m) (z .args .stack .now) (z .pre .1 .1 .1) (record { current = z .args .current .now; ended = z .args .ended .now; tallies = z .args .tallies .now }) (z .pre .1 .1 .0) (a .last .1 .1 .1 .1 .1 .0) (a .result) (a .ensures) (c .enum-told .given .1)
 
 go-on-same-length-9 : (t : ℕ) → go-on-lts.Need-same-length-9 (
   advance-reads.Asked,
@@ -658,7 +658,7 @@ go-on-returns-5 : (t : ℕ) → go-on-lts.Need-returns-5 (
 go-on-returns-5 t c =
     let z = c .before .before .before .before .before .before .before .before .before .before .before .before .before .before .before .before .before .before .before .before .before .before in
     let a = c .before .before .before .before .before .before .before .before .before .before .before .before .advance in
-    go-writes (z .args .session .now) (z .args .masks .now) (z .args .index .now) (z .pre .1 .0) (z .args .left) (z .args .fork) (z .args .m) (z .args .stack .now) (z .pre .1 .1 .1) (record { current = z .args .current .now; ended = z .args .ended .now; tallies = z .args .tallies .now }) (z .pre .1 .1 .0) (a .last .1 .1 .1 .1 .0) (a .result) (a .ensures) (c .before .before .before .before .before .before .before .before .event2 .given .0 .0) (c .before .before .before .before .before .before .before .before .event2 .given .0 .1 .0) (c .before .before .before .before .before .before .before .before .event2 .given .0 .1 .1 .0) (c .before .before .before .before .before .before .before .before .event2 .given .1) (c .before .before .before .before .before .if1 .left) (c .before .before .before .set .last .0) (c .before .before .before .set .ensures)
+    go-writes (z .args .session .now) (z .args .masks .now) (z .args .index .now) (z .pre .1 .0) (z .args .left) (z .args .fork) (z .args .m) (z .args .stack .now) (z .pre .1 .1 .1) (record { current = z .args .current .now; ended = z .args .ended .now; tallies = z .args .tallies .now }) (z .pre .1 .1 .0) (a .last .1 .1 .1 .1 .1 .0) (a .result) (a .ensures) (c .before .before .before .before .before .before .before .before .event2 .given .0 .0) (c .before .before .before .before .before .before .before .before .event2 .given .0 .1 .0) (c .before .before .before .before .before .before .before .before .event2 .given .0 .1 .1 .0) (c .before .before .before .before .before .before .before .before .event2 .given .1) (c .before .before .before .before .before .if1 .left) (c .before .before .before .set .last .0) (c .before .before .before .set .ensures)
 
 go-on-same-length-11 : (t : ℕ) → go-on-lts.Need-same-length-11 (
   advance-reads.Asked,
@@ -709,7 +709,7 @@ go-on-returns-6 : (t : ℕ) → go-on-lts.Need-returns-6 (
 go-on-returns-6 t c =
     let z = c .before .before .before .before .before .before .before .before .before .before .before .before .before .before .before .before .before .before .before .before .before .before in
     let a = c .before .before .before .before .before .before .before .before .before .before .before .before .advance in
-    go-reads (z .args .session .now) (z .args .masks .now) (z .args .index .now) (z .pre .1 .0) (z .args .left) (z .args .fork) (z .args .m) (z .args .stack .now) (z .pre .1 .1 .1) (record { current = z .args .current .now; ended = z .args .ended .now; tallies = z .args .tallies .now }) (z .pre .1 .1 .0) (a .last .1 .1 .1 .1 .0) (a .result) (a .ensures) (c .before .before .before .before .before .before .before .before .event3 .given .0 .0) (c .before .before .before .before .before .before .before .before .event3 .given .0 .1 .0) (c .before .before .before .before .before .before .before .before .event3 .given .0 .1 .1 .0) (c .before .before .before .before .before .before .before .before .event3 .given .1) (c .before .before .before .before .before .get .result) (c .before .before .before .before .before .get .ensures) (c .before .before .set-register .last .0) (c .before .before .set-register .ensures)
+    go-reads (z .args .session .now) (z .args .masks .now) (z .args .index .now) (z .pre .1 .0) (z .args .left) (z .args .fork) (z .args .m) (z .args .stack .now) (z .pre .1 .1 .1) (record { current = z .args .current .now; ended = z .args .ended .now; tallies = z .args .tallies .now }) (z .pre .1 .1 .0) (a .last .1 .1 .1 .1 .1 .0) (a .result) (a .ensures) (c .before .before .before .before .before .before .before .before .event3 .given .0 .0) (c .before .before .before .before .before .before .before .before .event3 .given .0 .1 .0) (c .before .before .before .before .before .before .before .before .event3 .given .0 .1 .1 .0) (c .before .before .before .before .before .before .before .before .event3 .given .1) (c .before .before .before .before .before .get .result) (c .before .before .before .before .before .get .ensures) (c .before .before .set-register .last .0) (c .before .before .set-register .ensures)
 
 go-on-same-length-13 : (t : ℕ) → go-on-lts.Need-same-length-13 (
   advance-reads.Asked,
@@ -793,7 +793,7 @@ go-on-returns-7 t c =
     let z = c .before .before .before .before .before .before .before .before .before .before .before .before .before .before .before .before .before .before .before .before .before .before .before .before .before .before .before .before .before .before in
     let a = c .before .before .before .before .before .before .before .before .before .before .before .before .before .before .before .before .before .before .before .before .advance in
     let r = c .before .before .before .before .before .before .before .run-kept in
-    go-forks (z .args .session .now) (z .args .masks .now) (z .args .index .now) (z .pre .1 .0) (z .args .left) (z .args .fork) (z .args .m) (z .args .stack .now) (z .pre .1 .1 .1) (record { current = z .args .current .now; ended = z .args .ended .now; tallies = z .args .tallies .now }) (z .pre .1 .1 .0) (a .last .1 .1 .1 .1 .0) (a .result) (a .ensures) (c .before .before .before .before .before .before .before .before .before .before .before .before .before .before .before .before .event4 .given .0 .0) (c .before .before .before .before .before .before .before .before .before .before .before .before .before .before .before .before .event4 .given .0 .1 .0) (c .before .before .before .before .before .before .before .before .before .before .before .before .before .before .before .before .event4 .given .0 .1 .1 .0) (c .before .before .before .before .before .before .before .before .before .before .before .before .before .before .before .before .event4 .given .0 .1 .1 .1 .0) (c .before .before .before .before .before .before .before .before .before .before .before .before .before .before .before .before .event4 .given .1) (c .before .before .before .before .before .before .before .before .before .before .before .before .before .if2 .left) (c .before .before .before .before .before .before .before .before .before .before .before .before .child-stamp .result) (c .before .before .before .before .before .before .before .before .before .before .before .before .child-stamp .ensures) (record { current = r .last .1 .1 .1 .0; ended = r .last .1 .1 .1 .1 .0; tallies = r .last .1 .1 .1 .1 .1 .0 }) (r .ensures)
+    go-forks (z .args .session .now) (z .args .masks .now) (z .args .index .now) (z .pre .1 .0) (z .args .left) (z .args .fork) (z .args .m) (z .args .stack .now) (z .pre .1 .1 .1) (record { current = z .args .current .now; ended = z .args .ended .now; tallies = z .args .tallies .now }) (z .pre .1 .1 .0) (a .last .1 .1 .1 .1 .1 .0) (a .result) (a .ensures) (c .before .before .before .before .before .before .before .before .before .before .before .before .before .before .before .before .event4 .given .0 .0) (c .before .before .before .before .before .before .before .before .before .before .before .before .before .before .before .before .event4 .given .0 .1 .0) (c .before .before .before .before .before .before .before .before .before .before .before .before .before .before .before .before .event4 .given .0 .1 .1 .0) (c .before .before .before .before .before .before .before .before .before .before .before .before .before .before .before .before .event4 .given .0 .1 .1 .1 .0) (c .before .before .before .before .before .before .before .before .before .before .before .before .before .before .before .before .event4 .given .1) (c .before .before .before .before .before .before .before .before .before .before .before .before .before .if2 .left) (c .before .before .before .before .before .before .before .before .before .before .before .before .child-stamp .result) (c .before .before .before .before .before .before .before .before .before .before .before .before .child-stamp .ensures) (record { current = r .last .1 .1 .1 .0; ended = r .last .1 .1 .1 .1 .0; tallies = r .last .1 .1 .1 .1 .1 .0 }) (r .ensures)
 
 run-kept-cast-if1 :
     (t : ℕ) →

@@ -12,11 +12,11 @@ use Rattle.scheduler.proofs.plain.run_next.Statement.{statement}
 use Rattle.scheduler.proofs.plain.run_next.Tie as tie
 
 abbrev Inv-loop : tie.InvT-loop
-Inv-loop session masks index current₀ ended tallies₀ queue₀ work₀ level next stack₀ m₀ ending₀ current tallies queue work stack m ending =
-    NextLoop session (record { current = current₀; ended = ended; tallies = tallies₀; queue = queue₀; work = work₀ }) (record { current = current; ended = ended; tallies = tallies; queue = queue; work = work }) level m₀ stack₀ m stack × ((ending ≡ m .ending) × (length stack ≡ stackWords))
+Inv-loop session masks index current₀ ended tallies₀ queue₀ work₀ level next seen₀ stack₀ m₀ ending₀ current tallies queue work seen stack m ending =
+    NextLoop session (record { current = current₀; ended = ended; tallies = tallies₀; queue = queue₀; work = work₀ }) (record { current = current; ended = ended; tallies = tallies; queue = queue; work = work }) level m₀ stack₀ m stack seen × ((ending ≡ m .ending) × (length stack ≡ stackWords))
 
 abbrev μ-loop : tie.MeasureT-loop
-μ-loop session masks index current₀ ended tallies₀ queue₀ work₀ level next stack₀ m₀ ending₀ current tallies queue work stack m ending =
+μ-loop session masks index current₀ ended tallies₀ queue₀ work₀ level next seen₀ stack₀ m₀ ending₀ current tallies queue work seen stack m ending =
     stepsLeft m
 
 mul-message-at : tie.Need-mul-message-at Inv-loop μ-loop
@@ -131,31 +131,34 @@ is-running-requires c κs =
 slice-aggregate-go-on : tie.Need-slice-aggregate-go-on Inv-loop μ-loop
 slice-aggregate-go-on c = search (needs, c .before .before .before .before .before .before .before .before .loop .inv .1 .1)
 
+slice-aggregate-go-on-2 : tie.Need-slice-aggregate-go-on-2 Inv-loop μ-loop
+slice-aggregate-go-on-2 c = search (needs, c .before .before .before .before .before .before .before .before .before .loop .inv .0 .seen-long)
+
 go-on-requires : tie.Need-go-on-requires Inv-loop μ-loop
 go-on-requires c κs =
-    let s = c .before .before .before .before .before .before .before .before .before .before .before .before .before .before .before .before .before .before .before .before .before .before .before .before .before in
-    let l = c .before .before .before .before .before .before .before .before .loop in
-    (s .pre .0, next-goes (s .args .session .now) (s .args .masks .now) (s .args .index .now) (s .pre .0) (record { current = s .args .current .now; ended = s .args .ended .now; tallies = s .args .tallies .now; queue = s .args .queue .now; work = s .args .work .now }) (s .args .level) (s .pre .1) (c .before .before .before .before .before .before .before .before .before .before .before .before .before .before .message-at .result) (c .before .before .before .before .before .before .before .before .before .before .before .before .before .before .message-at .ensures) (c .before .before .before .before .before .before .before .before .before .before .start .result) _ (c .before .before .before .before .before .before .before .before .before .before .start .ensures .0) (c .before .before .before .before .before .before .before .before .before .before .start .ensures .1) (record { current = l .current; ended = s .args .ended .now; tallies = l .tallies; queue = l .queue; work = l .work }) (l .m) (l .stack) (l .inv .0) (ap isRunning (sym (c .before .before .before .before .before .before .before .before .loop .inv .1 .0)) ∙ sym (c .before .before .before .before .before .before .before .is-running .ensures) ∙ c .before .before .before .before .before .before .if1 .taken))
+    let s = c .before .before .before .before .before .before .before .before .before .before .before .before .before .before .before .before .before .before .before .before .before .before .before .before .before .before in
+    let l = c .before .before .before .before .before .before .before .before .before .loop in
+    (s .pre .0, next-goes (s .args .session .now) (s .args .masks .now) (s .args .index .now) (s .pre .0) (record { current = s .args .current .now; ended = s .args .ended .now; tallies = s .args .tallies .now; queue = s .args .queue .now; work = s .args .work .now }) (s .args .level) (s .pre .1) (c .before .before .before .before .before .before .before .before .before .before .before .before .before .before .before .message-at .result) (c .before .before .before .before .before .before .before .before .before .before .before .before .before .before .before .message-at .ensures) (c .before .before .before .before .before .before .before .before .before .before .before .start .result) _ (c .before .before .before .before .before .before .before .before .before .before .before .start .ensures .0) (c .before .before .before .before .before .before .before .before .before .before .before .start .ensures .1) (record { current = l .current; ended = s .args .ended .now; tallies = l .tallies; queue = l .queue; work = l .work }) (l .m) (l .stack) (l .seen) (l .inv .0) (ap isRunning (sym (c .before .before .before .before .before .before .before .before .before .loop .inv .1 .0)) ∙ sym (c .before .before .before .before .before .before .before .before .is-running .ensures) ∙ c .before .before .before .before .before .before .before .if1 .taken))
 
 loop-less : tie.Need-loop-less Inv-loop μ-loop
 loop-less c =
-    let s = c .before .before .before .before .before .before .before .before .before .before .before .before .before .before .before .before .before .before .before .before .before .before .before .before .before .before .before .before .before .before .before .before .before .before .before in
-    let l = c .before .before .before .before .before .before .before .before .before .before .before .before .before .before .before .before .before .before .loop in
-    let r = c .before .before .before .before .before .before .before .before .before .go-on in
-    next-less (s .args .session .now) (s .args .level) (l .m) (l .stack) _ (record { current = l .current; ended = s .args .ended .now; tallies = l .tallies; queue = l .queue; work = l .work }) _ (r .result) (l .inv .0 .still (ap isRunning (sym (c .before .before .before .before .before .before .before .before .before .before .before .before .before .before .before .before .before .before .loop .inv .1 .0)) ∙ sym (c .before .before .before .before .before .before .before .before .before .before .before .before .before .before .before .before .before .is-running .ensures) ∙ c .before .before .before .before .before .before .before .before .before .before .before .before .before .before .before .before .if1 .taken)) (r .ensures)
+    let s = c .before .before .before .before .before .before .before .before .before .before .before .before .before .before .before .before .before .before .before .before .before .before .before .before .before .before .before .before .before .before .before .before .before .before .before .before .before in
+    let l = c .before .before .before .before .before .before .before .before .before .before .before .before .before .before .before .before .before .before .before .before .loop in
+    let r = c .before .before .before .before .before .before .before .before .before .before .go-on in
+    next-less (s .args .session .now) (s .args .level) (l .m) (l .stack) _ (l .seen) _ (record { current = l .current; ended = s .args .ended .now; tallies = l .tallies; queue = l .queue; work = l .work }) _ (r .result) (l .inv .0 .still (ap isRunning (sym (c .before .before .before .before .before .before .before .before .before .before .before .before .before .before .before .before .before .before .before .before .loop .inv .1 .0)) ∙ sym (c .before .before .before .before .before .before .before .before .before .before .before .before .before .before .before .before .before .before .before .is-running .ensures) ∙ c .before .before .before .before .before .before .before .before .before .before .before .before .before .before .before .before .before .before .if1 .taken)) (r .ensures)
 
 loop-again : tie.Need-loop-again Inv-loop μ-loop
 loop-again c =
-    let s = c .before .before .before .before .before .before .before .before .before .before .before .before .before .before .before .before .before .before .before .before .before .before .before .before .before .before .before .before .before .before .before .before .before .before .before in
-    let l = c .before .before .before .before .before .before .before .before .before .before .before .before .before .before .before .before .before .before .loop in
-    let r = c .before .before .before .before .before .before .before .before .before .go-on in
-    (next-again (s .args .session .now) _ (record { current = l .current; ended = s .args .ended .now; tallies = l .tallies; queue = l .queue; work = l .work }) (s .args .level) _ _ (l .m) (l .stack) (l .inv .0) (record { current = r .last .1 .1 .1 .0; ended = s .args .ended .now; tallies = r .last .1 .1 .1 .1 .1 .0; queue = r .last .1 .1 .1 .1 .1 .1 .0; work = r .last .1 .1 .1 .1 .1 .1 .1 .0 }) (r .result) _ (r .ensures) (r .kept .1 .1 .1 .0) refl (r .kept .1 .1 .1 .1 .1 .0) (r .kept .1 .1 .1 .1 .1 .1 .0) (r .kept .1 .1 .1 .1 .1 .1 .1 .0), (refl, r .ensures .long ∙ l .inv .1 .1))
+    let s = c .before .before .before .before .before .before .before .before .before .before .before .before .before .before .before .before .before .before .before .before .before .before .before .before .before .before .before .before .before .before .before .before .before .before .before .before .before in
+    let l = c .before .before .before .before .before .before .before .before .before .before .before .before .before .before .before .before .before .before .before .before .loop in
+    let r = c .before .before .before .before .before .before .before .before .before .before .go-on in
+    (next-again (s .args .session .now) _ (record { current = l .current; ended = s .args .ended .now; tallies = l .tallies; queue = l .queue; work = l .work }) (s .args .level) _ _ (l .m) (l .stack) (l .seen) (l .inv .0) (record { current = r .last .1 .1 .1 .0; ended = s .args .ended .now; tallies = r .last .1 .1 .1 .1 .1 .0; queue = r .last .1 .1 .1 .1 .1 .1 .0; work = r .last .1 .1 .1 .1 .1 .1 .1 .0 }) (r .result) _ _ (r .ensures) (r .kept .1 .1 .1 .0) refl (r .kept .1 .1 .1 .1 .1 .0) (r .kept .1 .1 .1 .1 .1 .1 .0) (r .kept .1 .1 .1 .1 .1 .1 .1 .0), (refl, r .ensures .long ∙ l .inv .1 .1))
 
 close-requires : tie.Need-close-requires Inv-loop μ-loop
 close-requires c κs =
     let s = c .before .before .before .before .before .before .before .before .before .before .before .before .before .before .before .before .before .before .before .before .before .before in
     let l = c .before .before .before .before .before .loop in
-    next-closes (s .args .session .now) (s .args .masks .now) (s .args .index .now) (s .pre .0) (record { current = s .args .current .now; ended = s .args .ended .now; tallies = s .args .tallies .now; queue = s .args .queue .now; work = s .args .work .now }) (s .args .level) (s .pre .1) (c .before .before .before .before .before .before .before .before .before .before .before .message-at .result) (c .before .before .before .before .before .before .before .before .before .before .before .message-at .ensures) (c .before .before .before .before .before .before .before .start .result) _ (c .before .before .before .before .before .before .before .start .ensures .0) (c .before .before .before .before .before .before .before .start .ensures .1) (record { current = l .current; ended = s .args .ended .now; tallies = l .tallies; queue = l .queue; work = l .work }) (l .m) (l .stack) (l .inv .0) (ap isRunning (sym (c .before .before .before .before .before .loop .inv .1 .0)) ∙ sym (c .before .before .before .before .is-running .ensures) ∙ c .before .before .before .if1 .left)
+    next-closes (s .args .session .now) (s .args .masks .now) (s .args .index .now) (s .pre .0) (record { current = s .args .current .now; ended = s .args .ended .now; tallies = s .args .tallies .now; queue = s .args .queue .now; work = s .args .work .now }) (s .args .level) (s .pre .1) (c .before .before .before .before .before .before .before .before .before .before .before .message-at .result) (c .before .before .before .before .before .before .before .before .before .before .before .message-at .ensures) (c .before .before .before .before .before .before .before .start .result) _ (c .before .before .before .before .before .before .before .start .ensures .0) (c .before .before .before .before .before .before .before .start .ensures .1) (record { current = l .current; ended = s .args .ended .now; tallies = l .tallies; queue = l .queue; work = l .work }) (l .m) (l .stack) (l .seen) (l .inv .0) (ap isRunning (sym (c .before .before .before .before .before .loop .inv .1 .0)) ∙ sym (c .before .before .before .before .is-running .ensures) ∙ c .before .before .before .if1 .left)
 
 same-length : tie.Need-same-length Inv-loop μ-loop
 same-length c =
@@ -182,7 +185,7 @@ returns : tie.Need-returns Inv-loop μ-loop
 returns c =
     let s = c .before .before .before .before .before .before .before .before .before .before .before .before .before .before .before .before .before .before .before .before .before .before .before .before .before .before .before in
     let l = c .before .before .before .before .before .before .before .before .before .before .loop in
-    next-done (s .args .session .now) (s .args .masks .now) (s .args .index .now) (s .pre .0) (record { current = s .args .current .now; ended = s .args .ended .now; tallies = s .args .tallies .now; queue = s .args .queue .now; work = s .args .work .now }) (s .args .level) (s .pre .1) (c .before .before .before .before .before .before .before .before .before .before .before .before .before .before .before .before .message-at .result) (c .before .before .before .before .before .before .before .before .before .before .before .before .before .before .before .before .message-at .ensures) (c .before .before .before .before .before .before .before .before .before .before .before .before .start .result) _ (c .before .before .before .before .before .before .before .before .before .before .before .before .start .ensures .0) (c .before .before .before .before .before .before .before .before .before .before .before .before .start .ensures .1) (record { current = l .current; ended = s .args .ended .now; tallies = l .tallies; queue = l .queue; work = l .work }) (l .m) (l .stack) (l .inv .0) (ap isRunning (sym (c .before .before .before .before .before .before .before .before .before .before .loop .inv .1 .0)) ∙ sym (c .before .before .before .before .before .before .before .before .before .is-running .ensures) ∙ c .before .before .before .before .before .before .before .before .if1 .left) (c .before .before .before .before .close .last .0) (c .before .before .before .before .close .last .1 .0) (c .before .before .before .before .close .ensures)
+    next-done (s .args .session .now) (s .args .masks .now) (s .args .index .now) (s .pre .0) (record { current = s .args .current .now; ended = s .args .ended .now; tallies = s .args .tallies .now; queue = s .args .queue .now; work = s .args .work .now }) (s .args .level) (s .pre .1) (c .before .before .before .before .before .before .before .before .before .before .before .before .before .before .before .before .message-at .result) (c .before .before .before .before .before .before .before .before .before .before .before .before .before .before .before .before .message-at .ensures) (c .before .before .before .before .before .before .before .before .before .before .before .before .start .result) _ (c .before .before .before .before .before .before .before .before .before .before .before .before .start .ensures .0) (c .before .before .before .before .before .before .before .before .before .before .before .before .start .ensures .1) (record { current = l .current; ended = s .args .ended .now; tallies = l .tallies; queue = l .queue; work = l .work }) (l .m) (l .stack) (l .seen) (l .inv .0) (ap isRunning (sym (c .before .before .before .before .before .before .before .before .before .before .loop .inv .1 .0)) ∙ sym (c .before .before .before .before .before .before .before .before .before .is-running .ensures) ∙ c .before .before .before .before .before .before .before .before .if1 .left) (c .before .before .before .before .close .last .0) (c .before .before .before .before .close .last .1 .0) (c .before .before .before .before .close .ensures)
 
 pub run-next-spec : {M : Type 1} → statement M
 run-next-spec =
@@ -213,6 +216,7 @@ run-next-spec =
     loop-holds
     is-running-requires
     slice-aggregate-go-on
+    slice-aggregate-go-on-2
     go-on-requires
     loop-less
     loop-again

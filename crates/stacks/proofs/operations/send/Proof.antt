@@ -24,9 +24,9 @@ level-of-requires c κs = search needs
 level-of-requires-2 : tie.Need-level-of-requires-2
 level-of-requires-2 c κs = search needs
 
-fate-of-requires : tie.Need-fate-of-requires
-fate-of-requires c κs =
-    let s = c .before .before .before .before .before .before .before .before in
+fate-by-requires : tie.Need-fate-by-requires
+fate-by-requires c κs =
+    let s = c .before .before .before .before .before .before .before .before .before in
     lent-ordered (s .args .session .now) (s .args .masks .now) (s .pre .0 .leveled)
 
 enum-told : tie.Need-enum-told
@@ -52,11 +52,11 @@ enum-known-fate c = search needs
 
 cast-fork : tie.Need-cast-fork
 cast-fork c =
-    let s = c .before .before .before .before .before .before .before .before .before .before .before .before .before in
+    let s = c .before .before .before .before .before .before .before .before .before .before .before .before .before .before in
     let t = s .args .session .now in
     let lent = s .pre .0 .leveled in
     let u = c .before .before .fate .given .0 .0 in
-    let e = sym (c .before .before .before .before .fate-of .ensures) ∙ c .before .before .fate .given .1 in
+    let e = sym (c .before .before .before .before .fate-by .ensures) ∙ c .before .before .fate .given .1 in
     omega (
       arith,
       fork-present t (s .args .masks .now) lent _ _ (s .args .c) u (s .pre .0 .placed) (s .pre .2 .0) (rw (c .before .before .before .before .before .level-of2 .ensures) at e),
@@ -72,12 +72,12 @@ same-length c = search needs
 returns : tie.Need-returns
 unfolding sent
 returns c =
-    let s = c .before .before .before .before .before .before .before .before .before .before .before .before .before .before .before in
+    let s = c .before .before .before .before .before .before .before .before .before .before .before .before .before .before .before .before in
     let t = s .args .session .now in
-    send-operated (s .args .session .now) (s .args .current .now) (s .args .all) (s .args .level) (s .args .at) (s .args .stack .now) _ (s .args .masks .now) (s .pre .0 .leveled) (s .args .a) (s .args .b) (s .args .c)
+    send-operated (s .args .session .now) (s .args .current .now) (s .args .seen .now) (s .args .all) (s .args .level) (s .args .at) (s .args .stack .now) _ (s .args .masks .now) (s .pre .0 .leveled) (s .args .a) (s .args .b) (s .args .c)
     (c .before .before .before .before .before .before .before .before .level-of .result) (c .before .before .before .before .before .before .before .level-of2 .result) fate.Call _
     (c .before .before .before .before .before .before .before .before .level-of .ensures ∙ ap (levelOf t) (c .before .before .before .before .before .before .before .before .before .object .ensures)) (c .before .before .before .before .before .before .before .level-of2 .ensures)
-    (sym (c .before .before .before .before .before .before .fate-of .ensures) ∙ c .before .before .before .before .enum-told .given .1)
+    (sym (c .before .before .before .before .before .before .fate-by .ensures) ∙ c .before .before .before .before .enum-told .given .1)
     (s .pre .2)
     (c .before .before .call .ensures)
 
@@ -87,12 +87,12 @@ same-length-2 c = search needs
 returns-2 : tie.Need-returns-2
 unfolding sent
 returns-2 c =
-    let s = c .before .before .before .before .before .before .before .before .before .before .before .before .before .before .before in
+    let s = c .before .before .before .before .before .before .before .before .before .before .before .before .before .before .before .before in
     let t = s .args .session .now in
-    send-operated (s .args .session .now) (s .args .current .now) (s .args .all) (s .args .level) (s .args .at) (s .args .stack .now) _ (s .args .masks .now) (s .pre .0 .leveled) (s .args .a) (s .args .b) (s .args .c)
+    send-operated (s .args .session .now) (s .args .current .now) (s .args .seen .now) (s .args .all) (s .args .level) (s .args .at) (s .args .stack .now) _ (s .args .masks .now) (s .pre .0 .leveled) (s .args .a) (s .args .b) (s .args .c)
     (c .before .before .before .before .before .before .before .before .level-of .result) (c .before .before .before .before .before .before .before .level-of2 .result) fate.Discard _
     (c .before .before .before .before .before .before .before .before .level-of .ensures ∙ ap (levelOf t) (c .before .before .before .before .before .before .before .before .before .object .ensures)) (c .before .before .before .before .before .before .before .level-of2 .ensures)
-    (sym (c .before .before .before .before .before .before .fate-of .ensures) ∙ c .before .before .before .before .enum-told2 .given .1)
+    (sym (c .before .before .before .before .before .before .fate-by .ensures) ∙ c .before .before .before .before .enum-told2 .given .1)
     (s .pre .2)
     (c .before .before .call2 .ensures)
 
@@ -101,12 +101,12 @@ same-length-3 c = search needs
 
 returns-3 : tie.Need-returns-3
 returns-3 c =
-    let s = c .before .before .before .before .before .before .before .before .before .before .before .before .before .before .before in
+    let s = c .before .before .before .before .before .before .before .before .before .before .before .before .before .before .before .before in
     let t = s .args .session .now in
-    send-operated (s .args .session .now) (s .args .current .now) (s .args .all) (s .args .level) (s .args .at) (s .args .stack .now) _ (s .args .masks .now) (s .pre .0 .leveled) (s .args .a) (s .args .b) (s .args .c)
+    send-operated (s .args .session .now) (s .args .current .now) (s .args .seen .now) (s .args .all) (s .args .level) (s .args .at) (s .args .stack .now) _ (s .args .masks .now) (s .pre .0 .leveled) (s .args .a) (s .args .b) (s .args .c)
     (c .before .before .before .before .before .before .before .before .level-of .result) (c .before .before .before .before .before .before .before .level-of2 .result) fate.Block _
     (c .before .before .before .before .before .before .before .before .level-of .ensures ∙ ap (levelOf t) (c .before .before .before .before .before .before .before .before .before .object .ensures)) (c .before .before .before .before .before .before .before .level-of2 .ensures)
-    (sym (c .before .before .before .before .before .before .fate-of .ensures) ∙ c .before .before .before .before .enum-told3 .given .1)
+    (sym (c .before .before .before .before .before .before .fate-by .ensures) ∙ c .before .before .before .before .enum-told3 .given .1)
     (s .pre .2)
     (block-made (s .args .at) (s .args .stack .now) _ (s .args .a) (s .args .b) (s .args .c) (c .before .before .set-register .ensures))
 
@@ -116,12 +116,12 @@ same-length-4 c = search needs
 returns-4 : tie.Need-returns-4
 unfolding sent
 returns-4 c =
-    let s = c .before .before .before .before .before .before .before .before .before .before .before .before .before .before .before .before in
+    let s = c .before .before .before .before .before .before .before .before .before .before .before .before .before .before .before .before .before in
     let t = s .args .session .now in
-    send-operated (s .args .session .now) (s .args .current .now) (s .args .all) (s .args .level) (s .args .at) (s .args .stack .now) _ (s .args .masks .now) (s .pre .0 .leveled) (s .args .a) (s .args .b) (s .args .c)
+    send-operated (s .args .session .now) (s .args .current .now) (s .args .seen .now) (s .args .all) (s .args .level) (s .args .at) (s .args .stack .now) _ (s .args .masks .now) (s .pre .0 .leveled) (s .args .a) (s .args .b) (s .args .c)
     (c .before .before .before .before .before .before .before .before .before .level-of .result) (c .before .before .before .before .before .before .before .before .level-of2 .result) (fate.Fork (c .before .before .before .before .before .fate .given .0 .0)) _
     (c .before .before .before .before .before .before .before .before .before .level-of .ensures ∙ ap (levelOf t) (c .before .before .before .before .before .before .before .before .before .before .object .ensures)) (c .before .before .before .before .before .before .before .before .level-of2 .ensures)
-    (sym (c .before .before .before .before .before .before .before .fate-of .ensures) ∙ c .before .before .before .before .before .fate .given .1)
+    (sym (c .before .before .before .before .before .before .before .fate-by .ensures) ∙ c .before .before .before .before .before .fate .given .1)
     (s .pre .2)
     (c .before .before .fork .ensures)
 
@@ -133,7 +133,7 @@ send-spec =
     cast-level-of
     level-of-requires
     level-of-requires-2
-    fate-of-requires
+    fate-by-requires
     enum-told
     call-requires
     enum-told-2

@@ -17,8 +17,8 @@ level-of-requires c κs = search needs
 
 returns : tie.Need-returns
 returns c =
-    let s = c .before .before .before .before .before .before .before in
-    write-apart (s .args .session .now) (s .args .current .now) (s .args .all) (s .args .level) (s .args .at) (s .args .stack .now) (s .args .a) (s .args .b)
+    let s = c .before .before .before .before .before .before .before .before in
+    write-apart (s .args .session .now) (s .args .current .now) (s .args .seen .now) (s .args .all) (s .args .level) (s .args .at) (s .args .stack .now) (s .args .a) (s .args .b)
     (λ q. c .if1 .taken (c .before .level-of .ensures ∙ ap (levelOf (s .args .session .now)) (c .before .before .object .ensures) ∙ q))
 
 register-requires : tie.Need-register-requires
@@ -26,8 +26,8 @@ register-requires c κs = search needs
 
 returns-2 : tie.Need-returns-2
 returns-2 c =
-    let s = c .before .before .before .before .before .before .before .before in
-    write-left (s .args .session .now) (s .args .current .now) (s .args .all) (s .args .level) (s .args .at) (s .args .stack .now) (s .args .a) (s .args .b) (c .before .before .before .object .result) (c .register .result)
+    let s = c .before .before .before .before .before .before .before .before .before in
+    write-left (s .args .session .now) (s .args .current .now) (s .args .seen .now) (s .args .all) (s .args .level) (s .args .at) (s .args .stack .now) (s .args .a) (s .args .b) (c .before .before .before .object .result) (c .register .result)
     (ap (levelOf (s .args .session .now)) (sym (c .before .before .before .object .ensures)) ∙ sym (c .before .before .level-of .ensures) ∙ c .before .if1 .left)
     (c .before .before .before .object .ensures) (c .register .ensures) (s .pre .0 .known .present) (s .pre .2)
 
