@@ -30,6 +30,10 @@ pub fn fate_of(masks: &[u16], manager: usize, sender: usize, receiver: usize) ->
     if !lattice::dominates(masks, receiver, sender) {
         return Fate::Block;
     }
+    // A manager at the sender's level: the receiver's is above it, and so it is their join.
+    if manager == sender {
+        return Fate::Fork(receiver);
+    }
     let bound = lattice::join(masks, manager, receiver);
     if bound == manager {
         Fate::Discard

@@ -48,9 +48,14 @@ pub fn fork(
     let i = tallies[level];
     let depth = queues::depth_at(queue, level, i);
     let child = queues::child_stamp(queues::stamp_at(queue, level, i), depth, forks);
-    let row = queues::child_row(queue, level, i, child, depth + 1, stamp, message);
     let started = tallies[above] + tallies[32 + above];
-    tallies[16 + above] = queues::arrive(queue, above, started, tallies[16 + above], &row);
+    let waiting = tallies[16 + above];
+    // A fork that is dropped changes nothing, and no row is made of it.
+    if queues::drops(queue, above, started, waiting, child) {
+        return;
+    }
+    let row = queues::child_row(queue, level, i, child, depth + 1, stamp, message);
+    tallies[16 + above] = queues::arrive(queue, above, started, waiting, &row);
 }
 
 // What a script step of the manager that runs at a level does outside it.

@@ -1,16 +1,17 @@
--- Forks read from words, and one that arrives where there is room for two, computed by the definitions. Assumes nothing.
+-- Forks read from words, one that arrives where there is room for two, and which are dropped, computed by the definitions. Assumes nothing.
 use Prim.Native.Nat.{ℕ, _-_}
 use mathlib.Core.Path.{_≡_, refl}
+use mathlib.Core.Bool.{true, false}
 use mathlib.Core.List.{List, [], _∷_, _++_, map}
 use lib.ListN.{replicate, take}
 use Rattle.session.specs.Lists.{tab, risingFrom}
 use Rattle.session.specs.declared.Message.{Message}
 use Rattle.session.specs.declared.Value.the-variants.{Nil, Number}
 use Rattle.model.specs.Limits.{maxManagers}
-use Rattle.model.specs.Lists.{inserted}
+use Rattle.model.specs.Lists.{inserted, lastOr}
 use Rattle.model.specs.Fork.{Fork, rootFork}
 use Rattle.rows.specs.Rows.{rowAt, rowsAt}
-use Rattle.queues.specs.Queue.{forkPlace, forkOfRow, rowOf, forkAt, forksAt, ForksRise}
+use Rattle.queues.specs.Queue.{forkPlace, forkOfRow, rowOf, forkAt, forksAt, ForksRise, isDropped}
 
 abbrev root : Message
 root = record { object = 3; name = 15; parameter = Nil }
@@ -38,7 +39,22 @@ pub record Examples : Type 0 where
   rise : ForksRise queue 0 30 2
   -- of three there is room for those of the two smallest stamps
   kept : stampsOf (take (maxManagers - 30) (inserted (λ f. f .stamp) (forkOfRow 1 (rowOf 0x20000000 1 sent)) (forksAt 1 queue 0 30 2))) ≡ 0x10000000 ∷ 0x20000000 ∷ []
+  -- one of the last one's stamp is dropped, one of a smaller stamp is not; where 31 are kept none is
+  same : isDropped 30 (forksAt 1 queue 0 30 2) 0x30000000 ≡ true
+  smaller : isDropped 30 (forksAt 1 queue 0 30 2) 0x2fffffff ≡ false
+  roomy : isDropped 30 (forksAt 1 queue 0 30 1) 0x30000000 ≡ false
+  none-waits : isDropped 32 [] 0 ≡ true
 
 pub examples : Examples
-unfolding tab risingFrom inserted rowAt rowsAt forkOfRow forkAt forksAt
-examples = record { root-back = refl; child-back = refl; rise = refl; kept = refl }
+unfolding tab risingFrom inserted lastOr rowAt rowsAt forkOfRow forkAt forksAt isDropped
+examples =
+    record {
+      root-back = refl;
+      child-back = refl;
+      rise = refl;
+      kept = refl;
+      same = refl;
+      smaller = refl;
+      roomy = refl;
+      none-waits = refl;
+    }

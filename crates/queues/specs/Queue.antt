@@ -1,13 +1,15 @@
 -- The forks of each level, kept in words: 14 for each, 32 of them for each level. Assumes nothing.
 use Prim.Native.Nat.{ℕ, _+_, _*_, _-_, _%_, _^_, _≤_, _<_, min}
 use mathlib.Core.Path.{_≡_}
+use mathlib.Core.Bool.{Bool, _&&_}
 use mathlib.Core.List.{List, _∷_, map}
+use lib.Dec.{leb}
 use lib.ListN.{length, getD, set, take, replicate}
 use Rattle.session.specs.Limits.{maxLevels}
 use Rattle.session.specs.Lists.{tab}
 use Rattle.session.specs.declared.Message.{Message}
 use Rattle.model.specs.Limits.{maxManagers}
-use Rattle.model.specs.Lists.{inserted}
+use Rattle.model.specs.Lists.{inserted, lastOr}
 use Rattle.model.specs.Fork.{Fork, rootFork}
 use Rattle.model.specs.Result.{tag, numberIn}
 use Rattle.rows.specs.Rows.{rowAt, rowsAt, Rising}
@@ -83,6 +85,12 @@ pub record Room (ws : List ℕ) (l started waiting : ℕ) : Type 0 where
   pub level : l < maxLevels
   pub kept : started + waiting ≤ maxManagers
   pub rises : ForksRise ws l started waiting
+
+-- "others are dropped": where `started` forks have started and these wait, by rising stamp, a fork of this stamp is, if they are 32 and the
+-- last one's stamp is not greater
+unfoldable pub isDropped : ℕ → List Fork → ℕ → Bool
+isDropped started waiting stamp =
+    leb maxManagers (started + length waiting) && leb (lastOr 0 (map (λ y. y .stamp) waiting)) stamp
 
 -- a fork arrived at level l: of those that wait and this one the first are kept for which there is room. No other fork is touched
 pub record Arrived (ws ws' : List ℕ) (l started waiting : ℕ) (row : List ℕ) (count : ℕ) : Type 0 where

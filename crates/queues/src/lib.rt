@@ -11,7 +11,7 @@ ghost use mathlib.Core.Path.{_≡_};
 ghost use lib.ListN.{getD};
 ghost use Rattle.session.specs.Limits.{maxLevels};
 ghost use Rattle.model.specs.Fork.{childStamp};
-ghost use Rattle.queues.specs.Queue.{rowOf, forkAt, There, RootRow, ChildRow, Room, Arrived};
+ghost use Rattle.queues.specs.Queue.{rowOf, forkAt, forksAt, There, RootRow, ChildRow, Room, isDropped, Arrived};
 
 // The words of a fork of a message, that carries no write stamp.
 fn row_of(stamp: u32, depth: u8, message: Message) -> [u32; 14]
@@ -111,6 +111,21 @@ pub fn child_row(
     }
     row[6 + level] = carried as u32;
     row
+}
+
+// Whether a level where `started` have started and `waiting` wait drops a fork of this stamp, that
+// arrives: it is full, and none that waits has a greater stamp. Such a fork's row need not be made.
+pub fn drops(queue: &[u32], level: usize, started: usize, waiting: usize, stamp: u32) -> bool
+    requires { ⌜ Room (now queue) level started waiting ⌝ }
+    ensures { λ r. ⌜ ((n : ℕ) → isDropped started (forksAt n (now (queue .entry)) level started waiting) stamp ≡ r) ⌝ }
+{
+    if started + waiting < 32 {
+        return false;
+    }
+    if waiting == 0 {
+        return true;
+    }
+    queue[14 * (32 * level + 31)] <= stamp
 }
 
 // A fork arrives at a level where `started` have started and `waiting` wait: of those that wait and this

@@ -2,11 +2,12 @@
 use Prim.Native.Nat.{ℕ, _<_}
 use mathlib.Core.Path.{_≡_, refl}
 use mathlib.Core.Bool.{Bool, true, false, cond}
-use borrow.Author.Tests.{eqb-true, eqb-false}
+use borrow.Author.Tests.{eqb-true, eqb-false, ne-eqb}
 use lib.Dec.{eqb}
-use Rattle.lattice.specs.Order.{Dominance, strictly}
+use Rattle.lattice.specs.Order.{Dominance, strictly, PartialOrder}
 use Rattle.lattice.specs.Join.{JoinSemilattice, join}
-use Rattle.lattice.proofs.Laws.Join.{join-same, join-strict}
+use Rattle.lattice.proofs.Laws.Range.{not-both}
+use Rattle.lattice.proofs.Laws.Join.{join-right, join-same, join-strict}
 use Rattle.filter.specs.Filter.{fateOf}
 use Rattle.filter.specs.declared.Fate.{Fate}
 use Rattle.filter.specs.declared.Fate.the-variants.{Call, Discard, Block, Fork}
@@ -47,3 +48,9 @@ module _ (n : ℕ) (dom : Dominance) (sl : JoinSemilattice n dom) where
   unfolding fateOf
   fate-covers m l1 l2 hm h2 =
       covers m l1 l2 hm h2 (dom l1 l2) (dom l2 l1) (eqb (join n dom m l2) m) refl refl
+
+-- a message upward from the manager's own level is forked at the receiver's
+pub fate-own : (n : ℕ) (dom : Dominance) → PartialOrder n dom → (m l2 : ℕ) → l2 < n → dom m l2 ≡ false → dom l2 m ≡ true → fateOf n dom m m l2 ≡ Fork l2
+unfolding fateOf
+fate-own n dom po m l2 h d u =
+    rw (d, u, join-right n dom po m l2 h u, ne-eqb l2 m (λ e. not-both (dom m l2) (rw e (rw e at u)) d))

@@ -1,8 +1,13 @@
 -- `filter::fate_of` meets its contract: the definition's case, by the answers of `lattice`. Assumes nothing.
-use mathlib.Core.Path.{sym, _∙_}
+use mathlib.Core.Path.{_≡_, sym, _∙_}
+use mathlib.Core.Bool.{true, false}
 use borrow.Author.Needs.{needs}
 use borrow.Author.Tests.{not-true, not-false, eq-eqb, ne-eqb}
+use lib.ListN.{length}
+use Rattle.lattice.specs.Table.{dominates}
+use Rattle.lattice.proofs.Laws.Table.{partial-order, upper-present}
 use Rattle.filter.specs.Filter.{fateOf}
+use Rattle.filter.proofs.Laws.Fate.{fate-own}
 use Rattle.filter.proofs.fate_of.Statement.{statement}
 use Rattle.filter.proofs.fate_of.Tie as tie
 
@@ -21,18 +26,27 @@ unfolding fateOf
 returns-2 c =
     rw (sym (c .before .before .before .dominates .ensures) ∙ c .before .before .if1 .left, sym (c .before .dominates2 .ensures) ∙ not-true _ (c .if2 .taken))
 
+returns-3 : tie.Need-returns-3
+returns-3 c =
+    let s = c .before .before .before .before .before .before in
+    let g = s .args in
+    let masks = g .masks .now in
+    let d : dominates masks (g .sender) (g .receiver) ≡ false = sym (c .before .before .before .before .dominates .ensures) ∙ c .before .before .before .if1 .left in
+    let u : dominates masks (g .receiver) (g .sender) ≡ true = sym (c .before .before .dominates2 .ensures) ∙ not-false _ (c .before .if2 .left) in
+    rw (c .if3 .taken) (sym (fate-own (length masks) (dominates masks) (partial-order masks (s .pre)) (g .sender) (g .receiver) (upper-present masks (s .pre) (g .receiver) (g .sender) u) d u))
+
 join-requires : tie.Need-join-requires
 join-requires c κs = search needs
-
-returns-3 : tie.Need-returns-3
-unfolding fateOf
-returns-3 c =
-    rw (sym (c .before .before .before .before .before .dominates .ensures) ∙ c .before .before .before .before .if1 .left, sym (c .before .before .before .dominates2 .ensures) ∙ not-false _ (c .before .before .if2 .left), sym (c .before .join .ensures), eq-eqb _ _ (c .if3 .taken))
 
 returns-4 : tie.Need-returns-4
 unfolding fateOf
 returns-4 c =
-    rw (sym (c .before .before .before .before .before .dominates .ensures) ∙ c .before .before .before .before .if1 .left, sym (c .before .before .before .dominates2 .ensures) ∙ not-false _ (c .before .before .if2 .left), sym (c .before .join .ensures), ne-eqb _ _ (c .if3 .left))
+    rw (sym (c .before .before .before .before .before .before .dominates .ensures) ∙ c .before .before .before .before .before .if1 .left, sym (c .before .before .before .before .dominates2 .ensures) ∙ not-false _ (c .before .before .before .if2 .left), sym (c .before .join .ensures), eq-eqb _ _ (c .if4 .taken))
+
+returns-5 : tie.Need-returns-5
+unfolding fateOf
+returns-5 c =
+    rw (sym (c .before .before .before .before .before .before .dominates .ensures) ∙ c .before .before .before .before .before .if1 .left, sym (c .before .before .before .before .dominates2 .ensures) ∙ not-false _ (c .before .before .before .if2 .left), sym (c .before .join .ensures), ne-eqb _ _ (c .if4 .left))
 
 pub fate-of-spec : {M : Type 1} → statement M
 fate-of-spec =
@@ -42,6 +56,7 @@ fate-of-spec =
     returns
     dominates-requires-2
     returns-2
-    join-requires
     returns-3
-    returns-4)
+    join-requires
+    returns-4
+    returns-5)

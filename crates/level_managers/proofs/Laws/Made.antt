@@ -1,11 +1,11 @@
 -- What each function of a scheduler step asks of the ones that it calls, and what it promises of what they did. Assumes nothing.
 use Prim.Native.Nat.{ℕ, _+_, _-_, _^_, _≤_, _<_}
 use mathlib.Core.Path.{_≡_, refl, sym, _∙_, ap}
-use mathlib.Core.Bool.{true, false}
+use mathlib.Core.Bool.{Bool, true, false}
 use mathlib.Core.List.{List}
 use native.Mathlib.Omega.{arith}
 use lib.ListN.{length, getD, set, length-set}
-use lib.Seq.{getD-set-other}
+use lib.Seq.{getD-set-other, set-getD}
 use Rattle.lattice.proofs.Laws.Range.{not-both}
 use Rattle.session.specs.Limits.{maxLevels}
 use Rattle.session.specs.Parts.{levelCount}
@@ -35,7 +35,9 @@ use Rattle.model.proofs.Laws.Code.Needs.{live-runs}
 use Rattle.model.proofs.Laws.Code.Progress.{allowed}
 use Rattle.records.specs.Histories.{HistoryIs, HistoryRoom, Added}
 use Rattle.records.specs.declared.Ended.{Ended}
-use Rattle.queues.specs.Queue.{ChildRow, Arrived}
+use Rattle.queues.specs.Queue.{forksAt, isDropped, ChildRow, Arrived}
+use Rattle.queues.proofs.Laws.Queue.{dropped-arrives}
+use Rattle.queues.proofs.Laws.Row.{Fits, row-there}
 use Rattle.level_managers.specs.Kept.{Words, nextPlace, waitingPlace, busyPlace, tallyNumbers}
 use Rattle.level_managers.specs.Steps.{Read, Busy, IsBusy, runningFork, SeenIs, WriteReady, Wrote, startedOf, ForkReady, Forked, EffectReady, Parts, EffectDone, SettleReady, Settled, begunTallies, StartReady, Started, Stepping, MayStep, StepDone}
 use Rattle.level_managers.proofs.Laws.Ready.{told-rests, told-runs, waits-some, start-ready, busy-settles, effect-ready, settle-after}
@@ -54,6 +56,18 @@ module _ (tallies queue : List ℕ) (l forks u depth stamp : ℕ) (deep : (n : �
         count = count;
         arrived = arrived;
         tallies-are = refl;
+      }
+
+  -- one that is dropped: its row is not made, and nothing changes
+  pub forked-dropped : (carried child : ℕ) (message : Message) → child ≡ childStamp stamp depth (forks + 1) → Fits (depth + 1) message → carried < 65536 → ForkReady tallies queue l forks u → (dropped : Bool) → ((n : ℕ) → isDropped (startedOf tallies u) (forksAt n queue u (startedOf tallies u) (getD tallies (waitingPlace u) 0)) child ≡ dropped) → dropped ≡ true → Forked tallies tallies queue queue l carried forks u message
+  forked-dropped carried child message is fits small f dropped asked said =
+      let r = row-there queue l (getD tallies l 0) child (depth + 1) carried message (f .there .level) fits small in
+      record {
+        row = r .row;
+        child = λ n h k. rw (deep n, stamped n, sym is) (r .holds n h k);
+        count = getD tallies (waitingPlace u) 0;
+        arrived = dropped-arrives 0 queue u (startedOf tallies u) (getD tallies (waitingPlace u) 0) (r .row) (f .room) (r .wide) (rw (r .key) (asked 0 ∙ said));
+        tallies-are = sym (set-getD tallies (waitingPlace u) 0);
       }
 
 -- an effect asks for what its kind asks for, and is done where that is

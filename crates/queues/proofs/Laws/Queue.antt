@@ -1,21 +1,27 @@
 -- The forks of each level, kept in words: read one by one, one more, and those of other levels. Assumes nothing.
-use Prim.Native.Nat.{ℕ, suc, _+_, _*_, _-_, _%_, _≤_, _<_}
-use mathlib.Core.Path.{_≡_, refl, _∙_, ap}
+use Prim.Native.Nat.{ℕ, zero, suc, _+_, _*_, _-_, _%_, _≤_, _<_}
+use mathlib.Core.Path.{_≡_, refl, sym, _∙_, ap}
+use mathlib.Core.Bool.{true, false, _&&_}
 use mathlib.Core.List.{List, [], _∷_, map}
 use native.Mathlib.Nat.{add-zero, min-le-right}
 use native.Mathlib.Decide.{decLt}
 use native.Mathlib.Omega.{arith}
+use borrow.Author.Tests.{leb-true, le-leb, lt-leb}
+use lib.Dec.{leb}
 use lib.ListN.{length, getD, length-map}
+use Rattle.lattice.proofs.Laws.Range.{and-left, and-right}
 use Rattle.session.specs.Limits.{maxLevels}
 use Rattle.session.specs.Lists.{tab, risingFrom}
 use Rattle.session.proofs.Laws.Lists.{getD-tab}
 use Rattle.model.specs.Limits.{maxManagers}
+use Rattle.model.specs.Lists.{lastOr}
 use Rattle.rows.specs.Rows.{rowAt, rowsAt, keyOf}
 use Rattle.rows.specs.Change as rows
 use Rattle.rows.specs.Change.{Outside, Inserted}
 use Rattle.rows.proofs.Laws.Outside.{Apart, before, behind, outside-wider, row-apart, rows-apart}
 use Rattle.rows.proofs.Laws.Rows.{rows-length, rows-first, rising-behind, decoded}
-use Rattle.queues.specs.Queue.{forkWords, forkPlace, forkOfRow, forkAt, forksAt, ForksRise, Room, Arrived}
+use Rattle.rows.proofs.Laws.Kept.{kept-none, kept-last}
+use Rattle.queues.specs.Queue.{forkWords, forkPlace, forkOfRow, forkAt, forksAt, ForksRise, Room, isDropped, Arrived}
 
 -- a fork's stamp is its row's key
 pub stamp-key : (n : ℕ) (row : List ℕ) → forkOfRow n row .stamp ≡ keyOf row
@@ -120,6 +126,53 @@ arrived ws ws' l started waiting row count h w i =
       others = others-apart ws ws' l started o;
       outside = o;
     }
+
+-- the last stamp of those that wait
+last-stamp : (n : ℕ) (ws : List ℕ) (l c i v : ℕ) → lastOr v (map (λ y. y .stamp) (forksAt n ws l i (suc c))) ≡ getD ws (forkPlace l (i + c)) 0
+unfolding lastOr
+last-stamp n ws l zero i v =
+    let z : i + 0 ≡ i = omega arith in
+    rw (forks-first n ws l i 0, forks-none n ws l (i + 1), z) (stamp-is n ws l i)
+last-stamp n ws l (suc c) i v =
+    let z : i + 1 + c ≡ i + suc c = omega arith in
+    rw (forks-first n ws l i (suc c)) (last-stamp n ws l c (i + 1) (forkAt n ws l i .stamp) ∙ ap (λ k. getD ws (forkPlace l k) 0) z)
+
+-- whether a fork is dropped: where there is room, where all have started, and else by the last one's stamp
+module _ (n : ℕ) (ws : List ℕ) (l started stamp : ℕ) where
+  dropped-by : (waiting : ℕ) → isDropped started (forksAt n ws l started waiting) stamp ≡ (leb maxManagers (started + waiting) && leb (lastOr 0 (map (λ y. y .stamp) (forksAt n ws l started waiting))) stamp)
+  unfolding isDropped
+  dropped-by waiting = rw (forks-length n ws l started waiting) refl
+
+  pub dropped-roomy : (waiting : ℕ) → started + waiting < maxManagers → isDropped started (forksAt n ws l started waiting) stamp ≡ false
+  dropped-roomy waiting h = rw (dropped-by waiting, lt-leb maxManagers (started + waiting) h) refl
+
+  pub dropped-started : (waiting : ℕ) → maxManagers ≤ started + waiting → waiting ≡ 0 → isDropped started (forksAt n ws l started waiting) stamp ≡ true
+  unfolding lastOr
+  dropped-started waiting h z =
+      rw (dropped-by waiting, le-leb maxManagers (started + waiting) h, z, forks-none n ws l started) (le-leb 0 stamp (omega arith))
+
+  pub dropped-last : (waiting : ℕ) → started + waiting ≡ maxManagers → (waiting ≡ 0 → ⊥) → isDropped started (forksAt n ws l started waiting) stamp ≡ leb (getD ws (forkPlace l (maxManagers - 1)) 0) stamp
+  dropped-last zero h d = absurd (d refl)
+  dropped-last (suc c) h d =
+      let z : started + c ≡ maxManagers - 1 = omega arith in
+      rw (dropped-by (suc c), le-leb maxManagers (started + suc c) (omega arith), last-stamp n ws l c started 0, z) refl
+
+-- a row whose fork is dropped changes nothing
+pub dropped-arrives : (n : ℕ) (ws : List ℕ) (l started waiting : ℕ) (row : List ℕ) → Room ws l started waiting → length row ≡ forkWords
+    → isDropped started (forksAt n ws l started waiting) (keyOf row) ≡ true → Arrived ws ws l started waiting row waiting
+dropped-arrives n ws l started waiting row h w e =
+    let b = sym (dropped-by n ws l started (keyOf row) waiting) ∙ e in
+    let last = lastOr 0 (map (λ y. y .stamp) (forksAt n ws l started waiting)) in
+    let full : maxManagers ≤ started + waiting = leb-true maxManagers (started + waiting) (and-left (leb maxManagers (started + waiting)) (leb last (keyOf row)) b) in
+    let low : last ≤ keyOf row = leb-true last (keyOf row) (and-right (leb maxManagers (started + waiting)) (leb last (keyOf row)) b) in
+    arrived ws ws l started waiting row waiting h w (by waiting (omega (arith, full, h .kept)) (room-for ws l started waiting row h w) low)
+  where
+    by : (waiting : ℕ) → maxManagers - started ≡ waiting → rows.Room ws (forkPlace l started) waiting (maxManagers - started) row
+        → lastOr 0 (map (λ y. y .stamp) (forksAt n ws l started waiting)) ≤ keyOf row → Inserted ws ws (forkPlace l started) waiting (maxManagers - started) row waiting
+    by zero z r g = rw z (kept-none ws (forkPlace l started) row)
+    by (suc c) z r g =
+        let p : forkPlace l started + length row * c ≡ forkPlace l (started + c) = rw w (omega arith) in
+        rw z (kept-last ws (forkPlace l started) row c (rw z at r) (rw (p, sym (last-stamp n ws l c started 0)) g))
 
 -- no fork of another level is touched by an arrival
 pub fork-apart : (ws ws' : List ℕ) (l started waiting : ℕ) (row : List ℕ) (count : ℕ) → Arrived ws ws' l started waiting row count

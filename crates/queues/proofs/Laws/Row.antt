@@ -1,17 +1,21 @@
 -- A fork's row, made: the root's, and a child's, which carries what its parent carries. Assumes nothing.
 use Prim.Native.Nat.{ℕ, zero, suc, _+_, _%_, _≤_, _<_}
 use mathlib.Core.Path.{_≡_, refl, sym, _∙_, ap, ap₂}
+use mathlib.Core.Bool.{cond}
 use mathlib.Core.List.{List, _∷_}
 use native.Mathlib.Omega.{arith}
 use native.Mathlib.Nat.{mod-eq-of-lt}
+use borrow.Author.Tests.{lt-ltb, le-ltb}
+use lib.Dec.{ltb}
 use lib.ListN.{length, getD, set, replicate, length-set, getD-replicate}
 use lib.Seq.{getD-set-same, getD-set-other, getD-drop}
 use Rattle.session.specs.Limits.{maxLevels}
 use Rattle.session.specs.Lists.{tab}
 use Rattle.session.specs.declared.Message.{Message}
+use Rattle.session.proofs.Laws.Lists.{length-tab, getD-tab}
 use Rattle.session.proofs.Laws.Fill.{tab-ext}
 use Rattle.session.proofs.Laws.Rising.{less, same, more, order}
-use Rattle.rows.specs.Rows.{rowAt}
+use Rattle.rows.specs.Rows.{rowAt, keyOf}
 use Rattle.records.proofs.Laws.Fields.{value-back}
 use Rattle.queues.specs.Queue.{forkWords, forkPlace, forkOfRow, rowOf, forkAt, RootRow, ChildRow}
 use Rattle.queues.proofs.Laws.Queue.{word-is}
@@ -94,3 +98,28 @@ child-row ws l i stamp depth carried message row h fits small c n g m =
     (getD-set-other row (6 + l) (6 + j) carried 0 (λ q. d (omega arith))
     ∙ c .copied (6 + j) (omega arith) (omega arith)
     ∙ sym (word-is ws l i (6 + j) (omega arith)))))
+
+-- a child's fork has a row, with its stamp for the key, also where none is made
+pub record Row (ws : List ℕ) (l i stamp depth carried : ℕ) (message : Message) : Type 0 where
+  pub row : List ℕ
+  pub holds : ChildRow ws l i stamp depth carried message row
+  pub wide : length row ≡ forkWords
+  pub key : keyOf row ≡ stamp
+
+pub row-there : (ws : List ℕ) (l i stamp depth carried : ℕ) (message : Message) → l < maxLevels → Fits depth message → carried < 65536 → Row ws l i stamp depth carried message
+row-there ws l i stamp depth carried message h fits small =
+    let first = rowOf stamp depth message in
+    let f : ℕ → ℕ = λ k. cond (ltb k 6) (getD first k 0) (getD ws (forkPlace l i + k) 0) in
+    let row = tab forkWords f in
+    record {
+      row = set row (6 + l) carried;
+      holds =
+          child-row ws l i stamp depth carried message row h fits small
+          (record {
+            length-same = length-tab forkWords f;
+            head = λ k b. getD-tab 0 forkWords f k (omega arith) ∙ rw (lt-ltb k 6 b) refl;
+            copied = λ k b m. getD-tab 0 forkWords f k m ∙ rw (le-ltb k 6 b) refl;
+          });
+      wide = length-set row (6 + l) carried ∙ length-tab forkWords f;
+      key = getD-set-other row (6 + l) 0 carried 0 (omega arith) ∙ getD-tab 0 forkWords f 0 (omega arith);
+    }
