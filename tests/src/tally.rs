@@ -51,6 +51,9 @@ events! {
     OlderAtAncestor "older version read at an ancestor's level",
     OlderElsewhere "older version read at another level",
     InitialElsewhere "version 0 read at another level with later ones",
+    NumberReadAgain "number read again at another level",
+    NilReadAgain "NIL read again at another level",
+    ReadByTheNext "field at another level that a level's next reader finds changed",
     ReplyLost "root ended with frames",
     Choice "scheduler step with several levels allowed",
     NilOfFork "NIL seen in place of a number sent to a fork",
@@ -79,6 +82,10 @@ impl Tally {
     /// One that counts nothing.
     pub fn idle() -> Self {
         Tally { counts: Vec::new() }
+    }
+
+    pub fn is_idle(&self) -> bool {
+        self.counts.is_empty()
     }
 
     pub fn saw(&mut self, event: Event) {

@@ -7,6 +7,7 @@ use super::session::Session;
 use crate::limits::*;
 use crate::record::{History, Value};
 use crate::tally::{Event, Tally};
+use std::collections::HashMap;
 
 struct Version {
     write_stamp: u32,
@@ -40,6 +41,9 @@ pub struct Scheduler<'a> {
     /// The versions of each object's fields, oldest first.
     versions: Vec<[Vec<Version>; FIELDS]>,
     reply: Value,
+    /// For a level, an object and a field of another level: the fork stamp of the
+    /// manager that read it last, and what it read. For the tally alone.
+    reads: HashMap<(usize, u8, u8), (u32, Value)>,
     tally: &'a mut Tally,
 }
 
@@ -65,6 +69,7 @@ impl<'a> Scheduler<'a> {
                 .map(|object| object.fields.map(initial))
                 .collect(),
             reply: None,
+            reads: HashMap::new(),
             tally,
         }
     }
@@ -148,6 +153,22 @@ impl<'a> Scheduler<'a> {
         last.map_or(0, |history| u32::from(history.last_write_stamp))
     }
 
+    /// Notes what a manager read at another level than its own.
+    fn note_read(&mut self, reader: &Manager, object: u8, field: u8, value: Value) {
+        if self.tally.is_idle() {
+            return;
+        }
+        let place = (reader.level, object, field);
+        match self.reads.insert(place, (reader.fork_stamp, value)) {
+            Some((stamp, _)) if stamp == reader.fork_stamp => self.saw(match value {
+                Some(_) => Event::NumberReadAgain,
+                None => Event::NilReadAgain,
+            }),
+            Some((_, before)) if before != value => self.saw(Event::ReadByTheNext),
+            _ => {}
+        }
+    }
+
     /// What all managers, once ended, have left.
     pub fn outcome(self) -> Outcome {
         let tally = self.tally;
@@ -185,6 +206,9 @@ impl World for Scheduler<'_> {
                     self.saw(Event::InitialElsewhere);
                 }
             }
+        }
+        if level != reader.level {
+            self.note_read(reader, object, field, value);
         }
         value
     }
