@@ -32,7 +32,6 @@ use Rattle.records.specs.Histories.{historiesAt, InOrder, HistoryIs, HistoriesT
 use Rattle.records.specs.declared.Ended.{Ended}
 use Rattle.queues.specs.Queue.{forkOfRow, forkAt, There, Room, Arrived}
 use Rattle.versions.specs.Log.{logStart, logOf, Within}
-use Rattle.versions.specs.Order.{PartitionPoint}
 use Rattle.versions.specs.Changes.{Appended}
 use Rattle.level_managers.specs.Kept.{Words, nextPlace, waitingPlace, versionsPlace, busyPlace, tallyNumbers, Says, placed}
 
@@ -78,12 +77,6 @@ readIn s w l object k =
 abbrev pub ReadIs : List ℕ → Words → ℕ → ℕ → ℕ → Value → Type 0
 ReadIs s w l object k r =
     (ms : ℕ → Manager) (st : State) (x : Fork) (m : Manager) → Busy s w l ms st x m → readAt (programOf s) st l x object k ≡ r
-
--- how far it looked: below, how many versions there, the oldest ones, are not above its bound; at its own level it looks at none, and hands
--- back what it was given
-pub record ReachIs (s : List ℕ) (w : Words) (l object near r : ℕ) : Type 0 where
-  pub own : levelOf s object ≡ l → r ≡ near
-  pub below : (levelOf s object ≡ l → ⊥) → (n : ℕ) → levelOf s object < n → PartitionPoint (w .work) (logStart (levelOf s object)) (getD (w .tallies) (versionsPlace (levelOf s object)) 0) (boundIn n (w .ended) (w .tallies) (w .queue) l (levelOf s object)) r
 
 -- a value is what the step sees where it asks; where it does not, NIL is handed to it
 abbrev pub SeenIs : List ℕ → Words → ℕ → Ask → Value → Type 0

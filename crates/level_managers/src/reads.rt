@@ -4,14 +4,13 @@ use records::fields;
 use records::histories;
 use session::Value;
 use session::contents;
-use versions::Found;
 ghost use Prim.Native.Nat.{ℕ, _<_};
 ghost use mathlib.Core.Path.{_≡_};
 ghost use Rattle.session.specs.Limits.{fields};
 ghost use Rattle.session.specs.Parts.{objectCount};
 ghost use Rattle.managers.specs.Asked.{AskedPresent};
 ghost use Rattle.managers.specs.Valid.{Leveled};
-ghost use Rattle.level_managers.specs.Steps.{IsBusy, BoundReady, boundIn, ReadIs, ReachIs, SeenIs};
+ghost use Rattle.level_managers.specs.Steps.{IsBusy, BoundReady, boundIn, ReadIs, SeenIs};
 
 // The write stamp up to which the manager that runs at a level reads at level `j`, below: the one that it
 // carries from an ancestor there, or the end stamp of the largest smaller fork stamp there, or 0.
@@ -29,8 +28,7 @@ fn bound_of(ended: &[u32], tallies: &[usize], queue: &[u32], level: usize, j: us
 }
 
 // What the manager that runs at a level reads of a field: at its level the newest version, which is the
-// current field; below the newest one up to its bound there. `near` may be any number: the reach of its
-// last read saves a search.
+// current field; below the newest one up to its bound there.
 pub fn field_of(
     session: &[u8],
     masks: &[u16],
@@ -42,30 +40,19 @@ pub fn field_of(
     level: usize,
     object: u8,
     field: u8,
-    near: u16,
-) -> Found
+) -> Value
     requires { ⌜ Leveled (now session) (now masks) ⌝ }
     requires { ⌜ IsBusy (now session) (record { current = now current; ended = now ended; tallies = now tallies; queue = now queue; work = now work }) level ⌝ }
     requires { ⌜ (object < objectCount (now session)) × (field < fields) ⌝ }
-    ensures { λ r. ⌜ ReadIs (now (session .entry)) (record { current = now (current .entry); ended = now (ended .entry); tallies = now (tallies .entry); queue = now (queue .entry); work = now (work .entry) }) level object field (r .value) × ReachIs (now (session .entry)) (record { current = now (current .entry); ended = now (ended .entry); tallies = now (tallies .entry); queue = now (queue .entry); work = now (work .entry) }) level object near (r .reach) ⌝ }
+    ensures { λ r. ⌜ ReadIs (now (session .entry)) (record { current = now (current .entry); ended = now (ended .entry); tallies = now (tallies .entry); queue = now (queue .entry); work = now (work .entry) }) level object field r ⌝ }
 {
     let j = contents::level_of(session, masks, object as usize);
     if j == level {
-        let value = fields::get(current, object as usize, field as usize);
-        return Found { value, reach: near };
+        return fields::get(current, object as usize, field as usize);
     }
     let initial = contents::field_of(session, masks, object as usize, field as usize);
     let bound = bound_of(ended, tallies, queue, level, j);
-    versions::newest_to(
-        work,
-        j,
-        tallies[24 + j],
-        bound,
-        object,
-        field,
-        initial,
-        near,
-    )
+    versions::newest_to(work, j, tallies[24 + j], bound, object, field, initial)
 }
 
 // What its script step sees of the field that it asks; NIL where it asks nothing.
@@ -88,7 +75,7 @@ pub fn seen_by(
     match ask {
         Ask::Nothing => Value::Nil,
         Ask::Field { object, field } => {
-            let found = field_of(
+            field_of(
                 session,
                 masks,
                 current,
@@ -99,9 +86,7 @@ pub fn seen_by(
                 level,
                 object,
                 field,
-                0,
-            );
-            found.value
+            )
         }
     }
 }

@@ -87,7 +87,7 @@ fn go_on(
             field,
             into,
         } => {
-            let found = reads::field_of(
+            let value = reads::field_of(
                 session,
                 masks,
                 current,
@@ -98,15 +98,10 @@ fn go_on(
                 level,
                 object,
                 field,
-                n.near,
             );
-            let value = found.value;
             fields::remember(seen, object as usize, field as usize, value);
             frames::set_register(stack, n.height as usize - 1, into, value);
-            Course {
-                near: found.reach,
-                ..n
-            }
+            n
         }
         Event::Fork {
             level: above,

@@ -73,9 +73,6 @@ pub struct Course {
     pub reply: Value,
     // How many frames there are; the last one is on top.
     pub height: u8,
-    // How many versions its last read below could see: where the next one may look first. Any number will
-    // do.
-    pub near: u16,
 }
 
 impl Course {
@@ -96,7 +93,6 @@ impl Course {
             ending: Ending::Running,
             reply: Value::Nil,
             height: 1,
-            near: 0,
         }
     }
 

@@ -1,11 +1,9 @@
 // The versions of fields that the managers of each level wrote, in the lent work slice.
 //
 // Each level has a log of its own. A write adds a version to its end, and write stamps never fall. So a
-// read finds which versions are not above its bound by a hint of its caller or by halving, and goes
-// through those backward.
+// read finds which versions are not above its bound by halving, and goes through those backward.
 use session::Value;
 ghost use mathlib.Core.Path.{_≡_};
-ghost use mathlib.Core.Bool.{true, false};
 ghost use lib.Dec.{ltb};
 ghost use Prim.Native.Nat.{_+_, _≤_, _<_};
 ghost use lib.ListN.{length};
@@ -87,32 +85,13 @@ fn is_above(work: &[u32], level: usize, i: usize, bound: u16) -> bool
     work[LOG_NUMBERS * level + 2 * i] % FIELD > span
 }
 
-// Whether the `n` oldest versions of the log of a level, which has `count` versions, are those not above a
-// write stamp. Where stamps never fall, the two beside that place tell.
-fn is_partition(work: &[u32], level: usize, count: usize, bound: u16, n: usize) -> bool
-    requires { ⌜ (level < maxLevels) × (count ≤ maxVersions) × (workNumbers ≤ length (now work)) ⌝ }
-    requires { ⌜ StampsRise (now work) (logStart level) count ⌝ }
-    ensures { λ r. ⌜ (r ≡ true → PartitionPoint (now (work .entry)) (logStart level) count bound n) × (r ≡ false → PartitionPoint (now (work .entry)) (logStart level) count bound n → ⊥) ⌝ }
-{
-    if n > count {
-        return false;
-    }
-    if n > 0 && is_above(work, level, n - 1, bound) {
-        return false;
-    }
-    n == count || is_above(work, level, n, bound)
-}
-
 // How many versions, the oldest ones, of the log of a level, which has `count` versions, are not above a
-// write stamp. `near` is tried first; any number may be given.
-fn count_to(work: &[u32], level: usize, count: usize, bound: u16, near: usize) -> usize
+// write stamp.
+fn count_to(work: &[u32], level: usize, count: usize, bound: u16) -> usize
     requires { ⌜ (level < maxLevels) × (count ≤ maxVersions) × (workNumbers ≤ length (now work)) ⌝ }
     requires { ⌜ StampsRise (now work) (logStart level) count ⌝ }
     ensures { λ r. ⌜ PartitionPoint (now (work .entry)) (logStart level) count bound r ⌝ }
 {
-    if is_partition(work, level, count, bound, near) {
-        return near;
-    }
     let mut low = 0;
     let mut high = count;
     while low < high {
@@ -126,15 +105,8 @@ fn count_to(work: &[u32], level: usize, count: usize, bound: u16, near: usize) -
     low
 }
 
-// What a read finds: the value, and how many versions, the oldest ones, were not above its bound.
-pub struct Found {
-    pub value: Value,
-    pub reach: u16,
-}
-
 // The newest version of a field not above a write stamp, in the log of a level, which has `count`
-// versions in order of write stamp; or the initial value. `near` may be any number: the reach of the last
-// read with this bound saves the search.
+// versions in order of write stamp; or the initial value.
 //
 // A version's first number lies less than FIELD above the field's key exactly where it is one of the
 // field. Below the key the difference wraps and is too large. So each version passed costs one
@@ -147,28 +119,22 @@ pub fn newest_to(
     object: u8,
     field: u8,
     initial: Value,
-    near: u16,
-) -> Found
+) -> Value
     requires { ⌜ Within (now work) level count field ⌝ }
     requires { ⌜ StampsRise (now work) (logStart level) count ⌝ }
-    ensures { λ r. ⌜ (r .value ≡ newestTo bound initial object field (logOf (now (work .entry)) (logStart level) count)) × PartitionPoint (now (work .entry)) (logStart level) count bound (r .reach) ⌝ }
+    ensures { λ r. ⌜ r ≡ newestTo bound initial object field (logOf (now (work .entry)) (logStart level) count) ⌝ }
 {
     let start = LOG_NUMBERS * level;
     let key = key_of(object, field);
-    let mut n = count_to(work, level, count, bound, near as usize);
-    let reach = n as u16;
+    let mut n = count_to(work, level, count, bound);
     while 0 < n {
         n -= 1;
         let packed = work[start + 2 * n];
         if std::num::wrapping_sub_u32(packed, key) < FIELD {
-            let value = value_at(work, start + 2 * n);
-            return Found { value, reach };
+            return value_at(work, start + 2 * n);
         }
     }
-    Found {
-        value: initial,
-        reach,
-    }
+    initial
 }
 
 // Makes the numbers of all logs 0.

@@ -159,9 +159,9 @@ module _ (s masks index : List ℕ) (a : Read s masks index) (left : ℕ) (f : F
           long = ad .long;
         }
 
-    pub go-finishes : (v : Value) → r .event ≡ event.Finished v → Gone s left f c k k' w w (record { level = c .level; first = c .first; steps = r .steps; writes = c .writes; forks = c .forks; ending = Finished; reply = v; height = 0; near = c .near })
+    pub go-finishes : (v : Value) → r .event ≡ event.Finished v → Gone s left f c k k' w w (record { level = c .level; first = c .first; steps = r .steps; writes = c .writes; forks = c .forks; ending = Finished; reply = v; height = 0 })
     go-finishes v is =
-        over-gone (record { level = c .level; first = c .first; steps = r .steps; writes = c .writes; forks = c .forks; ending = Finished; reply = v; height = 0; near = c .near }) refl refl refl refl (λ g h. paused g h (event.Finished v) is)
+        over-gone (record { level = c .level; first = c .first; steps = r .steps; writes = c .writes; forks = c .forks; ending = Finished; reply = v; height = 0 }) refl refl refl refl (λ g h. paused g h (event.Finished v) is)
 
     pub go-out : r .event ≡ event.OutOfSteps → Gone s left f c k k' w w (after c r (c .writes) (c .forks) OutOfSteps)
     go-out is =

@@ -27,10 +27,10 @@ use Rattle.model.proofs.Laws.Code.Needs.{live-ends, live-versions, live-falling
 use Rattle.records.specs.Fields.{fieldAt, FieldThere}
 use Rattle.records.specs.Histories.{historiesAt}
 use Rattle.versions.specs.Log.{maxVersions, logStart, logOf, Within}
-use Rattle.versions.specs.Order.{StampsRise, PartitionPoint}
+use Rattle.versions.specs.Order.{StampsRise}
 use Rattle.versions.proofs.Laws.Order.{stamps-rise}
 use Rattle.level_managers.specs.Kept.{Words, versionsPlace, LevelTold}
-use Rattle.level_managers.specs.Steps.{Busy, IsBusy, runningFork, BoundReady, boundIn, readIn, ReadIs, ReachIs}
+use Rattle.level_managers.specs.Steps.{Busy, IsBusy, runningFork, BoundReady, boundIn, readIn, ReadIs}
 use Rattle.level_managers.proofs.Laws.Ready.{told-fork, busy-settles}
 use Rattle.level_managers.proofs.Laws.Step.{says-live}
 
@@ -144,11 +144,3 @@ module _ {s masks : List ℕ} (a : Leveled s masks) {w : Words} {l : ℕ} (q : I
       ∙ ap₂ (λ (v : ℕ) (vs : List Version). newestTo v (fieldOf s o k) o k vs) (sym (bound-is a b placed) ∙ e (levelCount s) placed) (sym (versions-are a b placed))
       ∙ ap (λ i. newestTo bound i o k (logOf (w .work) (logStart j) (getD (w .tallies) (versionsPlace j) 0))) (sym first)
       ∙ sym is
-
-  -- how far it looked
-  pub reach-own : {near : ℕ} → j ≡ l → ReachIs s w l o near near
-  reach-own e = record { own = λ _. refl; below = λ z. absurd (z (sym lies ∙ e)) }
-
-  pub reach-below : {bound near r : ℕ} → (j ≡ l → ⊥) → ((n : ℕ) → j < n → boundIn n (w .ended) (w .tallies) (w .queue) l j ≡ bound) → PartitionPoint (w .work) (logStart j) (getD (w .tallies) (versionsPlace j) 0) bound r → ReachIs s w l o near r
-  reach-below apart e p =
-      record { own = λ z. absurd (apart (lies ∙ z)); below = λ _ n h. let h' : j < n = rw lies h in rw (sym lies, e n h') p }

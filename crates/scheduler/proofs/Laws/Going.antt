@@ -98,21 +98,6 @@ paused-last read (event.Write a k v) o q = q
 paused-last read (event.Read a k i) o q = q
 paused-last read (event.Fork u a b v) o q = q
 
--- the course, of which the last read below saw so many versions
-abbrev pub nearBy : Course → ℕ → Course
-nearBy c reach =
-    record {
-      level = c .level;
-      first = c .first;
-      steps = c .steps;
-      writes = c .writes;
-      forks = c .forks;
-      ending = c .ending;
-      reply = c .reply;
-      height = c .height;
-      near = reach;
-    }
-
 module _ (s masks index : List ℕ) (rd : Read s masks index) (w : Words) (l : ℕ) (c : Course) (k seen : List ℕ) (goes : Goes s l c k) (there : Lags s w l c k seen) where
   abbrev acc : verdictOf s ≡ Accepted
   acc = rd .indexed .accepted
@@ -259,11 +244,11 @@ module _ (s masks index : List ℕ) (rd : Read s masks index) (w : Words) (l : �
           rest = refl;
         }
 
-    pub gone-finished : (v : Value) → r .event ≡ event.Finished v → Gone s l c k k₁ seen seen w w (record { level = c .level; first = c .first; steps = r .steps; writes = c .writes; forks = c .forks; ending = Finished; reply = v; height = 0; near = c .near })
+    pub gone-finished : (v : Value) → r .event ≡ event.Finished v → Gone s l c k k₁ seen seen w w (record { level = c .level; first = c .first; steps = r .steps; writes = c .writes; forks = c .forks; ending = Finished; reply = v; height = 0 })
     gone-finished v is =
         over-gone _ refl refl refl (λ from lag. ends from lag _ (λ read see. subst (Paused p read (managerOf c (framesOf k)) (r .height) (r .steps) (framesOf k₁)) is (paused read see)))
 
-    pub gone-out : r .event ≡ event.OutOfSteps → Gone s l c k k₁ seen seen w w (record { level = c .level; first = c .first; steps = r .steps; writes = c .writes; forks = c .forks; ending = OutOfSteps; reply = c .reply; height = r .height; near = c .near })
+    pub gone-out : r .event ≡ event.OutOfSteps → Gone s l c k k₁ seen seen w w (record { level = c .level; first = c .first; steps = r .steps; writes = c .writes; forks = c .forks; ending = OutOfSteps; reply = c .reply; height = r .height })
     gone-out is =
         over-gone _ refl refl refl (λ from lag. ends from lag _ (λ read see. subst (Paused p read (managerOf c (framesOf k)) (r .height) (r .steps) (framesOf k₁)) is (paused read see)))
 
@@ -360,13 +345,13 @@ module _ (s masks index : List ℕ) (rd : Read s masks index) (w : Words) (l : �
           other : (o' ≡ o → k' ≡ i → ⊥) → fieldAt seen' o' k' ≡ readIn s w l o' k'
           other d = kept .field .others o' k' hk d ∙ there .recalls o' k' ho hk apart (sym (kept .others o' k' hk d) ∙ known)
 
-      pub gone-read : (v : Value) (reach : ℕ) → ReadIs s w l o i v → (seen' : List ℕ) → Remembered seen seen' o i v → length seen' ≡ length seen → (k₂ : List ℕ) → Replaced k₁ k₂ (r .height - 1) (withRegister (frameIn k₁ (r .height - 1)) a v) → Gone s l c k k₂ seen seen' w w (nearBy (after c r (c .writes) (c .forks) (c .ending)) reach)
-      gone-read v reach sees seen' kept same k₂ z =
+      pub gone-read : (v : Value) → ReadIs s w l o i v → (seen' : List ℕ) → Remembered seen seen' o i v → length seen' ≡ length seen → (k₂ : List ℕ) → Replaced k₁ k₂ (r .height - 1) (withRegister (frameIn k₁ (r .height - 1)) a v) → Gone s l c k k₂ seen seen' w w (after c r (c .writes) (c .forks) (c .ending))
+      gone-read v sees seen' kept same k₂ z =
           let live = event-live (event.Read o i a) is refl in
           let known = event-known (event.Read o i a) is refl in
           let top-known : Known s (frameIn k₁ (r .height - 1)) = known .each (r .height - 1) (omega (arith, live)) in
           let then : Stack (Known s) (r .height) (framesOf k₂) = rw (z .frames) (replaced-stack (Known s) (managerOf (after c r (c .writes) (c .forks) (c .ending)) (framesOf k₁)) (withRegister (frameIn k₁ (r .height - 1)) a v) known (known-register s (frameIn k₁ (r .height - 1)) a v top-known)) in
-          on-gone (event.Read o i a) is refl (nearBy (after c r (c .writes) (c .forks) (c .ending)) reach) k₂ seen' (partsOf w) effect.Nothing refl refl refl refl refl (goes .wrote) (goes .forked) (z .long ∙ ad .long) then refl (λ u message e. absurd (nothing-fork u message e))
+          on-gone (event.Read o i a) is refl (after c r (c .writes) (c .forks) (c .ending)) k₂ seen' (partsOf w) effect.Nothing refl refl refl refl refl (goes .wrote) (goes .forked) (z .long ∙ ad .long) then refl (λ u message e. absurd (nothing-fork u message e))
           (λ from lag g.
           does-read p (g .read) c r (framesOf k) (g .last .frames) (framesOf k₁) (g .last .steps) (g .last .one-more) o i a (framesOf k₂)
           (z .frames ∙ ap (λ u. set (framesOf k₁) (r .height - 1) (withRegister (frameIn k₁ (r .height - 1)) a u)) (sym (reads-now from lag (event.Read o i a) g o i v sees))))

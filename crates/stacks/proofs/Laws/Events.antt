@@ -33,7 +33,6 @@ after c r writes forks ending =
       ending = ending;
       reply = c .reply;
       height = r .height;
-      near = c .near;
     }
 
 -- the manager after a step that concerns others, and its effect, by the event

@@ -1,6 +1,6 @@
 -- The order of a log by write stamp: how halving finds the versions not above a bound, and that a read up to the bound takes the newest of
 -- those. Assumes nothing.
-use Prim.Native.Nat.{ℕ, zero, suc, _+_, _-_, _*_, _/_, _%_, _^_, _≤_, _<_}
+use Prim.Native.Nat.{ℕ, zero, suc, _+_, _*_, _/_, _%_, _^_, _≤_, _<_}
 use mathlib.Core.Path.{_≡_, refl, sym, _∙_, ap}
 use mathlib.Core.Bool.{Bool, true, false, _&&_}
 use mathlib.Core.List.{List}
@@ -50,27 +50,6 @@ bracket-all w start n bound =
       before = λ i h. absurd (omega arith);
       after = λ i h l. absurd (omega arith);
     }
-
--- where stamps never fall, the versions beside a place tell whether it is the one
-pub partition-beside : (w : List ℕ) (start n bound r : ℕ) → StampsRise w start n → r ≤ n → (0 < r → stampAt w start (r - 1) ≤ bound) → (r < n → bound < stampAt w start r) → PartitionPoint w start n bound r
-partition-beside w start n bound r rise h low high =
-    record {
-      within = h;
-      before = λ i l. le-trans (rise i (r - 1) (omega arith) (omega arith)) (low (omega arith));
-      after = λ i l k. le-trans (high (omega arith)) (rise r i l k);
-    }
-
--- and where they do not agree it is not the place
-pub partition-over : (w : List ℕ) (start n bound r : ℕ) → n < r → PartitionPoint w start n bound r → ⊥
-partition-over w start n bound r h p = omega (arith, h, p .within)
-
-pub partition-low : (w : List ℕ) (start n bound r : ℕ) → 0 < r → bound < stampAt w start (r - 1) → PartitionPoint w start n bound r → ⊥
-partition-low w start n bound r h above p = omega (arith, above, p .before (r - 1) (omega arith))
-
-pub partition-high : (w : List ℕ) (start n bound r : ℕ) → (r ≡ n → ⊥) → stampAt w start r ≤ bound → PartitionPoint w start n bound r → ⊥
-partition-high w start n bound r h below p =
-    let l : r < n = omega (arith, h, p .within) in
-    omega (arith, below, p .after r (omega arith) l)
 
 module _ {w : List ℕ} {start n bound low high : ℕ} (b : Bracket w start n bound low high) where
   -- the version in the middle settles all on one side of it

@@ -10,20 +10,14 @@ use Rattle.versions.proofs.count_to.Statement.{statement}
 use Rattle.versions.proofs.count_to.Tie as tie
 
 abbrev Inv-loop : tie.InvT-loop
-Inv-loop work level count bound near low₀ high₀ low high = Bracket work (logStart level) count bound low high
+Inv-loop work level count bound low₀ high₀ low high = Bracket work (logStart level) count bound low high
 
 abbrev μ-loop : tie.MeasureT-loop
-μ-loop work level count bound near low₀ high₀ low high = high - low
-
-is-partition-requires : tie.Need-is-partition-requires Inv-loop μ-loop
-is-partition-requires c κs = c .before .pre
-
-returns : tie.Need-returns Inv-loop μ-loop
-returns c = c .before .is-partition .ensures .0 (c .if1 .taken)
+μ-loop work level count bound low₀ high₀ low high = high - low
 
 loop-holds : tie.Need-loop-holds Inv-loop μ-loop
 loop-holds c =
-    let g = c .before .before .before .args in
+    let g = c .before .args in
     bracket-all (g .work .now) (logStart (g .level)) (g .count) (g .bound)
 
 add-middle : tie.Need-add-middle Inv-loop μ-loop
@@ -31,7 +25,7 @@ add-middle c = omega arith
 
 is-above-requires : tie.Need-is-above-requires Inv-loop μ-loop
 is-above-requires c κs =
-    let s = c .before .before .before .before .before in
+    let s = c .before .before .before in
     let at = c .before .loop in
     (s .pre .0 .0, omega (arith, c .loop-test .taken, at .inv .within, s .pre .0 .1), s .pre .0 .2)
 
@@ -41,9 +35,9 @@ loop-less c = omega arith
 loop-again : tie.Need-loop-again Inv-loop μ-loop
 loop-again c =
     let at = c .before .before .before .loop in
-    let s = c .before .before .before .before .before .before .before in
+    let s = c .before .before .before .before .before in
     bracket-down (at .inv) (s .pre .1) ((at .low + at .high) / 2) (omega arith) (omega arith)
-    (ltb-true _ _ (sym (c .before .is-above .ensures) ∙ c .if2 .taken))
+    (ltb-true _ _ (sym (c .before .is-above .ensures) ∙ c .if1 .taken))
 
 add-low : tie.Need-add-low Inv-loop μ-loop
 add-low c = omega arith
@@ -54,12 +48,12 @@ loop-less-2 c = omega arith
 loop-again-2 : tie.Need-loop-again-2 Inv-loop μ-loop
 loop-again-2 c =
     let at = c .before .before .before .loop in
-    let s = c .before .before .before .before .before .before .before in
+    let s = c .before .before .before .before .before in
     bracket-up (at .inv) (s .pre .1) ((at .low + at .high) / 2) (omega arith) (omega arith)
-    (ltb-false _ _ (sym (c .before .is-above .ensures) ∙ c .if2 .left))
+    (ltb-false _ _ (sym (c .before .is-above .ensures) ∙ c .if1 .left))
 
-returns-2 : tie.Need-returns-2 Inv-loop μ-loop
-returns-2 c = bracket-met (c .before .loop .inv) (c .loop-test .left)
+returns : tie.Need-returns Inv-loop μ-loop
+returns c = bracket-met (c .before .loop .inv) (c .loop-test .left)
 
 pub count-to-spec : {M : Type 1} → statement M
 count-to-spec =
@@ -67,8 +61,6 @@ count-to-spec =
     (tie.spec
     Inv-loop
     μ-loop
-    is-partition-requires
-    returns
     loop-holds
     add-middle
     is-above-requires
@@ -77,4 +69,4 @@ count-to-spec =
     add-low
     loop-less-2
     loop-again-2
-    returns-2)
+    returns)

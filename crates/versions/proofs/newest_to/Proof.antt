@@ -13,11 +13,11 @@ use Rattle.versions.proofs.newest_to.Statement.{statement}
 use Rattle.versions.proofs.newest_to.Tie as tie
 
 abbrev Inv-loop : tie.InvT-loop
-Inv-loop work level count bound object field initial near start key n₀ reach n =
+Inv-loop work level count bound object field initial start key n₀ n =
     (n ≤ count) × (newest initial object field (logOf work (logStart level) n) ≡ newestTo bound initial object field (logOf work (logStart level) count))
 
 abbrev μ-loop : tie.MeasureT-loop
-μ-loop work level count bound object field initial near start key n₀ reach n = n
+μ-loop work level count bound object field initial start key n₀ n = n
 
 mul-start : tie.Need-mul-start Inv-loop μ-loop
 mul-start c = omega arith
@@ -29,9 +29,6 @@ count-to-requires : tie.Need-count-to-requires Inv-loop μ-loop
 count-to-requires c κs =
     let s = c .before .before in
     ((s .pre .0 .level-present, s .pre .0 .fits, s .pre .0 .long), s .pre .1)
-
-cast-reach : tie.Need-cast-reach Inv-loop μ-loop
-cast-reach c = omega (arith, c .count-to .ensures .within, c .before .before .before .pre .0 .fits)
 
 loop-holds : tie.Need-loop-holds Inv-loop μ-loop
 loop-holds c =
@@ -93,14 +90,12 @@ returns c =
     let at = u .before .before .before .loop in
     let n = at .n - 1 in
     let last : at .n ≡ suc n = omega arith in
-    let far = distance-there u in (
-      c .value-at .ensures
-          ∙ sym (scan-found (a .work .now) (logStart (a .level)) n (a .initial) (a .object) (a .field)
-          (near-is _ _ (a .object) (a .field) _ far (c .before .if1 .taken)))
-          ∙ ap (λ m. newest (a .initial) (a .object) (a .field) (logOf (a .work .now) (logStart (a .level)) m)) (sym last)
-          ∙ at .inv .1,
-      u .before .before .before .before .count-to .ensures,
-    )
+    let far = distance-there u in
+    c .value-at .ensures
+    ∙ sym (scan-found (a .work .now) (logStart (a .level)) n (a .initial) (a .object) (a .field)
+    (near-is _ _ (a .object) (a .field) _ far (c .before .if1 .taken)))
+    ∙ ap (λ m. newest (a .initial) (a .object) (a .field) (logOf (a .work .now) (logStart (a .level)) m)) (sym last)
+    ∙ at .inv .1
 
 loop-less : tie.Need-loop-less Inv-loop μ-loop
 loop-less c = omega arith
@@ -126,12 +121,10 @@ returns-2 c =
     let s = c .before .before .before .before .before in
     let a = s .args in
     let at = c .before .loop in
-    let none : 0 ≡ at .n = omega arith in (
-      sym (scan-none (a .work .now) (logStart (a .level)) 0 (a .initial) (a .object) (a .field))
-          ∙ ap (λ m. newest (a .initial) (a .object) (a .field) (logOf (a .work .now) (logStart (a .level)) m)) none
-          ∙ at .inv .1,
-      c .before .before .count-to .ensures,
-    )
+    let none : 0 ≡ at .n = omega arith in
+    sym (scan-none (a .work .now) (logStart (a .level)) 0 (a .initial) (a .object) (a .field))
+    ∙ ap (λ m. newest (a .initial) (a .object) (a .field) (logOf (a .work .now) (logStart (a .level)) m)) none
+    ∙ at .inv .1
 
 pub newest-to-spec : {M : Type 1} → statement M
 newest-to-spec =
@@ -142,7 +135,6 @@ newest-to-spec =
     mul-start
     key-of-requires
     count-to-requires
-    cast-reach
     loop-holds
     sub-n
     mul-packed

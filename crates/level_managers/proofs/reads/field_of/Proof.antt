@@ -1,7 +1,7 @@
 -- `level_managers::reads::field_of` meets its contract. Assumes nothing.
 use native.Mathlib.Omega.{arith}
 use borrow.Author.Needs.{needs}
-use Rattle.level_managers.proofs.Laws.Reads.{read-there, bound-ready, versions-ready, read-current, read-version, reach-own, reach-below}
+use Rattle.level_managers.proofs.Laws.Reads.{read-there, bound-ready, versions-ready, read-current, read-version}
 use Rattle.level_managers.proofs.reads.field_of.Statement.{statement}
 use Rattle.level_managers.proofs.reads.field_of.Tie as tie
 
@@ -18,7 +18,7 @@ returns : tie.Need-returns
 returns c =
     let at = c .before .before in
     let p = at .before .before .before .before .before .before .before .before .pre in
-    (read-current (p .0) (p .1 .0) (p .1 .1) (at .level-of .ensures) (c .before .if1 .taken) (c .get .ensures), reach-own (p .0) (p .1 .0) (p .1 .1) (at .level-of .ensures) (c .before .if1 .taken))
+    read-current (p .0) (p .1 .0) (p .1 .1) (at .level-of .ensures) (c .before .if1 .taken) (c .get .ensures)
 
 field-of-requires : tie.Need-field-of-requires
 field-of-requires c κs = search needs
@@ -60,7 +60,7 @@ returns-2 c =
     let p = at .before .before .before .before .before .before .before .before .pre in
     let apart = c .before .before .before .before .if1 .left in
     let bound = c .before .before .bound-of .ensures in
-    (read-version (p .0) (p .1 .0) (p .1 .1) (at .level-of .ensures) apart bound (c .before .before .before .field-of .ensures) (c .newest-to .ensures .0), reach-below (p .0) (p .1 .0) (p .1 .1) (at .level-of .ensures) apart bound (c .newest-to .ensures .1))
+    read-version (p .0) (p .1 .0) (p .1 .1) (at .level-of .ensures) apart bound (c .before .before .before .field-of .ensures) (c .newest-to .ensures)
 
 pub field-of-spec : {M : Type 1} → statement M
 field-of-spec =

@@ -20,7 +20,7 @@ returns : tie.Need-returns
 returns c = rw (c .enum-told .given .1) refl
 
 returns-2 : tie.Need-returns-2
-returns-2 c = rw (c .before .before .ask .given .1) (c .field-of .ensures .0)
+returns-2 c = rw (c .before .before .ask .given .1) (c .field-of .ensures)
 
 pub seen-by-spec : {M : Type 1} → statement M
 seen-by-spec = tie.close (tie.spec enum-told enum-known-ask field-of-requires returns returns-2)

@@ -197,7 +197,7 @@ same-length-23 c = search needs
 returns-6 : tie.Need-returns-6
 returns-6 c =
     let s = c .before .before .before .before .before .before .before .before .before .before .before .before .before .before .before .before .before .before .before .before .before .before .before .before .before .before .before .before .before .before .before .before .before in
-    gone-read (s .args .session .now) (s .args .masks .now) (s .args .index .now) (s .pre .0) (record { current = s .args .current .now; ended = s .args .ended .now; tallies = s .args .tallies .now; queue = s .args .queue .now; work = s .args .work .now }) (s .args .level) (s .args .m) (s .args .stack .now) (s .args .seen .now) (s .pre .1 .0) (s .pre .1 .1) _ (c .before .before .before .before .before .before .before .before .before .before .before .before .before .before .before .before .before .before .before .advance .result) (c .before .before .before .before .before .before .before .before .before .before .before .before .before .before .before .before .before .before .before .advance .ensures) (c .before .before .before .before .before .before .before .before .before .before .before .before .before .before .before .event3 .given .0 .0) (c .before .before .before .before .before .before .before .before .before .before .before .before .before .before .before .event3 .given .0 .1 .0) (c .before .before .before .before .before .before .before .before .before .before .before .before .before .before .before .event3 .given .0 .1 .1 .0) (c .before .before .before .before .before .before .before .before .before .before .before .before .before .before .before .event3 .given .1) (c .before .before .before .before .before .before .before .before .before .field-of .result .value) (c .before .before .before .before .before .before .before .before .before .field-of .result .reach) (c .before .before .before .before .before .before .before .before .before .field-of .ensures .0) _ (c .before .before .before .before .before .before .before .remember .ensures) (c .before .before .before .before .before .before .before .remember .kept .0) _ (c .before .before .set-register .ensures)
+    gone-read (s .args .session .now) (s .args .masks .now) (s .args .index .now) (s .pre .0) (record { current = s .args .current .now; ended = s .args .ended .now; tallies = s .args .tallies .now; queue = s .args .queue .now; work = s .args .work .now }) (s .args .level) (s .args .m) (s .args .stack .now) (s .args .seen .now) (s .pre .1 .0) (s .pre .1 .1) _ (c .before .before .before .before .before .before .before .before .before .before .before .before .before .before .before .before .before .before .before .advance .result) (c .before .before .before .before .before .before .before .before .before .before .before .before .before .before .before .before .before .before .before .advance .ensures) (c .before .before .before .before .before .before .before .before .before .before .before .before .before .before .before .event3 .given .0 .0) (c .before .before .before .before .before .before .before .before .before .before .before .before .before .before .before .event3 .given .0 .1 .0) (c .before .before .before .before .before .before .before .before .before .before .before .before .before .before .before .event3 .given .0 .1 .1 .0) (c .before .before .before .before .before .before .before .before .before .before .before .before .before .before .before .event3 .given .1) (c .before .before .before .before .before .before .before .before .before .field-of .result) (c .before .before .before .before .before .before .before .before .before .field-of .ensures) _ (c .before .before .before .before .before .before .before .remember .ensures) (c .before .before .before .before .before .before .before .remember .kept .0) _ (c .before .before .set-register .ensures)
 
 same-length-24 : tie.Need-same-length-24
 same-length-24 c = search needs

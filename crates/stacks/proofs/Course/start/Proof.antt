@@ -17,7 +17,7 @@ use Rattle.stacks.proofs.Course.start.Statement.{statement}
 use Rattle.stacks.proofs.Course.start.Tie as tie
 
 -- no fork made adds nothing to the write stamp
-made : (level first : ℕ) (message : Message) (before after : List Frame) → after ≡ set before 0 (frameFor (message .object) (message .name) 0 true (message .parameter)) → before ≡ replicate maxFrames noFrame → managerOf (record { level = level; first = first; steps = 0; writes = 0; forks = 0; ending = Running; reply = Nil; height = 1; near = 0 }) after ≡ begun level first message
+made : (level first : ℕ) (message : Message) (before after : List Frame) → after ≡ set before 0 (frameFor (message .object) (message .name) 0 true (message .parameter)) → before ≡ replicate maxFrames noFrame → managerOf (record { level = level; first = first; steps = 0; writes = 0; forks = 0; ending = Running; reply = Nil; height = 1 }) after ≡ begun level first message
 made level first message before after e z =
     let none : first + 0 ≡ first = omega arith in
     rw (e, z, none) refl
