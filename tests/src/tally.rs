@@ -1,9 +1,10 @@
-//! Counts how often each limit and each special case of document 01 occurs, so
-//! that a test that never reaches one is noticed.
+//! Counts how often each limit and each special case of document 01 occurs, and
+//! each case that the library treats apart, so that a test that never reaches one
+//! is noticed.
 
 macro_rules! events {
     ($($name:ident $text:literal,)*) => {
-        /// A limit or special case of document 01, seen by the reference.
+        /// A limit or special case, seen by the reference.
         #[derive(Clone, Copy, Debug, PartialEq, Eq)]
         pub enum Event { $($name,)* }
 
@@ -51,9 +52,9 @@ events! {
     OlderAtAncestor "older version read at an ancestor's level",
     OlderElsewhere "older version read at another level",
     InitialElsewhere "version 0 read at another level with later ones",
-    NumberReadAgain "number read again at another level",
-    NilReadAgain "NIL read again at another level",
-    ReadByTheNext "field at another level that a level's next reader finds changed",
+    NumberReadAgain "number at another level read again by the same manager",
+    NilReadAgain "NIL at another level read again by the same manager",
+    ReadByTheNext "field at another level found changed by a later manager of a level",
     ReplyLost "root ended with frames",
     Choice "scheduler step with several levels allowed",
     NilOfFork "NIL seen in place of a number sent to a fork",
@@ -84,6 +85,7 @@ impl Tally {
         Tally { counts: Vec::new() }
     }
 
+    /// Whether it counts nothing.
     pub fn is_idle(&self) -> bool {
         self.counts.is_empty()
     }

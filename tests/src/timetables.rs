@@ -9,7 +9,7 @@ pub fn finishing(random: &mut Random, session: &Session, tally: &mut Tally) -> V
     // Small: the levels take turns often; large: rarely.
     let patience = random.pick(&[1, 2, 8, 64]);
     let mut list = Vec::new();
-    let mut unseen = Tally::default();
+    let mut unseen = Tally::idle();
     let mut scheduler = Scheduler::new(session, &mut unseen);
     let mut last = None;
     loop {

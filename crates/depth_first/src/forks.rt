@@ -45,6 +45,7 @@ fn go_on(
     requires { ⌜ Goes (now session) left fork m (now stack) ⌝ }
     ensures { λ r. ⌜ Gone (now (session .entry)) left fork m (now (stack .entry)) (now (stack .exit)) (record { current = now (current .entry); ended = now (ended .entry); tallies = now (tallies .entry) }) (record { current = now (current .exit); ended = now (ended .exit); tallies = now (tallies .exit) }) r ⌝ }
 {
+    // Every READ is answered by the fields: what was read before is never asked.
     let pause = stacks::advance(
         session,
         masks,

@@ -68,9 +68,9 @@ boundIn n ended tallies queue l j =
     let carried = getD (runningFork n tallies queue l .seen) j 0 in
     cond (eqb carried 0) (endBefore (runningFork n tallies queue l .stamp) (historiesAt ended j (getD tallies j 0))) carried
 
--- what the words say that it reads of a field of an object of another level
-abbrev pub readIn : List ℕ → Words → ℕ → ℕ → ℕ → Value
-readIn s w l object k =
+-- what the words say of a field of an object of another level, up to its bound there
+abbrev pub foundIn : List ℕ → Words → ℕ → ℕ → ℕ → Value
+foundIn s w l object k =
     newestTo (boundIn (levelCount s) (w .ended) (w .tallies) (w .queue) l (levelOf s object)) (fieldOf s object k) object k (logOf (w .work) (logStart (levelOf s object)) (getD (w .tallies) (versionsPlace (levelOf s object)) 0))
 
 -- a value is what it reads of a field

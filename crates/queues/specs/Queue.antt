@@ -87,7 +87,7 @@ pub record Room (ws : List ℕ) (l started waiting : ℕ) : Type 0 where
   pub rises : ForksRise ws l started waiting
 
 -- "others are dropped": where `started` forks have started and these wait, by rising stamp, a fork of this stamp is, if they are 32 and the
--- last one's stamp is not greater
+-- last one's stamp is not greater; where none waits, each is
 unfoldable pub isDropped : ℕ → List Fork → ℕ → Bool
 isDropped started waiting stamp =
     leb maxManagers (started + length waiting) && leb (lastOr 0 (map (λ y. y .stamp) waiting)) stamp

@@ -1,10 +1,10 @@
--- The fields of a run, kept in words. Assumes nothing.
-use Prim.Native.Nat.{ℕ, _+_, _*_, _≤_, _<_}
+-- The fields of a run, and those that a manager has read, kept in words. Assumes nothing.
+use Prim.Native.Nat.{ℕ, _+_, _-_, _*_, _≤_, _<_}
 use mathlib.Core.Path.{_≡_}
 use mathlib.Core.Bool.{Bool, true, not, cond}
 use mathlib.Core.List.{List}
 use lib.Dec.{eqb}
-use lib.ListN.{length, getD}
+use lib.ListN.{length, getD, set}
 use Rattle.session.specs.Limits.{maxObjects, fields}
 use Rattle.session.specs.Parts.{objectCount, masksOf}
 use Rattle.session.specs.Questions.{verdictOf}
@@ -12,6 +12,7 @@ use Rattle.session.specs.Meaning.{fieldOf}
 use Rattle.session.specs.declared.Verdict.the-variants.{Accepted}
 use Rattle.session.specs.declared.Value.{Value}
 use Rattle.session.specs.declared.Value.the-variants.{Nil, Number}
+use Rattle.model.specs.Result.{tag, numberIn}
 use Rattle.rows.specs.Change.{Outside}
 use Rattle.records.specs.Limits.{fieldWords}
 
@@ -51,6 +52,7 @@ knownAt ws o k = not (eqb (getD ws (fieldPlace o k) 0) 0)
 
 -- one field is known to hold v, and the others are known as they were
 pub record Remembered (ws ws' : List ℕ) (o k : ℕ) (v : Value) : Type 0 where
+  pub words : ws' ≡ set (set ws (fieldPlace o k) (2 - tag v)) (fieldPlace o k + 1) (numberIn v)
   pub field : FieldSet ws ws' o k v
   pub known : knownAt ws' o k ≡ true
   pub others : (o' k' : ℕ) → k' < fields → (o' ≡ o → k' ≡ k → ⊥) → knownAt ws' o' k' ≡ knownAt ws o' k'

@@ -1,4 +1,4 @@
-// The fields of a run: two words for each, three fields for each object.
+// The fields of a run, and those that a manager has read: two words for each, three fields for each object.
 use crate::values;
 use session::Value;
 use session::contents;

@@ -22,7 +22,7 @@ use Rattle.stacks.specs.Stack.{stackWords, framesOf}
 use Rattle.stacks.specs.Course.{managerOf, settledOf}
 use Rattle.stacks.specs.declared.Course.{Course}
 use Rattle.level_managers.specs.Kept.{Words, waitingPlace, busyPlace, Roomy, Says, placed}
-use Rattle.level_managers.specs.Steps.{readIn, SettleReady, Closed, Settled}
+use Rattle.level_managers.specs.Steps.{foundIn, SettleReady, Closed, Settled}
 use Rattle.scheduler.specs.Runs.{SameRest}
 
 -- the level is being run, from state from: m is the only manager that may run
@@ -61,9 +61,9 @@ pub record Goes (s : List ℕ) (l : ℕ) (c : Course) (k : List ℕ) : Type 0 wh
 -- what is kept of the fields that the manager of level l has read at other levels is what it reads there
 abbrev pub Recalls : List ℕ → Words → ℕ → List ℕ → Type 0
 Recalls s w l seen =
-    (o k : ℕ) → o < objectCount s → k < fields → (levelOf s o ≡ l → ⊥) → knownAt seen o k ≡ true → fieldAt seen o k ≡ readIn s w l o k
+    (o k : ℕ) → o < objectCount s → k < fields → (levelOf s o ≡ l → ⊥) → knownAt seen o k ≡ true → fieldAt seen o k ≡ foundIn s w l o k
 
--- the words lag behind it, and say that a manager runs, whose history there is room for
+-- the words lag behind it, and say that a manager runs, whose history there is room for; what is kept of its reads is what it reads
 pub record Lags (s : List ℕ) (w : Words) (l : ℕ) (c : Course) (k seen : List ℕ) : Type 0 where
   pub from : State
   pub lagging : Lagging s from w l (courseIn s c k)

@@ -17,8 +17,8 @@ ghost use Rattle.scheduler.specs.Runs.{startOf, Rests, LevelReady, Level
 ghost use Rattle.scheduler.specs.Running.{Goes, Lags, Gone, CloseReady, Closes, NextReady, NextDone};
 
 // Makes the script steps of the manager that runs at a level up to the next one that concerns others, and
-// does what that one does. All levels below have ended: what it has read there it would read again, so that is
-// kept in `seen`.
+// does what that one does. Nobody else steps meanwhile, and it writes at its own level alone: what it has read
+// elsewhere it would read again, so that is kept in `seen`.
 fn go_on(
     session: &[u8],
     masks: &[u16],

@@ -86,15 +86,15 @@ pub record Holds (m : Manager) (w : List ℕ) (level at : ℕ) : Type 0 where
   pub height-is : m .height ≡ at + 1
   pub level-is : m .level ≡ level
 
--- a READ takes a field from the words of the fields, of any object or of one of the level; of another, from what was read before
+-- what the words say of a field: those of the fields, of an object of the level or of any; of others those of what was read before
 abbrev pub shownIn : List ℕ → List ℕ → List ℕ → Bool → ℕ → ℕ → ℕ → Value
 shownIn s current seen all level o k = cond (all || eqb (levelOf s o) level) (fieldAt current o k) (fieldAt seen o k)
 
--- it does not pause: of another object, where it is known
+-- whether they say it, so that a READ of it need not pause
 abbrev pub isOpen : List ℕ → List ℕ → Bool → ℕ → ℕ → ℕ → Bool
 isOpen s seen all level o k = (all || eqb (levelOf s o) level) || knownAt seen o k
 
--- what those words say is so
+-- `read` gives what the words say, wherever they say it
 abbrev pub Sees : List ℕ → List ℕ → List ℕ → Bool → ℕ → (ℕ → ℕ → Value) → Type 0
 Sees s current seen all level read =
     (o k : ℕ) → o < objectCount s → k < fields → isOpen s seen all level o k ≡ true → read o k ≡ shownIn s current seen all level o k
@@ -140,11 +140,26 @@ MovePresent s move.Up = Unit
 MovePresent s move.Down = Unit
 MovePresent s (move.Pause e) = EventPresent s e
 
+-- a READ pauses only where the words do not say what it takes
+abbrev pub EventShut : List ℕ → List ℕ → Bool → ℕ → Event → Type 0
+EventShut s seen all level (event.Finished v) = Unit
+EventShut s seen all level event.OutOfSteps = Unit
+EventShut s seen all level (event.Write o k v) = Unit
+EventShut s seen all level (event.Read o k a) = isOpen s seen all level o k ≡ false
+EventShut s seen all level (event.Fork u o b v) = Unit
+
+abbrev pub MoveShut : List ℕ → List ℕ → Bool → ℕ → Move → Type 0
+MoveShut s seen all level move.Stay = Unit
+MoveShut s seen all level move.Up = Unit
+MoveShut s seen all level move.Down = Unit
+MoveShut s seen all level (move.Pause e) = EventShut s seen all level e
+
 -- an operation by a frame that has passed it is carried out
 pub record Operated (s current seen : List ℕ) (all : Bool) (level at : ℕ) (w w' : List ℕ) (step : Step) (r : Move) : Type 0 where
   pub moves : (m : Manager) (read : ℕ → ℕ → Value) → Holds m w level at → Sees s current seen all level read → operated (programOf s) read m (top m) step ≡ moved read m (framesOf w') r
   pub live : isPause r ≡ false → 0 < heightAfter (at + 1) r
   pub present : MovePresent s r
+  pub shut : MoveShut s seen all level r
   pub long : length w' ≡ length w
 
 -- so is a part of it, which does d to the manager, where session s has what it concerns
@@ -152,6 +167,7 @@ pub record Does (Concerns : List ℕ → Type 0) (at : ℕ) (w w' : List ℕ) (d
   pub moves : (m : Manager) (read : ℕ → ℕ → Value) (level : ℕ) → Holds m w level at → d m ≡ moved read m (framesOf w') r
   pub live : isPause r ≡ false → 0 < heightAfter (at + 1) r
   pub present : (s : List ℕ) → Concerns s → MovePresent s r
+  pub shut : (s seen : List ℕ) (all : Bool) (level : ℕ) → MoveShut s seen all level r
   pub long : length w' ≡ length w
 
 -- a method of a present object

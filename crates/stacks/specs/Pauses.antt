@@ -18,7 +18,7 @@ use Rattle.managers.specs.declared.Effect.the-variants as effect
 use Rattle.managers.specs.declared.Stepped.{Stepped}
 use Rattle.records.specs.Limits.{fieldWords}
 use Rattle.stacks.specs.Stack.{stackWords, framesOf}
-use Rattle.stacks.specs.Moves.{caused, Sees, isPause, EventPresent, MovePresent}
+use Rattle.stacks.specs.Moves.{caused, Sees, isPause, EventPresent, MovePresent, EventShut, MoveShut}
 use Rattle.stacks.specs.declared.Event.{Event}
 use Rattle.stacks.specs.declared.Event.the-variants as event
 use Rattle.stacks.specs.declared.Pause.{Pause}
@@ -120,6 +120,7 @@ pub record Turned (s current seen : List ℕ) (all : Bool) (level h n : ℕ) (w 
   pub more : isPause (r .made) ≡ true → isLast (r .made) ≡ false → n < r .steps
   pub less : isPause (r .made) ≡ false → turnsLeft (r .height) (r .steps) < turnsLeft h n
   pub present : MovePresent s (r .made)
+  pub shut : MoveShut s seen all level (r .made)
   pub long : length w' ≡ length w
 
 -- it has made steps up to a pause
@@ -129,4 +130,5 @@ pub record Advanced (s current seen : List ℕ) (all : Bool) (level h n : ℕ) (
   pub made : r .steps ≤ maxScriptSteps
   pub more : isOver (r .event) ≡ false → n < r .steps
   pub present : EventPresent s (r .event)
+  pub shut : EventShut s seen all level (r .event)
   pub long : length w' ≡ length w

@@ -199,7 +199,8 @@ fn take_turn(
 
 // Makes script steps of a manager that has so many frames and has made so many steps, until one concerns
 // others or the manager ends. What that step does to the frames is done. READs are of any object where
-// `all` says so, and else of those of the level. A frame at its script's end pops when it is met.
+// `all` says so, and else of those of the level and of what `seen` has of others. A frame at its script's
+// end pops when it is met.
 pub fn advance(
     session: &[u8],
     masks: &[u16],

@@ -44,8 +44,8 @@ fn jump(stack: &mut [u32], at: usize, a: u8, b: u8)
     }
 }
 
-// READ field `b` into register `a`: of any object, or of one of the level; of another as it was read before;
-// else it is left to others.
+// READ field `b` into register `a`: from `current` where the object is of the level, or any where `all` says
+// so; from `seen` where it was read before; else it is left to others.
 fn read(
     session: &[u8],
     masks: &[u16],
@@ -136,8 +136,8 @@ fn fork(stack: &mut [u32], at: usize, a: u8, b: u8, c: u8, level: u8) -> Move
     })
 }
 
-// What becomes of a message, by the filter. The table is lent on by its parts: handed on as it came, it would
-// be loaded whole before the caller's two stores of it are done, at each SEND.
+// What becomes of a message, by the filter. The whole table is lent as a part of itself: lent as it came, its
+// pointer and length are loaded at once, and that load waits for the two stores that made them.
 fn fate_by(masks: &[u16], manager: usize, sender: usize, receiver: usize) -> Fate
     requires { ⌜ isOrdered (now masks) ≡ true ⌝ }
     ensures { λ r. ⌜ r ≡ fateOf (length (now (masks .entry))) (dominates (now (masks .entry))) manager sender receiver ⌝ }
@@ -192,7 +192,7 @@ fn quit(stack: &mut [u32], at: usize, a: u8) -> Move
 }
 
 // One operation, by frame `at`, which has passed it. READs are of any object where `all` says so, and else
-// of those of the level.
+// of those of the level and of what `seen` has of others.
 pub fn operate(
     session: &[u8],
     masks: &[u16],

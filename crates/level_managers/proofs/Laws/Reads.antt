@@ -30,7 +30,7 @@ use Rattle.versions.specs.Log.{maxVersions, logStart, logOf, Within}
 use Rattle.versions.specs.Order.{StampsRise}
 use Rattle.versions.proofs.Laws.Order.{stamps-rise}
 use Rattle.level_managers.specs.Kept.{Words, versionsPlace, LevelTold}
-use Rattle.level_managers.specs.Steps.{Busy, IsBusy, runningFork, BoundReady, boundIn, readIn, ReadIs}
+use Rattle.level_managers.specs.Steps.{Busy, IsBusy, runningFork, BoundReady, boundIn, foundIn, ReadIs}
 use Rattle.level_managers.proofs.Laws.Ready.{told-fork, busy-settles}
 use Rattle.level_managers.proofs.Laws.Step.{says-live}
 
@@ -95,14 +95,14 @@ module _ {s masks : List ℕ} (a : Leveled s masks) {w : Words} {l : ℕ} {ms : 
 
 -- what is read at another level is what the words say
 module _ {s masks : List ℕ} (a : Leveled s masks) {w : Words} {l : ℕ} {ms : ℕ → Manager} {st : State} {x : Fork} {m : Manager} (b : Busy s w l ms st x m) (o k : ℕ) (there : o < objectCount s) where
-  pub read-in : (levelOf s o ≡ l → ⊥) → readAt (programOf s) st l x o k ≡ readIn s w l o k
+  pub found-in : (levelOf s o ≡ l → ⊥) → readAt (programOf s) st l x o k ≡ foundIn s w l o k
   unfolding programOf
-  read-in apart =
+  found-in apart =
       let h = level-present s (a .accepted) o there in
       read-below (programOf s) st l x o k apart
       ∙ ap₂ (λ (v : ℕ) (vs : List Version). newestTo v (fieldOf s o k) o k vs) (sym (bound-is a b h)) (sym (versions-are a b h))
 
-  -- and there is no more of it than a level has room for
+  -- a level has no more versions than its log has room for
   pub read-few : getD (w .tallies) (versionsPlace (levelOf s o)) 0 ≤ maxVersions
   read-few =
       let h = level-present s (a .accepted) o there in

@@ -21,7 +21,7 @@ use Rattle.queues.specs.Queue.{forkAt}
 use Rattle.queues.proofs.Laws.Queue.{fork-apart}
 use Rattle.versions.specs.Log.{maxVersions, logStart, logOf}
 use Rattle.level_managers.specs.Kept.{Words, waitingPlace, versionsPlace}
-use Rattle.level_managers.specs.Steps.{readIn, Wrote, Forked}
+use Rattle.level_managers.specs.Steps.{foundIn, Wrote, Forked}
 
 -- field k of object o is read at level j, another than that of the manager, l
 module _ (s : List ℕ) (w : Words) (l : ℕ) (low : l < maxLevels) (o k : ℕ) (placed : levelOf s o < maxLevels) (apart : levelOf s o ≡ l → ⊥) where
@@ -33,11 +33,11 @@ module _ (s : List ℕ) (w : Words) (l : ℕ) (low : l < maxLevels) (o k : ℕ) 
   readBy x ended vs =
       newestTo (cond (eqb (getD (x .seen) j 0) 0) (endBefore (x .stamp) (historiesAt (w .ended) j ended)) (getD (x .seen) j 0)) (fieldOf s o k) o k vs
 
-  -- each of them stays where the numbers of level j do, and the fork
+  -- where these are the same, so is what is read
   same : (x x' : Fork) (n n' : ℕ) (vs vs' : List Version) → x' ≡ x → n' ≡ n → vs' ≡ vs → readBy x' n' vs' ≡ readBy x n vs
   same x x' n n' vs vs' e1 e2 e3 = rw (e1, e2, e3) refl
 
-  pub write-recalls : (current' tallies' work' : List ℕ) (stamp object i : ℕ) (v : Value) → Wrote (w .current) current' (w .tallies) tallies' (w .work) work' l stamp object i v → getD (w .tallies) (versionsPlace j) 0 ≤ maxVersions → readIn s (record { current = current'; ended = w .ended; tallies = tallies'; queue = w .queue; work = work' }) l o k ≡ readIn s w l o k
+  pub write-recalls : (current' tallies' work' : List ℕ) (stamp object i : ℕ) (v : Value) → Wrote (w .current) current' (w .tallies) tallies' (w .work) work' l stamp object i v → getD (w .tallies) (versionsPlace j) 0 ≤ maxVersions → foundIn s (record { current = current'; ended = w .ended; tallies = tallies'; queue = w .queue; work = work' }) l o k ≡ foundIn s w l o k
   write-recalls current' tallies' work' stamp object i v d few =
       let other : (at : ℕ) → (at ≡ versionsPlace l → ⊥) → getD tallies' at 0 ≡ getD (w .tallies) at 0 = λ at z. ap (λ t. getD t at 0) (d .count) ∙ getD-set-other (w .tallies) (versionsPlace l) at _ 0 z in
       let count = other (versionsPlace j) (λ e. apart (omega (arith, e))) in
@@ -46,7 +46,7 @@ module _ (s : List ℕ) (w : Words) (l : ℕ) (low : l < maxLevels) (o k : ℕ) 
       (other j (λ e. omega (arith, e, low, placed)))
       (ap (logOf work' (logStart j)) count ∙ d .version .others j (getD (w .tallies) (versionsPlace j) 0) apart few)
 
-  pub fork-recalls : (tallies' queue' : List ℕ) (stamp forks u : ℕ) (message : Message) → Forked (w .tallies) tallies' (w .queue) queue' l stamp forks u message → u < maxLevels → (l ≡ u → ⊥) → getD (w .tallies) l 0 < maxManagers → readIn s (record { current = w .current; ended = w .ended; tallies = tallies'; queue = queue'; work = w .work }) l o k ≡ readIn s w l o k
+  pub fork-recalls : (tallies' queue' : List ℕ) (stamp forks u : ℕ) (message : Message) → Forked (w .tallies) tallies' (w .queue) queue' l stamp forks u message → u < maxLevels → (l ≡ u → ⊥) → getD (w .tallies) l 0 < maxManagers → foundIn s (record { current = w .current; ended = w .ended; tallies = tallies'; queue = queue'; work = w .work }) l o k ≡ foundIn s w l o k
   fork-recalls tallies' queue' stamp forks u message d above upward few =
       let other : (at : ℕ) → (at ≡ waitingPlace u → ⊥) → getD tallies' at 0 ≡ getD (w .tallies) at 0 = λ at z. ap (λ t. getD t at 0) (d .tallies-are) ∙ getD-set-other (w .tallies) (waitingPlace u) at _ 0 z in
       same _ _ _ _ _ _

@@ -1,4 +1,4 @@
--- Fields kept in words: one set, and all filled. Assumes nothing.
+-- Fields kept in words: one set, one remembered, and all filled. Assumes nothing.
 use Prim.Native.Nat.{ℕ, _+_, _-_, _*_, _/_, _%_, _<_}
 use mathlib.Core.Path.{_≡_, refl, _∙_, ap, ap₂}
 use mathlib.Core.Bool.{true, not}
@@ -69,6 +69,7 @@ field-remembered ws o k t n v h et en =
     let at = fieldPlace o k in
     let one = set ws at t in
     record {
+      words = ap₂ (λ (a b : ℕ). set (set ws at a) (at + 1) b) et en;
       field = field-stored ws o k t n v h (ap₂ valueOf et en ∙ known-back v);
       known =
           ap (λ x. not (eqb x 0))

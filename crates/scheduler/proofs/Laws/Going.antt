@@ -47,9 +47,9 @@ use Rattle.stacks.specs.declared.Event.the-variants as event
 use Rattle.stacks.specs.declared.Pause.{Pause}
 use Rattle.stacks.proofs.Laws.Events.{after, does-write, does-spent, does-read, does-fork, does-unforked}
 use Rattle.level_managers.specs.Kept.{Words, waitingPlace, versionsPlace, busyPlace, placed}
-use Rattle.level_managers.specs.Steps.{Read, Busy, IsBusy, readIn, ReadIs, WriteReady, Wrote, ForkReady, Forked, Parts, EffectReady, EffectDone}
+use Rattle.level_managers.specs.Steps.{Read, Busy, IsBusy, foundIn, ReadIs, WriteReady, Wrote, ForkReady, Forked, Parts, EffectReady, EffectDone}
 use Rattle.scheduler.specs.Running.{Draining, Lagging, courseIn, Goes, Recalls, Lags, Gone}
-use Rattle.level_managers.proofs.Laws.Reads.{read-in, read-few}
+use Rattle.level_managers.proofs.Laws.Reads.{found-in, read-few}
 use Rattle.level_managers.proofs.Laws.Recall.{write-recalls, fork-recalls}
 use Rattle.level_managers.proofs.Laws.Ready.{settle-after}
 use Rattle.level_managers.proofs.Laws.Step.{says-live, rest-effect}
@@ -337,12 +337,12 @@ module _ (s masks index : List ℕ) (rd : Read s masks index) (w : Words) (l : �
         | no no' ↦ other (λ z _. no' z)
       ]
         where
-          is-read : (levelOf s o ≡ l → ⊥) → v ≡ readIn s w l o i
+          is-read : (levelOf s o ≡ l → ⊥) → v ≡ foundIn s w l o i
           is-read apart =
               let run = busy-at (there .from) (there .lagging) (event.Read o i a) (now (event.Read o i a) is refl) in
-              sym (sees _ _ _ _ run) ∙ read-in (rd .leveled) run o i (event-present (event.Read o i a) is .0) apart
+              sym (sees _ _ _ _ run) ∙ found-in (rd .leveled) run o i (event-present (event.Read o i a) is .0) apart
 
-          other : (o' ≡ o → k' ≡ i → ⊥) → fieldAt seen' o' k' ≡ readIn s w l o' k'
+          other : (o' ≡ o → k' ≡ i → ⊥) → fieldAt seen' o' k' ≡ foundIn s w l o' k'
           other d = kept .field .others o' k' hk d ∙ there .recalls o' k' ho hk apart (sym (kept .others o' k' hk d) ∙ known)
 
       pub gone-read : (v : Value) → ReadIs s w l o i v → (seen' : List ℕ) → Remembered seen seen' o i v → length seen' ≡ length seen → (k₂ : List ℕ) → Replaced k₁ k₂ (r .height - 1) (withRegister (frameIn k₁ (r .height - 1)) a v) → Gone s l c k k₂ seen seen' w w (after c r (c .writes) (c .forks) (c .ending))

@@ -43,7 +43,7 @@ use Rattle.level_managers.specs.Kept.{Words, busyPlace, Runs, LevelTold, Says, 
 use Rattle.level_managers.specs.Permits.{managed}
 use Rattle.level_managers.specs.Steps.{Busy, Parts, EffectReady, EffectDone, Settled}
 use Rattle.scheduler.specs.Running.{Draining, Lagging, Recalls}
-use Rattle.level_managers.proofs.Laws.Reads.{read-in}
+use Rattle.level_managers.proofs.Laws.Reads.{found-in}
 use Rattle.level_managers.proofs.Laws.Made.{partsOf, settled-on}
 use Rattle.level_managers.proofs.Laws.Ready.{told-runs, effect-ready}
 use Rattle.level_managers.proofs.Laws.Settle.{placed-own}
@@ -224,7 +224,7 @@ module _ (s : List ℕ) (a : verdictOf s ≡ Accepted) (l : ℕ) (h : l < levelC
         let apart : levelOf s o ≡ l → ⊥ = λ z. not-both (eqb (levelOf s o) l) (eq-eqb (levelOf s o) l z) q in
         let known : knownAt seen o k ≡ true = rw q at e in
         sym (g .reads o k)
-        ∙ read-in lent (running-busy w m x read g (λ _. m)) o k ho apart
+        ∙ found-in lent (running-busy w m x read g (λ _. m)) o k ho apart
         ∙ sym (recalls o k ho hk apart known)
         ∙ rw q refl
   ]

@@ -12,7 +12,7 @@ use Rattle.managers.specs.Manager.{concluded, stepped}
 use Rattle.managers.specs.declared.Frame.{Frame}
 use Rattle.managers.specs.declared.Manager.{Manager}
 use Rattle.stacks.specs.Stack.{framesOf}
-use Rattle.stacks.specs.Moves.{Sees, isPause, MovePresent}
+use Rattle.stacks.specs.Moves.{Sees, isPause, MovePresent, MoveShut}
 use Rattle.stacks.specs.Pauses.{Quietly, Inside, standing, Last, Paused, TurnedBy, isLast, Advanceable, Stands, Turned, Advanced}
 use Rattle.stacks.specs.declared.Turn.{Turn}
 use Rattle.stacks.specs.declared.Event.{Event}
@@ -126,5 +126,6 @@ module _ (s masks index current seen : List ℕ) (all : Bool) (level h₀ n₀ :
           made = t .made;
           more = λ o. omega (arith, g .grown, t .more (ap isPause q) (ap isLast q ∙ o));
           present = subst (MovePresent s) q (t .present);
+          shut = subst (MoveShut s seen all level) q (t .shut);
           long = t .long ∙ g .long;
         }

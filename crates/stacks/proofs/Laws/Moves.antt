@@ -118,6 +118,7 @@ module _ (at : ℕ) (w w' : List ℕ) where
             ∙ sym (r .frames)));
         live = λ _. omega arith;
         present = λ _ _. tt;
+        shut = λ _ _ _ _. tt;
         long = r .long;
       }
 
@@ -129,6 +130,7 @@ module _ (at : ℕ) (w w' : List ℕ) where
             rw (le-ltb (m .height) maxFrames (omega (arith, h .height-is, high))) (ap quiet (replaced-top m w level at h (λ f. withRegister f a Nil) w' r));
         live = λ _. omega arith;
         present = λ _ _. tt;
+        shut = λ _ _ _ _. tt;
         long = r .long;
       }
 
@@ -139,6 +141,7 @@ module _ (at : ℕ) (w w' : List ℕ) where
         moves = λ m read level h. ap quiet (replaced-top m w level at h (λ f. withRegister f a Nil) w' r);
         live = λ _. omega arith;
         present = λ _ _. tt;
+        shut = λ _ _ _ _. tt;
         long = r .long;
       }
 
@@ -151,6 +154,7 @@ module _ (at : ℕ) (w w' : List ℕ) where
             ∙ ap (λ x. caused read m (framesOf w') (event.Fork u o b x)) (ap (λ g. register g a) (top-is m w level at h) ∙ sym e);
         live = λ x. absurd (not-both true refl x);
         present = λ _ c. c;
+        shut = λ _ _ _ _. tt;
         long = r .long;
       }
 
@@ -172,6 +176,7 @@ module _ (at : ℕ) (w w' : List ℕ) where
             ∙ ap (λ fs. withStack m (m .height - 1) fs (m .reply)) (ap (λ i. set (framesOf w) i g) below ∙ sym (r .frames)));
         live = λ _. omega (arith, some);
         present = λ _ _. tt;
+        shut = λ _ _ _ _. tt;
         long = r .long;
       }
 
@@ -189,6 +194,7 @@ quit-last at w a v none e =
           ∙ popped-last n v one);
       live = λ x. absurd (not-both true refl x);
       present = λ _ _. tt;
+      shut = λ _ _ _ _. tt;
       long = refl;
     }
 
@@ -205,6 +211,7 @@ module _ (s current seen : List ℕ) (all : Bool) (level at : ℕ) (w w' : List 
         moves = λ m read h sees. ap quiet (replaced-top m w level at h (λ f. withRegister f a (Number n)) w' r);
         live = λ _. omega arith;
         present = tt;
+        shut = tt;
         long = r .long;
       }
 
@@ -216,6 +223,7 @@ module _ (s current seen : List ℕ) (all : Bool) (level at : ℕ) (w w' : List 
             ap quiet (replaced-top m w level at h (λ f. withRegister f a (sum (register f a) (register f b))) w' (subst (λ x. Replaced w w' at (withRegister (frameIn w at) a x)) e r));
         live = λ _. omega arith;
         present = tt;
+        shut = tt;
         long = r .long;
       }
 
@@ -226,6 +234,7 @@ module _ (s current seen : List ℕ) (all : Bool) (level at : ℕ) (w w' : List 
         moves = λ m read h sees. ap quiet (replaced-top m w level at h (λ f. cond (isNilOr0 (register f a)) (atStep f b) f) w' r);
         live = λ _. omega arith;
         present = tt;
+        shut = tt;
         long = r .long;
       }
 
@@ -239,6 +248,7 @@ module _ (s current seen : List ℕ) (all : Bool) (level at : ℕ) (w w' : List 
             ap quiet (replaced-top m w level at h (λ f. withRegister f a (read (f .object) b)) w' (subst (λ x. Replaced w w' at (withRegister (frameIn w at) a x)) same r));
         live = λ _. omega arith;
         present = tt;
+        shut = tt;
         long = r .long;
       }
 
@@ -262,22 +272,23 @@ module _ (s current seen : List ℕ) (all : Bool) (level at : ℕ) (w w' : List 
             ∙ d .moves m read level h;
         live = d .live;
         present = d .present s names;
+        shut = d .shut s seen all level;
         long = d .long;
       }
 
   pub quit-operated : (a : ℕ) (r : Move) → Does (λ _. Unit) at w w' (λ m. record { manager = popped (withTop m (top m)) (register (top m) a); effect = effect.Nothing }) r → Operated s current seen all level at w w' (op.Quit a) r
   unfolding operated
-  quit-operated a r d = record { moves = λ m read h sees. d .moves m read level h; live = d .live; present = d .present s tt; long = d .long }
+  quit-operated a r d = record { moves = λ m read h sees. d .moves m read level h; live = d .live; present = d .present s tt; shut = d .shut s seen all level; long = d .long }
 
 -- those that write no frame: the script's end; a READ that is left to others; a WRITE of an object of another level, and one of the level
 module _ (s current seen : List ℕ) (all : Bool) (level at : ℕ) (w : List ℕ) where
   pub end-operated : Operated s current seen all level at w w op.End move.Stay
   unfolding operated moved
-  end-operated = record { moves = λ m read h sees. ap (λ fs. quiet (with m fs)) (h .frames-are); live = λ _. omega arith; present = tt; long = refl }
+  end-operated = record { moves = λ m read h sees. ap (λ fs. quiet (with m fs)) (h .frames-are); live = λ _. omega arith; present = tt; shut = tt; long = refl }
 
-  pub read-left : (a b o : ℕ) → o ≡ frameIn w at .object → frameIn w at .object < objectCount s → a < registers → b < fields → Operated s current seen all level at w w (op.Read a b) (move.Pause (event.Read o b a))
+  pub read-left : (a b o : ℕ) → o ≡ frameIn w at .object → frameIn w at .object < objectCount s → a < registers → b < fields → all ≡ false → (levelOf s o ≡ level → ⊥) → knownAt seen o b ≡ false → Operated s current seen all level at w w (op.Read a b) (move.Pause (event.Read o b a))
   unfolding operated moved caused
-  read-left a b o e present into field =
+  read-left a b o e present into field some apart unknown =
       record {
         moves = λ m read h sees.
             let i = m .height - 1 in
@@ -287,6 +298,7 @@ module _ (s current seen : List ℕ) (all : Bool) (level at : ℕ) (w : List ℕ
             ∙ ap (λ x. quiet (with m (set (framesOf w) i (withRegister f a (read x b))))) own;
         live = λ x. absurd (not-both true refl x);
         present = (rw e present, field, into);
+        shut = rw (some, ne-eqb (levelOf s o) level apart, unknown) refl;
         long = refl;
       }
 
@@ -299,6 +311,7 @@ module _ (s current seen : List ℕ) (all : Bool) (level at : ℕ) (w : List ℕ
             rw (ne-eqb (levelOf s (top m .object)) (m .level) ne) (ap quiet (own-top m w level at h));
         live = λ _. omega arith;
         present = tt;
+        shut = tt;
         long = refl;
       }
 
@@ -314,5 +327,6 @@ module _ (s current seen : List ℕ) (all : Bool) (level at : ℕ) (w : List ℕ
             ∙ ap (λ x. caused read m (framesOf w) (event.Write o b x)) (sym ev);
         live = λ x. absurd (not-both true refl x);
         present = (rw eo present, field);
+        shut = tt;
         long = refl;
       }

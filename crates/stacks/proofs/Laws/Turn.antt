@@ -99,6 +99,7 @@ module _ (s masks index current seen w : List ℕ) (all : Bool) (level h n : ℕ
         more = λ _ e. absurd (not-both true refl e);
         less = λ e. absurd (not-both true refl e);
         present = tt;
+        shut = tt;
         long = refl;
       }
 
@@ -128,6 +129,7 @@ module _ (s masks index current seen w : List ℕ) (all : Bool) (level h n : ℕ
         more = λ e _. absurd (not-both false e refl);
         less = λ _. omega (arith, two);
         present = tt;
+        shut = tt;
         long = r .long;
       }
 
@@ -145,6 +147,7 @@ module _ (s masks index current seen w : List ℕ) (all : Bool) (level h n : ℕ
         more = λ _ e. absurd (not-both true refl e);
         less = λ e. absurd (not-both true refl e);
         present = tt;
+        shut = tt;
         long = refl;
       }
 
@@ -224,5 +227,6 @@ module _ (s masks index current seen w : List ℕ) (all : Bool) (level h n : ℕ
           more = λ _ _. omega arith;
           less = step-less h n made few;
           present = o .present;
+          shut = o .shut;
           long = o .long ∙ r .long;
         }

@@ -103,6 +103,9 @@ returns-3 c =
     let s = c .before .before .before .before .before .before .before .before .before .before .before .before in
     let object = c .before .before .before .before .before .object in
     read-left (s .args .session .now) (s .args .current .now) (s .args .seen .now) (s .args .all) (s .args .level) (s .args .at) (s .args .stack .now) (s .args .a) (s .args .b) (object .result) (object .ensures) (s .pre .0 .known .present) (s .pre .1) (s .pre .2)
+    (c .before .before .before .before .if1 .left)
+    (λ e. not-both _ (eq-eqb _ _ (c .before .before .before .level-of .ensures ∙ e)) (c .before .before .if2 .left))
+    (sym (c .before .is-known .ensures) ∙ c .if3 .left)
 
 pub read-spec : {M : Type 1} → statement M
 read-spec =
