@@ -8,7 +8,7 @@ ghost use mathlib.Core.Bool.{true, not, _&&_};
 ghost use Prim.Native.Nat.{_^_};
 ghost use lib.Dec.{ltb};
 ghost use lib.ListN.{length};
-ghost use Rattle.lattice.specs.Range.{implies};
+ghost use Rattle.lattice.specs.Range.{implies, first};
 ghost use Rattle.lattice.specs.Order.{reflexive, antisymmetric, transitive};
 ghost use Rattle.lattice.specs.Join.{isUpper, isLeast};
 ghost use Rattle.lattice.specs.Table.{bit, dominates, namesPresent, isOrdered, joinOf, isJoined, verdictOf};
@@ -181,17 +181,29 @@ fn is_least(masks: &[u16], a: usize, b: usize, u: usize) -> bool
     true
 }
 
+// The first level below `k` that is the least upper bound of `a` and `b`, or `k` where none is. By recursion:
+// a loop would be compiled into each caller of `join`, most of which seldom come here.
+fn least_below(masks: &[u16], a: usize, b: usize, k: usize) -> usize
+    ensures { λ r. ⌜ r ≡ first k (isLeast (length (now (masks .entry))) (dominates (now (masks .entry))) a b) ⌝ }
+{
+    if k == 0 {
+        return 0;
+    }
+    let r = least_below(masks, a, b, k - 1);
+    if r < k - 1 {
+        return r;
+    }
+    if is_least(masks, a, b, k - 1) {
+        return k - 1;
+    }
+    k
+}
+
 // The least upper bound of `a` and `b`, or the number of levels where they have none.
 fn least_upper(masks: &[u16], a: usize, b: usize) -> usize
     ensures { λ r. ⌜ r ≡ joinOf (now (masks .entry)) a b ⌝ }
 {
-    let n = masks.len();
-    for u in 0..n {
-        if is_least(masks, a, b, u) {
-            return u;
-        }
-    }
-    n
+    least_below(masks, a, b, masks.len())
 }
 
 // The join of `a` and `b`: their least upper bound, or the number of levels where they have none.

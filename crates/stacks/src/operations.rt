@@ -8,12 +8,8 @@ use session::Step;
 use session::Value;
 use session::contents;
 ghost use Prim.Native.Nat.{_<_};
-ghost use mathlib.Core.Path.{_≡_};
-ghost use mathlib.Core.Bool.{true, cond};
-ghost use lib.ListN.{length};
-ghost use Rattle.lattice.specs.Table.{dominates, isOrdered};
+ghost use mathlib.Core.Bool.{cond};
 ghost use Rattle.session.specs.Limits.{registers, fields as fieldCount};
-ghost use Rattle.filter.specs.Filter.{fateOf};
 ghost use Rattle.managers.specs.Value.{isNilOr0};
 ghost use Rattle.managers.specs.Frame.{frameFor, register, atStep};
 ghost use Rattle.managers.specs.Manager.{top, withTop, popped, called, forked};
@@ -136,16 +132,6 @@ fn fork(stack: &mut [u32], at: usize, a: u8, b: u8, c: u8, level: u8) -> Move
     })
 }
 
-// What becomes of a message, by the filter. The whole table is lent as a part of itself: lent as it came, its
-// pointer and length are loaded at once, and that load waits for the two stores that made them.
-fn fate_by(masks: &[u16], manager: usize, sender: usize, receiver: usize) -> Fate
-    requires { ⌜ isOrdered (now masks) ≡ true ⌝ }
-    ensures { λ r. ⌜ r ≡ fateOf (length (now (masks .entry))) (dominates (now (masks .entry))) manager sender receiver ⌝ }
-{
-    let n = masks.len();
-    filter::fate_of(&masks[..n], manager, sender, receiver)
-}
-
 // SEND name `b` to object `c`, with register `a` as parameter and for the reply. `current`, `seen` and
 // `all` are for its contract.
 fn send(
@@ -166,7 +152,7 @@ fn send(
 {
     let sender = contents::level_of(session, masks, frames::object(stack, at) as usize);
     let receiver = contents::level_of(session, masks, c as usize);
-    let fate = fate_by(masks, level as usize, sender, receiver);
+    let fate = filter::fate_of(masks, level as usize, sender, receiver);
     match fate {
         Fate::Call => call(stack, at, a, b, c, true),
         Fate::Discard => call(stack, at, a, b, c, false),

@@ -10,7 +10,7 @@ use lib.Dec.{eqb, ltb}
 use Rattle.lattice.specs.Range.{implies, all, first}
 use Rattle.lattice.specs.Order.{Dominance, strictly, isOrder, PartialOrder}
 use Rattle.lattice.specs.Join.{isUpper, isLeast, join, hasJoins, LeastUpper, JoinSemilattice}
-use Rattle.lattice.proofs.Laws.Range.{and-left, and-right, and-both, and-fails-left, and-fails-right, implies-then, implies-when, all-each, all-every, all-fails, first-le, first-passes, first-at, first-none, first-found}
+use Rattle.lattice.proofs.Laws.Range.{and-left, and-right, and-both, and-fails-left, and-fails-right, implies-then, implies-when, all-each, all-every, all-fails, first-le, first-passes, first-found}
 use Rattle.lattice.proofs.Laws.Order.{order}
 
 module _ (n : ℕ) (dom : Dominance) where
@@ -57,14 +57,6 @@ module _ (n : ℕ) (dom : Dominance) where
   least-every a b u e f = and-both (isUpper dom a b u) _ e (all-every n _ f)
 
   -- `join`, made by a search from level 0 up
-  pub join-at : (a b u : ℕ) → u < n → isLeast n dom a b u ≡ true → ((v : ℕ) → v < u → isLeast n dom a b v ≡ false) → join n dom a b ≡ u
-  unfolding join
-  join-at a b u h e f = first-at n (isLeast n dom a b) u h e f
-
-  pub join-none : (a b : ℕ) → ((v : ℕ) → v < n → isLeast n dom a b v ≡ false) → join n dom a b ≡ n
-  unfolding join
-  join-none a b f = first-none n (isLeast n dom a b) f
-
   pub join-le : (a b : ℕ) → join n dom a b ≤ n
   unfolding join
   join-le a b = first-le n (isLeast n dom a b)

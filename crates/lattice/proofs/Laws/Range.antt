@@ -1,5 +1,5 @@
 -- Laws of tests: the halves of `&&`, and what `all` and `first` say of the numbers below n. Assumes nothing.
-use Prim.Native.Nat.{ℕ, zero, suc, _≤_, _<_}
+use Prim.Native.Nat.{ℕ, zero, suc, _-_, _≤_, _<_}
 use mathlib.Core.Path.{_≡_, refl, sym, _∙_, ap₂}
 use mathlib.Core.Bool.{Bool, true, false, not, cond, _&&_, true≢false, false≢true}
 use native.Mathlib.Omega.{arith}
@@ -148,6 +148,20 @@ first-none n p f = go (decLt (first n p) n)
     go : Dec (first n p < n) → first n p ≡ n
     go (yes l) = absurd (not-both (p (first n p)) (first-passes n p l) (f (first n p) l))
     go (no g) = omega (arith, first-le n p)
+
+-- with one number more: what was found stays; else it is the last one, if that passes
+pub first-kept : (n : ℕ) (p : ℕ → Bool) → first (n - 1) p < n - 1 → first n p ≡ first (n - 1) p
+first-kept n p h = first-at n p (first (n - 1) p) (omega (arith, h)) (first-passes (n - 1) p h) (first-before (n - 1) p)
+
+pub first-last : (n : ℕ) (p : ℕ → Bool) → (n ≡ 0 → ⊥) → n - 1 ≤ first (n - 1) p → p (n - 1) ≡ true → first n p ≡ n - 1
+first-last n p z h e = first-at n p (n - 1) (omega (arith, z)) e (λ k l. first-before (n - 1) p k (omega (arith, h, l)))
+
+pub first-past : (n : ℕ) (p : ℕ → Bool) → n - 1 ≤ first (n - 1) p → p (n - 1) ≡ false → first n p ≡ n
+first-past n p h e = first-none n p (λ k l. go k (decLt k (n - 1)) l)
+  where
+    go : (k : ℕ) → Dec (k < n - 1) → k < n → p k ≡ false
+    go k (yes g) l = first-before (n - 1) p k (omega (arith, h, g))
+    go k (no g) l = let same : k ≡ n - 1 = omega (arith, g, l) in rw same e
 
 pub first-found : (n : ℕ) (p : ℕ → Bool) (i : ℕ) → i < n → p i ≡ true → first n p < n
 first-found n p i h e = go (decLt (first n p) n)

@@ -24,8 +24,8 @@ level-of-requires c κs = search needs
 level-of-requires-2 : tie.Need-level-of-requires-2
 level-of-requires-2 c κs = search needs
 
-fate-by-requires : tie.Need-fate-by-requires
-fate-by-requires c κs =
+fate-of-requires : tie.Need-fate-of-requires
+fate-of-requires c κs =
     let s = c .before .before .before .before .before .before .before .before .before in
     lent-ordered (s .args .session .now) (s .args .masks .now) (s .pre .0 .leveled)
 
@@ -56,7 +56,7 @@ cast-fork c =
     let t = s .args .session .now in
     let lent = s .pre .0 .leveled in
     let u = c .before .before .fate .given .0 .0 in
-    let e = sym (c .before .before .before .before .fate-by .ensures) ∙ c .before .before .fate .given .1 in
+    let e = sym (c .before .before .before .before .fate-of .ensures) ∙ c .before .before .fate .given .1 in
     omega (
       arith,
       fork-present t (s .args .masks .now) lent _ _ (s .args .c) u (s .pre .0 .placed) (s .pre .2 .0) (rw (c .before .before .before .before .before .level-of2 .ensures) at e),
@@ -77,7 +77,7 @@ returns c =
     send-operated (s .args .session .now) (s .args .current .now) (s .args .seen .now) (s .args .all) (s .args .level) (s .args .at) (s .args .stack .now) _ (s .args .masks .now) (s .pre .0 .leveled) (s .args .a) (s .args .b) (s .args .c)
     (c .before .before .before .before .before .before .before .before .level-of .result) (c .before .before .before .before .before .before .before .level-of2 .result) fate.Call _
     (c .before .before .before .before .before .before .before .before .level-of .ensures ∙ ap (levelOf t) (c .before .before .before .before .before .before .before .before .before .object .ensures)) (c .before .before .before .before .before .before .before .level-of2 .ensures)
-    (sym (c .before .before .before .before .before .before .fate-by .ensures) ∙ c .before .before .before .before .enum-told .given .1)
+    (sym (c .before .before .before .before .before .before .fate-of .ensures) ∙ c .before .before .before .before .enum-told .given .1)
     (s .pre .2)
     (c .before .before .call .ensures)
 
@@ -92,7 +92,7 @@ returns-2 c =
     send-operated (s .args .session .now) (s .args .current .now) (s .args .seen .now) (s .args .all) (s .args .level) (s .args .at) (s .args .stack .now) _ (s .args .masks .now) (s .pre .0 .leveled) (s .args .a) (s .args .b) (s .args .c)
     (c .before .before .before .before .before .before .before .before .level-of .result) (c .before .before .before .before .before .before .before .level-of2 .result) fate.Discard _
     (c .before .before .before .before .before .before .before .before .level-of .ensures ∙ ap (levelOf t) (c .before .before .before .before .before .before .before .before .before .object .ensures)) (c .before .before .before .before .before .before .before .level-of2 .ensures)
-    (sym (c .before .before .before .before .before .before .fate-by .ensures) ∙ c .before .before .before .before .enum-told2 .given .1)
+    (sym (c .before .before .before .before .before .before .fate-of .ensures) ∙ c .before .before .before .before .enum-told2 .given .1)
     (s .pre .2)
     (c .before .before .call2 .ensures)
 
@@ -106,7 +106,7 @@ returns-3 c =
     send-operated (s .args .session .now) (s .args .current .now) (s .args .seen .now) (s .args .all) (s .args .level) (s .args .at) (s .args .stack .now) _ (s .args .masks .now) (s .pre .0 .leveled) (s .args .a) (s .args .b) (s .args .c)
     (c .before .before .before .before .before .before .before .before .level-of .result) (c .before .before .before .before .before .before .before .level-of2 .result) fate.Block _
     (c .before .before .before .before .before .before .before .before .level-of .ensures ∙ ap (levelOf t) (c .before .before .before .before .before .before .before .before .before .object .ensures)) (c .before .before .before .before .before .before .before .level-of2 .ensures)
-    (sym (c .before .before .before .before .before .before .fate-by .ensures) ∙ c .before .before .before .before .enum-told3 .given .1)
+    (sym (c .before .before .before .before .before .before .fate-of .ensures) ∙ c .before .before .before .before .enum-told3 .given .1)
     (s .pre .2)
     (block-made (s .args .at) (s .args .stack .now) _ (s .args .a) (s .args .b) (s .args .c) (c .before .before .set-register .ensures))
 
@@ -121,7 +121,7 @@ returns-4 c =
     send-operated (s .args .session .now) (s .args .current .now) (s .args .seen .now) (s .args .all) (s .args .level) (s .args .at) (s .args .stack .now) _ (s .args .masks .now) (s .pre .0 .leveled) (s .args .a) (s .args .b) (s .args .c)
     (c .before .before .before .before .before .before .before .before .before .level-of .result) (c .before .before .before .before .before .before .before .before .level-of2 .result) (fate.Fork (c .before .before .before .before .before .fate .given .0 .0)) _
     (c .before .before .before .before .before .before .before .before .before .level-of .ensures ∙ ap (levelOf t) (c .before .before .before .before .before .before .before .before .before .before .object .ensures)) (c .before .before .before .before .before .before .before .before .level-of2 .ensures)
-    (sym (c .before .before .before .before .before .before .before .fate-by .ensures) ∙ c .before .before .before .before .before .fate .given .1)
+    (sym (c .before .before .before .before .before .before .before .fate-of .ensures) ∙ c .before .before .before .before .before .fate .given .1)
     (s .pre .2)
     (c .before .before .fork .ensures)
 
@@ -133,7 +133,7 @@ send-spec =
     cast-level-of
     level-of-requires
     level-of-requires-2
-    fate-by-requires
+    fate-of-requires
     enum-told
     call-requires
     enum-told-2
