@@ -1,8 +1,8 @@
 -- Where a message is forked, and that what runs it dominates its object. Assumes nothing.
 use Prim.Native.Nat.{ℕ, _<_}
-use mathlib.Core.Path.{_≡_, refl}
+use mathlib.Core.Path.{_≡_, refl, sym}
 use mathlib.Core.Bool.{Bool, true, false, cond}
-use borrow.Author.Tests.{eqb-true, eqb-false, ne-eqb}
+use borrow.Author.Tests.{eqb-true, eqb-false, eq-eqb, ne-eqb}
 use lib.Dec.{eqb}
 use Rattle.lattice.specs.Order.{Dominance, strictly, PartialOrder}
 use Rattle.lattice.specs.Join.{JoinSemilattice, join}
@@ -48,6 +48,26 @@ module _ (n : ℕ) (dom : Dominance) (sl : JoinSemilattice n dom) where
   unfolding fateOf
   fate-covers m l1 l2 hm h2 =
       covers m l1 l2 hm h2 (dom l1 l2) (dom l2 l1) (eqb (join n dom m l2) m) refl refl
+
+-- what becomes of a message, case by case
+module _ (n : ℕ) (dom : Dominance) (m l1 l2 : ℕ) where
+  pub fate-called : dom l1 l2 ≡ true → Call ≡ fateOf n dom m l1 l2
+  unfolding fateOf
+  fate-called d = rw d refl
+
+  module _ (d : dom l1 l2 ≡ false) where
+    pub fate-blocked : dom l2 l1 ≡ false → Block ≡ fateOf n dom m l1 l2
+    unfolding fateOf
+    fate-blocked e = rw (d, e) refl
+
+    module _ (e : dom l2 l1 ≡ true) (u : ℕ) (is : u ≡ join n dom m l2) where
+      pub fate-discarded : u ≡ m → Discard ≡ fateOf n dom m l1 l2
+      unfolding fateOf
+      fate-discarded own = rw (d, e, sym is, eq-eqb u m own) refl
+
+      pub fate-forked : (u ≡ m → ⊥) → Fork u ≡ fateOf n dom m l1 l2
+      unfolding fateOf
+      fate-forked apart = rw (d, e, sym is, ne-eqb u m apart) refl
 
 -- a message upward from the manager's own level is forked at the receiver's
 pub fate-own : (n : ℕ) (dom : Dominance) → PartialOrder n dom → (m l2 : ℕ) → l2 < n → dom m l2 ≡ false → dom l2 m ≡ true → fateOf n dom m m l2 ≡ Fork l2

@@ -2,12 +2,11 @@
 use mathlib.Core.Path.{_≡_, sym, _∙_}
 use mathlib.Core.Bool.{true, false}
 use borrow.Author.Needs.{needs}
-use borrow.Author.Tests.{not-true, not-false, eq-eqb, ne-eqb}
+use borrow.Author.Tests.{not-true, not-false}
 use lib.ListN.{length}
 use Rattle.lattice.specs.Table.{dominates}
 use Rattle.lattice.proofs.Laws.Table.{partial-order, upper-present}
-use Rattle.filter.specs.Filter.{fateOf}
-use Rattle.filter.proofs.Laws.Fate.{fate-own}
+use Rattle.filter.proofs.Laws.Fate.{fate-called, fate-blocked, fate-discarded, fate-forked, fate-own}
 use Rattle.filter.proofs.fate_of.Statement.{statement}
 use Rattle.filter.proofs.fate_of.Tie as tie
 
@@ -15,16 +14,21 @@ dominates-requires : tie.Need-dominates-requires
 dominates-requires c κs = search needs
 
 returns : tie.Need-returns
-unfolding fateOf
-returns c = rw (sym (c .before .dominates .ensures) ∙ c .if1 .taken)
+returns c =
+    let g = c .before .before .before .args in
+    let masks = g .masks .now in
+    fate-called (length masks) (dominates masks) (g .manager) (g .sender) (g .receiver) (sym (c .before .dominates .ensures) ∙ c .if1 .taken)
 
 dominates-requires-2 : tie.Need-dominates-requires-2
 dominates-requires-2 c κs = search needs
 
 returns-2 : tie.Need-returns-2
-unfolding fateOf
 returns-2 c =
-    rw (sym (c .before .before .before .dominates .ensures) ∙ c .before .before .if1 .left, sym (c .before .dominates2 .ensures) ∙ not-true _ (c .if2 .taken))
+    let g = c .before .before .before .before .before .args in
+    let masks = g .masks .now in
+    fate-blocked (length masks) (dominates masks) (g .manager) (g .sender) (g .receiver)
+    (sym (c .before .before .before .dominates .ensures) ∙ c .before .before .if1 .left)
+    (sym (c .before .dominates2 .ensures) ∙ not-true _ (c .if2 .taken))
 
 returns-3 : tie.Need-returns-3
 returns-3 c =
@@ -39,14 +43,26 @@ join-requires : tie.Need-join-requires
 join-requires c κs = search needs
 
 returns-4 : tie.Need-returns-4
-unfolding fateOf
 returns-4 c =
-    rw (sym (c .before .before .before .before .before .before .dominates .ensures) ∙ c .before .before .before .before .before .if1 .left, sym (c .before .before .before .before .dominates2 .ensures) ∙ not-false _ (c .before .before .before .if2 .left), sym (c .before .join .ensures), eq-eqb _ _ (c .if4 .taken))
+    let g = c .before .before .before .before .before .before .before .before .args in
+    let masks = g .masks .now in
+    fate-discarded (length masks) (dominates masks) (g .manager) (g .sender) (g .receiver)
+    (sym (c .before .before .before .before .before .before .dominates .ensures) ∙ c .before .before .before .before .before .if1 .left)
+    (sym (c .before .before .before .before .dominates2 .ensures) ∙ not-false _ (c .before .before .before .if2 .left))
+    (c .before .join .result)
+    (c .before .join .ensures)
+    (c .if4 .taken)
 
 returns-5 : tie.Need-returns-5
-unfolding fateOf
 returns-5 c =
-    rw (sym (c .before .before .before .before .before .before .dominates .ensures) ∙ c .before .before .before .before .before .if1 .left, sym (c .before .before .before .before .dominates2 .ensures) ∙ not-false _ (c .before .before .before .if2 .left), sym (c .before .join .ensures), ne-eqb _ _ (c .if4 .left))
+    let g = c .before .before .before .before .before .before .before .before .args in
+    let masks = g .masks .now in
+    fate-forked (length masks) (dominates masks) (g .manager) (g .sender) (g .receiver)
+    (sym (c .before .before .before .before .before .before .dominates .ensures) ∙ c .before .before .before .before .before .if1 .left)
+    (sym (c .before .before .before .before .dominates2 .ensures) ∙ not-false _ (c .before .before .before .if2 .left))
+    (c .before .join .result)
+    (c .before .join .ensures)
+    (c .if4 .left)
 
 pub fate-of-spec : {M : Type 1} → statement M
 fate-of-spec =
