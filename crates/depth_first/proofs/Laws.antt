@@ -1,7 +1,8 @@
 -- Laws of the depth-first run.
 pub mod Kept
-pub mod Run
 pub mod Step
+pub mod Perform
+pub mod Run
 pub mod Start
 pub mod Whole
 pub mod Answers

@@ -1,31 +1,31 @@
--- What the words of a depth-first run say of it, and what its functions require. No meaning rests on these. Assumes nothing.
+-- What the words of a depth-first run say of it, and what its functions require and promise. No meaning rests on these. Assumes nothing.
 use Prim.Native.Nat.{ℕ, _+_, _*_, _-_, _^_, _≤_, _<_}
 use mathlib.Core.Path.{_≡_}
-use mathlib.Core.Bool.{true, cond}
+use mathlib.Core.Bool.{cond}
 use mathlib.Core.List.{List}
 use lib.Dec.{ltb}
-use lib.ListN.{length, getD}
+use lib.ListN.{length, getD, set}
 use Rattle.session.specs.Limits.{maxLevels, names, fields}
 use Rattle.session.specs.Parts.{levelCount, objectCount, masksOf}
 use Rattle.session.specs.Questions.{verdictOf}
 use Rattle.session.specs.Program.{programOf}
 use Rattle.session.specs.Reading.{indexOf}
+use Rattle.session.specs.declared.Message.{Message}
 use Rattle.session.specs.declared.Verdict.the-variants.{Accepted}
-use Rattle.managers.specs.Limits.{maxScriptSteps, maxWrites, maxForks}
-use Rattle.managers.specs.Manager.{isRunning}
-use Rattle.managers.specs.Valid.{Known, Stack}
-use Rattle.managers.specs.declared.Manager.{Manager}
+use Rattle.scripts.specs.Limits.{maxForks}
+use Rattle.scripts.specs.State.{Manager}
+use Rattle.scripts.specs.declared.Ended.{Ended}
+use Rattle.words.specs.Limits.{fieldWords}
+use Rattle.words.specs.Fields.{fieldAt}
+use Rattle.managers.specs.Core.{effectOf, Present}
+use Rattle.managers.specs.declared.Effect.{Effect}
+use Rattle.managers.specs.declared.Effect.the-variants as effect
 use Rattle.model.specs.Limits.{maxManagers, stampDigits}
 use Rattle.model.specs.Lists.{inserted}
 use Rattle.model.specs.Fork as model
-use Rattle.model.specs.DepthFirst.{Progress, tallyAt, fieldNow, finish, runFork}
-use Rattle.records.specs.Limits.{fieldWords, historyWords}
-use Rattle.records.specs.Fields.{fieldAt}
-use Rattle.records.specs.Histories.{historiesAt, InOrder, historyOf}
-use Rattle.records.specs.declared.Ended.{Ended}
-use Rattle.stacks.specs.Stack.{stackWords, framesOf}
-use Rattle.stacks.specs.Course.{managerOf, settledOf}
-use Rattle.stacks.specs.declared.Course.{Course}
+use Rattle.model.specs.DepthFirst.{Progress, tallyAt, fieldNow, effected, runFork}
+use Rattle.records.specs.Limits.{historyWords}
+use Rattle.records.specs.Histories.{historiesAt, InOrder, historyOf, Added}
 use Rattle.depth_first.specs.declared.forks.Fork.{Fork}
 
 -- an accepted session, its level table and its method index
@@ -71,18 +71,14 @@ pub record Same (f : Fork) (x : model.Fork) : Type 0 where
   pub depth : x .depth ≡ f .depth
   pub message : x .message ≡ f .message
 
--- a manager that runs, with its frames in words, and its fork, with so many levels left above
-pub record Goes (s : List ℕ) (left : ℕ) (f : Fork) (c : Course) (k : List ℕ) : Type 0 where
-  pub running : isRunning (c .ending) ≡ true
-  pub level : c .level ≡ f .level
-  pub fork : Runnable s (left + 1) f
-  pub stack : Stack (Known s) (c .height) (framesOf k)
-  pub live : 0 < c .height
-  pub room : stackWords ≤ length k
-  pub made : c .steps ≤ maxScriptSteps
-  pub wrote : c .writes ≤ maxWrites
-  pub forked : c .forks ≤ maxForks
-  pub fits : c .first + maxForks + 1 < 2 ^ 16
+-- the counts once a manager of level l has ended: so many have, and the next write stamp is this one
+abbrev pub tallied : ℕ → ℕ → ℕ → List ℕ → List ℕ
+tallied l count next t = set (set t l count) (maxLevels + l) next
+
+-- the history of a manager that has ended is kept at its level, and the manager is counted there
+pub record Closed (l : ℕ) (h : Ended) (ended ended' tallies tallies' : List ℕ) : Type 0 where
+  pub added : Added ended ended' l (getD tallies l 0) h
+  pub counted : tallies' ≡ tallied l (getD tallies l 0 + 1) (h .last + 1) tallies
 
 -- a run's words: its fields, its histories, its counts
 pub record Words : Type 0 where
@@ -93,25 +89,26 @@ pub record Words : Type 0 where
 abbrev pub Says : List ℕ → Progress → Words → Type 0
 Says s g w = Kept s g (w .current) (w .ended) (w .tallies)
 
--- from the words w and the manager m the run of the fork ends as from w' and m'
-abbrev pub SameEnd : List ℕ → ℕ → Fork → Words → Words → Manager → Manager → Type 0
-SameEnd s left f w w' m m' =
-    (g : Progress) (x : model.Fork)
+-- a step that makes a fork makes one more than the manager had made before
+abbrev pub Forking : Effect → ℕ → ℕ → Type 0
+Forking e before forks = (u : ℕ) (message : Message) → e ≡ effect.Fork u message → forks ≡ before + 1
+
+-- what a script step of a fork's manager did outside it can be done, with so many levels left above: what it concerns is there, and a fork
+-- that it made is counted
+pub record Performable (s : List ℕ) (left : ℕ) (f : Fork) (forks : ℕ) (e : Effect) : Type 0 where
+  pub fork : Runnable s (left + 1) f
+  pub present : Present s e
+  pub forked : forks ≤ maxForks
+  pub forking : Forking e (forks - 1) forks
+
+-- it is done to the words, as the definition does it for the manager n that made the step
+abbrev pub Performed : List ℕ → ℕ → Fork → ℕ → Effect → Words → Words → Type 0
+Performed s left f forks e w w' =
+    (g : Progress) (x : model.Fork) (n : Manager)
     → Says s g w
     → Same f x
-    → (g' : Progress) × (Says s g' w'
-    × ((finish (runFork left (programOf s)) (maxScriptSteps - m .steps) (programOf s) (f .level) x m g ≡ finish (runFork left (programOf s)) (maxScriptSteps - m' .steps) (programOf s) (f .level) x m' g')
-    × (tallyAt g' (f .level) ≡ tallyAt g (f .level))))
-
--- what a manager that goes on does to its frames and to the words, and what it is then
-pub record Gone (s : List ℕ) (left : ℕ) (f : Fork) (c : Course) (k k' : List ℕ) (w w' : Words) (r : Course) : Type 0 where
-  pub ends : SameEnd s left f w w' (settledOf (programOf s) (managerOf c (framesOf k))) (settledOf (programOf s) (managerOf r (framesOf k')))
-  pub still : isRunning (r .ending) ≡ true → Goes s left f r k'
-  pub first : r .first ≡ c .first
-  pub level : r .level ≡ c .level
-  pub forked : r .forks ≤ maxForks
-  pub more : isRunning (r .ending) ≡ true → c .steps < r .steps
-  pub long : length k' ≡ length k
+    → Forking e (n .forks) forks
+    → Says s (effected (runFork left (programOf s)) (f .level) x n (effectOf e) g) w'
 
 -- what a fork that is made does to the words
 abbrev pub ForkDone : List ℕ → ℕ → Fork → Words → Words → Type 0
@@ -121,7 +118,8 @@ ForkDone s left f w w' =
     → Same f x
     → Says s (cond (ltb (length (tallyAt g (f .level) .ended)) maxManagers) (runFork left (programOf s) (f .level) x g) g) w'
 
--- what the run of a fork that is kept does to the words, and what it hands back: the history that the definition keeps of it
+-- what the run of a fork that is kept does to the words, and what it hands back: the history that the definition keeps of it, so that its
+-- script steps are as many as the definition makes
 abbrev pub RunDone : List ℕ → ℕ → Fork → Words → Words → Ended → Type 0
 RunDone s left f w w' r =
     (g : Progress) (x : model.Fork)

@@ -1,21 +1,21 @@
 // The run of a fork: a script step calls fork, fork runs a manager, a manager makes script steps. With
 // each manager the levels left above fall.
 //
-// What a run keeps is lent: `current` holds the fields and `ended` the histories, as in `records`; of
-// level l number l of `tallies` is how many of its managers have ended, and number 8 + l the write stamp
-// of its next one.
-use managers::Ending;
-use records::Ended;
-use records::fields;
+// What a run keeps is lent: `current` holds the fields and `ended` the histories, as in `words` and
+// `records`; of level l number l of `tallies` is how many of its managers have ended, and number 8 + l the
+// write stamp of its next one.
+use managers::Effect;
+use managers::Manager;
 use records::histories;
+use scripts::Ended;
 use session::Message;
-use stacks::Course;
-use stacks::Event;
-use stacks::frames;
-ghost use Prim.Native.Nat.{_<_};
-ghost use lib.ListN.{getD};
+use words::fields;
+ghost use Prim.Native.Nat.{_*_, _≤_, _<_};
+ghost use lib.ListN.{length, getD};
+ghost use Rattle.session.specs.Limits.{maxLevels};
 ghost use Rattle.model.specs.Limits.{maxManagers};
-ghost use Rattle.depth_first.specs.Kept.{Read, Keeps, Runnable, Goes, Gone, ForkDone, RunDone};
+ghost use Rattle.records.specs.Histories.{HistoryRoom};
+ghost use Rattle.depth_first.specs.Kept.{Read, Keeps, Runnable, Closed, Performable, Performed, ForkDone, RunDone};
 
 // A fork that is about to run, or runs: its level, its fork stamp, how many forks deep it is, and its
 // message.
@@ -26,104 +26,56 @@ pub struct Fork {
     pub message: Message,
 }
 
-// Makes the script steps of a manager up to the next one that concerns others, and does what that one
-// does, with the whole run of the fork that it may make.
-fn go_on(
+// Keeps the history of a manager that has ended, and counts the manager at its level.
+fn close(ended: &mut [u32], tallies: &mut [usize], level: usize, history: Ended)
+    requires { ⌜ HistoryRoom (now ended) level (getD (now tallies) level 0) history ⌝ }
+    requires { ⌜ 2 * maxLevels ≤ length (now tallies) ⌝ }
+    ensures { λ _. ⌜ Closed level history (now (ended .entry)) (now (ended .exit)) (now (tallies .entry)) (now (tallies .exit)) ⌝ }
+{
+    let count = tallies[level];
+    histories::add(ended, level, count, history);
+    tallies[level] = count + 1;
+    tallies[8 + level] = history.last as usize + 1;
+}
+
+// Does what a script step did outside its manager, with the whole run of the fork that it may have made.
+// `fork` is the manager's own, and `forks` is how many it has made, this one included.
+fn perform(
     session: &[u8],
     masks: &[u16],
     index: &[u16],
     current: &mut [u32],
     ended: &mut [u32],
     tallies: &mut [usize],
-    stack: &mut [u32],
     left: usize,
     fork: Fork,
-    m: Course,
-) -> Course
+    forks: u8,
+    effect: Effect,
+)
     requires { ⌜ Read (now session) (now masks) (now index) ⌝ }
     requires { ⌜ Keeps (now session) (now current) (now ended) (now tallies) ⌝ }
-    requires { ⌜ Goes (now session) left fork m (now stack) ⌝ }
-    ensures { λ r. ⌜ Gone (now (session .entry)) left fork m (now (stack .entry)) (now (stack .exit)) (record { current = now (current .entry); ended = now (ended .entry); tallies = now (tallies .entry) }) (record { current = now (current .exit); ended = now (ended .exit); tallies = now (tallies .exit) }) r ⌝ }
+    requires { ⌜ Performable (now session) left fork forks effect ⌝ }
+    ensures { λ _. ⌜ Performed (now (session .entry)) left fork forks effect (record { current = now (current .entry); ended = now (ended .entry); tallies = now (tallies .entry) }) (record { current = now (current .exit); ended = now (ended .exit); tallies = now (tallies .exit) }) ⌝ }
 {
-    // Every READ is answered by the fields: what was read before is never asked.
-    let pause = stacks::advance(
-        session,
-        masks,
-        index,
-        current,
-        current,
-        stack,
-        m.level,
-        m.height,
-        m.steps,
-        true,
-    );
-    let n = Course {
-        height: pause.height,
-        steps: pause.steps,
-        ..m
-    };
-    let event = pause.event;
-    match event {
-        Event::Finished(reply) => Course {
-            height: 0,
-            ending: Ending::Finished,
-            reply,
-            ..n
-        },
-        Event::OutOfSteps => Course {
-            ending: Ending::OutOfSteps,
-            ..n
-        },
-        Event::Write {
+    match effect {
+        Effect::Write {
             object,
             field,
             value,
-        } => {
-            if n.writes >= 16 {
-                return Course {
-                    ending: Ending::OutOfWrites,
-                    ..n
-                };
-            }
-            fields::set(current, object as usize, field as usize, value);
-            let writes = n.writes + 1;
-            Course { writes, ..n }
-        }
-        Event::Read {
-            object,
-            field,
-            into,
-        } => {
-            let seen = fields::get(current, object as usize, field as usize);
-            frames::set_register(stack, n.height as usize - 1, into, seen);
-            n
-        }
-        Event::Fork {
-            level,
-            object,
-            name,
-            parameter,
-        } => {
-            if n.forks >= 15 {
-                return n;
-            }
-            let stamp = queues::child_stamp(fork.stamp, fork.depth, n.forks);
+        } => fields::set(current, object as usize, field as usize, value),
+        Effect::Fork { level, message } => {
+            let stamp = queues::child_stamp(fork.stamp, fork.depth, forks - 1);
             let depth = fork.depth + 1;
             let child = Fork {
                 level,
                 stamp,
                 depth,
-                message: Message {
-                    object,
-                    name,
-                    parameter,
-                },
+                message,
             };
             run_kept(session, masks, index, current, ended, tallies, left, child);
-            let forks = n.forks + 1;
-            Course { forks, ..n }
         }
+        // Anything else is nothing outside its manager.
+        _ => {}
     }
 }
 
@@ -148,7 +100,8 @@ fn run_kept(
     }
 }
 
-// Runs the manager of a fork that its level keeps to its end, and returns what is kept of it.
+// Runs the manager of a fork that its level keeps to its end, and returns what is kept of it. How many
+// script steps it made is there too: as many as the definition of the depth-first run makes.
 pub fn run_manager(
     session: &[u8],
     masks: &[u16],
@@ -167,31 +120,34 @@ pub fn run_manager(
     let level = fork.level as usize;
     let message = fork.message;
     let next = tallies[8 + level] as u16;
-    let mut stack = [0u32; 128];
-    let mut m = Course::start(&mut stack, fork.level, next, message);
+    let mut m = Manager::start(session, index, fork.level, next, message);
+    let core = m.core;
     if left == 0 {
-        return m.ended(fork.stamp);
+        return core.ended(fork.stamp);
     }
-    let mut ending = m.ending;
-    while managers::is_running(ending) {
-        m = go_on(
+    let limit = managers::MAX_SCRIPT_STEPS;
+    let mut ending = core.ending;
+    while scripts::is_running(ending) {
+        // Every READ is answered by the fields: what was read before is never asked.
+        m = m.advance(session, masks, index, current, current, true, limit);
+        let core = m.core;
+        let effect = core.effect;
+        perform(
             session,
             masks,
             index,
             current,
             ended,
             tallies,
-            &mut stack,
             left - 1,
             fork,
-            m,
+            core.forks,
+            effect,
         );
-        ending = m.ending;
+        ending = core.ending;
     }
-    let history = m.ended(fork.stamp);
-    let count = tallies[level];
-    histories::add(ended, level, count, history);
-    tallies[level] = count + 1;
-    tallies[8 + level] = history.last as usize + 1;
+    let core = m.core;
+    let history = core.ended(fork.stamp);
+    close(ended, tallies, level, history);
     history
 }

@@ -3,8 +3,8 @@ mod forks;
 
 use forks::Fork;
 use records::Answer;
-use records::fields;
 use session::contents;
+use words::fields;
 ghost use Prim.Native.Nat.{_≤_};
 ghost use mathlib.Core.Path.{_≡_};
 ghost use mathlib.Core.List.{[]};

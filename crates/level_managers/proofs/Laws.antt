@@ -10,5 +10,6 @@ pub mod Ready
 pub mod Step
 pub mod Reads
 pub mod Recall
+pub mod Script
 pub mod Made
 pub mod Asked

@@ -9,13 +9,14 @@ use Rattle.session.specs.Limits.{maxLevels, fields}
 use Rattle.session.specs.Parts.{levelCount, objectCount}
 use Rattle.session.specs.Meaning.{rootOf}
 use Rattle.session.specs.Program.{programOf}
-use Rattle.managers.specs.declared.Manager.{Manager}
+use Rattle.scripts.specs.State.{Manager}
+use Rattle.words.specs.Limits.{fieldWords}
+use Rattle.words.specs.Fields.{fieldAt}
 use Rattle.model.specs.Limits.{maxManagers, workNumbers}
 use Rattle.model.specs.Level.{Activity, idle, busy, Level, startedCount, newest}
 use Rattle.model.specs.Step.{State, levelAt}
 use Rattle.model.specs.Schedule.{readIn, question14, Leads}
-use Rattle.records.specs.Limits.{fieldWords, historyWords}
-use Rattle.records.specs.Fields.{fieldAt}
+use Rattle.records.specs.Limits.{historyWords}
 use Rattle.records.specs.Histories.{historiesAt, InOrder}
 use Rattle.queues.specs.Queue.{queueWords, forkAt, forksAt, ForksRise}
 use Rattle.versions.specs.Log.{logStart, logOf}

@@ -5,21 +5,27 @@ use mathlib.Core.Bool.{true, false, cond}
 use mathlib.Core.List.{List, _∷_}
 use lib.Dec.{eqb}
 use lib.ListN.{length, getD, set, drop}
-use Rattle.session.specs.Limits.{maxLevels}
-use Rattle.session.specs.Parts.{levelCount}
+use Rattle.session.specs.Limits.{maxLevels, fields}
+use Rattle.session.specs.Parts.{levelCount, objectCount}
 use Rattle.session.specs.Meaning.{levelOf, fieldOf}
 use Rattle.session.specs.Program.{Program, programOf}
 use Rattle.session.specs.declared.Value.{Value}
-use Rattle.session.specs.declared.Value.the-variants.{Nil}
 use Rattle.session.specs.declared.Message.{Message}
-use Rattle.managers.specs.Limits.{maxForks}
-use Rattle.managers.specs.Manager.{isRunning, started, stepped}
-use Rattle.managers.specs.Valid.{Indexed, Leveled, Startable}
-use Rattle.managers.specs.declared.Manager.{Manager}
-use Rattle.managers.specs.declared.Effect.{Effect}
-use Rattle.managers.specs.declared.Effect.the-variants as effect
-use Rattle.managers.specs.declared.Ask.{Ask}
-use Rattle.managers.specs.declared.Ask.the-variants as ask
+use Rattle.scripts.specs.Limits.{maxForks}
+use Rattle.scripts.specs.Ending.{isRunning}
+use Rattle.scripts.specs.Effect.{Effect}
+use Rattle.scripts.specs.Effect as effect
+use Rattle.scripts.specs.State.{Frame, Manager}
+use Rattle.scripts.specs.Manager.{started, stepped}
+use Rattle.scripts.specs.Valid.{Indexed, Leveled, Startable}
+use Rattle.scripts.specs.declared.Ended.{Ended}
+use Rattle.words.specs.Limits.{fieldWords}
+use Rattle.words.specs.Fields.{knownAt, FieldThere, FieldSet, Remembered}
+use Rattle.managers.specs.Core.{bare, managerOf, steppedOf}
+use Rattle.managers.specs.Moves.{Asks}
+use Rattle.managers.specs.Steps.{Held}
+use Rattle.managers.specs.declared.Core.{Core}
+use Rattle.managers.specs.declared.Manager as code
 use Rattle.model.specs.Limits.{stampDigits, workNumbers}
 use Rattle.model.specs.Fork.{Fork, childStamp}
 use Rattle.model.specs.History.{endBefore}
@@ -27,9 +33,7 @@ use Rattle.model.specs.Level.{Activity, idle, busy, newestTo}
 use Rattle.model.specs.Step.{State, levelAt, readAt, stepAt}
 use Rattle.model.specs.Schedule.{stepRefusal}
 use Rattle.records.specs.Limits.{historyWords}
-use Rattle.records.specs.Fields.{FieldThere, FieldSet}
 use Rattle.records.specs.Histories.{historiesAt, InOrder, HistoryIs, HistoriesThere, Added}
-use Rattle.records.specs.declared.Ended.{Ended}
 use Rattle.queues.specs.Queue.{forkOfRow, forkAt, There, Room, Arrived}
 use Rattle.versions.specs.Log.{logStart, logOf, Within}
 use Rattle.versions.specs.Changes.{Appended}
@@ -78,10 +82,17 @@ abbrev pub ReadIs : List ℕ → Words → ℕ → ℕ → ℕ → Value → Typ
 ReadIs s w l object k r =
     (ms : ℕ → Manager) (st : State) (x : Fork) (m : Manager) → Busy s w l ms st x m → readAt (programOf s) st l x object k ≡ r
 
--- a value is what the step sees where it asks; where it does not, NIL is handed to it
-abbrev pub SeenIs : List ℕ → Words → ℕ → Ask → Value → Type 0
-SeenIs s w l ask.Nothing r = r ≡ Nil
-SeenIs s w l (ask.Field object k) r = ReadIs s w l object k r
+-- there is room for what was read of a field of a present object
+pub record TellReady (s seen : List ℕ) (object k : ℕ) : Type 0 where
+  pub present : object < objectCount s
+  pub field : k < fields
+  pub there : fieldWords ≤ length seen
+
+-- what the manager that runs at level l reads of a field is kept
+pub record Answered (s : List ℕ) (w : Words) (seen seen' : List ℕ) (l object k : ℕ) : Type 0 where
+  pub value : Value
+  pub is : ReadIs s w l object k value
+  pub kept : Remembered seen seen' object k value
 
 -- there is room for a write of field k of an object at level l
 pub record WriteReady (current tallies work : List ℕ) (l object k : ℕ) : Type 0 where
@@ -136,6 +147,23 @@ EffectDone a b l stamp forks (effect.Write object k v) =
 EffectDone a b l stamp forks (effect.Fork u message) =
     Forked (a .tallies) (b .tallies) (a .queue) (b .queue) l stamp forks u message × ((b .current ≡ a .current) × (b .work ≡ a .work))
 
+-- the forks that a manager has made with a step of this effect, where it had made so many before it
+abbrev pub forksAfter : Effect → ℕ → ℕ
+forksAfter effect.Nothing made = made
+forksAfter (effect.Write object k v) made = made
+forksAfter (effect.Fork u message) made = made + 1
+
+-- the step of a manager that started with write stamp `first`, and has made `forks` with that step, can be done outside it
+pub record PerformReady (current tallies queue work : List ℕ) (l first forks : ℕ) (e : Effect) : Type 0 where
+  pub made : ℕ
+  pub forks-are : forks ≡ forksAfter e made
+  pub ready : EffectReady current tallies queue work l made e
+  pub fits : first + forks < 2 ^ 16
+
+-- it is done: with the write stamp that the manager had before it
+abbrev pub Performed : Parts → Parts → ℕ → ℕ → ℕ → Effect → Type 0
+Performed a b l first forks e = (made : ℕ) → forks ≡ forksAfter e made → EffectDone a b l (first + made) made e
+
 -- there is room for one more history of level l
 pub record SettleReady (ended tallies queue : List ℕ) (l : ℕ) : Type 0 where
   pub histories : historyWords ≤ length ended
@@ -156,6 +184,11 @@ Settled ended ended' tallies tallies' queue l m =
     (isRunning (m .ending) ≡ true → (ended' ≡ ended) × (tallies' ≡ tallies))
     × (isRunning (m .ending) ≡ false → Closed ended ended' tallies tallies' queue l m)
 
+-- so of a manager of the code's, whatever its frames
+abbrev pub CoreSettled : List ℕ → List ℕ → List ℕ → List ℕ → List ℕ → ℕ → Core → Type 0
+CoreSettled ended ended' tallies tallies' queue l c =
+    (fs : List Frame) → Settled ended ended' tallies tallies' queue l (bare c fs)
+
 -- a fork waits at level l, and can start there
 pub record StartReady (s index ended tallies queue : List ℕ) (l : ℕ) : Type 0 where
   pub indexed : Indexed s index
@@ -172,13 +205,42 @@ pub record Started (s ended ended' tallies tallies' queue : List ℕ) (l : ℕ) 
   pub manager : m ≡ started (programOf s) l (getD tallies (nextPlace l) 0) (runningFork 0 tallies queue l .message)
   pub settled : Settled ended ended' (begunTallies tallies l) tallies' queue l m
 
+-- nothing is kept of what managers have read
+abbrev pub Blank : List ℕ → Type 0
+Blank seen = (o k : ℕ) → k < fields → knownAt seen o k ≡ false
+
+-- a manager of the code's, if it runs, is as start and its steps leave it; and nothing is kept of what managers have read
+pub record Fresh (s seen : List ℕ) (m : code.Manager) : Type 0 where
+  pub held : isRunning (m .core .ending) ≡ true → Held s m
+  pub blank : Blank seen
+  pub there : fieldWords ≤ length seen
+
+-- it runs at level l
+pub record RunsAt (s : List ℕ) (w : Words) (l : ℕ) (m : code.Manager) : Type 0 where
+  pub running : ℕ → Manager
+  pub state : State
+  pub fork : Fork
+  pub busy : Busy s w l running state fork (managerOf m)
+
+-- its next script step is a READ of a field of a present object, that is not at hand
+pub record AsksFor (s seen : List ℕ) (m : code.Manager) (object k : ℕ) : Type 0 where
+  pub present : object < objectCount s
+  pub field : k < fields
+  pub asks : Asks s seen false (m .core) object k
+
+-- it has become r by a script step that reads what the definition reads, whatever state the words say
+pub record ScriptStep (s : List ℕ) (w : Words) (l : ℕ) (seen' : List ℕ) (m r : code.Manager) : Type 0 where
+  pub is : (ms : ℕ → Manager) (st : State) (x : Fork) → Busy s w l ms st x (managerOf m) → stepped (programOf s) (readAt (programOf s) st l x) (managerOf m) ≡ steppedOf r
+  pub held : Held s r
+  pub blank : Blank seen'
+
 -- the words say a state that a run reaches, in which level l may step; m is the manager that runs there, if one does
-pub record Stepping (s : List ℕ) (w : Words) (l : ℕ) (m : Manager) (ms : ℕ → Manager) (st : State) : Type 0 where
+pub record Stepping (s : List ℕ) (w : Words) (l : ℕ) (m : code.Manager) (ms : ℕ → Manager) (st : State) : Type 0 where
   pub says : Says s w ms st
   pub allowed : stepRefusal (programOf s) st l ≡ 0
-  pub held : ms l ≡ m
+  pub held : ms l ≡ managerOf m
 
-abbrev pub MayStep : List ℕ → Words → ℕ → Manager → Type 0
+abbrev pub MayStep : List ℕ → Words → ℕ → code.Manager → Type 0
 MayStep s w l m = (ms : ℕ → Manager) × ((st : State) × Stepping s w l m ms st)
 
 -- r is the manager that steps at level l, after its step: the one that starts there, or the one that runs there
@@ -188,8 +250,10 @@ SteppedAs p st l idle r =
 SteppedAs p st l (busy x m) r = r ≡ stepped p (readAt p st l x) m .manager
 
 -- the words then say the state after a scheduler step at level l, with r for the manager that runs there; r is the manager after the step,
--- also where it has ended; the work slice is as it was beyond the versions
-pub record StepDone (s : List ℕ) (l : ℕ) (m : Manager) (w w' : Words) (r : Manager) : Type 0 where
-  pub says : (ms : ℕ → Manager) (st : State) → Stepping s w l m ms st → Says s w' (placed l r ms) (stepAt (programOf s) l st)
-  pub manager : (ms : ℕ → Manager) (st : State) → Stepping s w l m ms st → SteppedAs (programOf s) st l (levelAt st l .activity) r
+-- also where it has ended; nothing is kept of what it has read, and the work slice is as it was beyond the versions
+pub record StepDone (s : List ℕ) (l : ℕ) (m : code.Manager) (w w' : Words) (seen' : List ℕ) (r : code.Manager) : Type 0 where
+  pub says : (ms : ℕ → Manager) (st : State) → Stepping s w l m ms st → Says s w' (placed l (managerOf r) ms) (stepAt (programOf s) l st)
+  pub manager : (ms : ℕ → Manager) (st : State) → Stepping s w l m ms st → SteppedAs (programOf s) st l (levelAt st l .activity) (managerOf r)
+  pub held : Held s r
+  pub blank : Blank seen'
   pub rest : drop workNumbers (w' .work) ≡ drop workNumbers (w .work)

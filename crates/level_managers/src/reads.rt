@@ -1,16 +1,14 @@
 // What a manager reads.
-use managers::Ask;
-use records::fields;
 use records::histories;
 use session::Value;
 use session::contents;
+use words::fields;
 ghost use Prim.Native.Nat.{ℕ, _<_};
 ghost use mathlib.Core.Path.{_≡_};
 ghost use Rattle.session.specs.Limits.{fields};
 ghost use Rattle.session.specs.Parts.{objectCount};
-ghost use Rattle.managers.specs.Asked.{AskedPresent};
-ghost use Rattle.managers.specs.Valid.{Leveled};
-ghost use Rattle.level_managers.specs.Steps.{IsBusy, BoundReady, boundIn, ReadIs, SeenIs};
+ghost use Rattle.scripts.specs.Valid.{Leveled};
+ghost use Rattle.level_managers.specs.Steps.{IsBusy, BoundReady, boundIn, ReadIs};
 
 // The write stamp up to which the manager that runs at a level reads at level `j`, below: the one that it
 // carries from an ancestor there, or the end stamp of the largest smaller fork stamp there, or 0.
@@ -53,40 +51,4 @@ pub fn field_of(
     let initial = contents::field_of(session, masks, object as usize, field as usize);
     let bound = bound_of(ended, tallies, queue, level, j);
     versions::newest_to(work, j, tallies[24 + j], bound, object, field, initial)
-}
-
-// What its script step sees of the field that it asks; NIL where it asks nothing.
-pub fn seen_by(
-    session: &[u8],
-    masks: &[u16],
-    current: &[u32],
-    ended: &[u32],
-    tallies: &[usize],
-    queue: &[u32],
-    work: &[u32],
-    level: usize,
-    ask: Ask,
-) -> Value
-    requires { ⌜ Leveled (now session) (now masks) ⌝ }
-    requires { ⌜ IsBusy (now session) (record { current = now current; ended = now ended; tallies = now tallies; queue = now queue; work = now work }) level ⌝ }
-    requires { ⌜ AskedPresent (now session) ask ⌝ }
-    ensures { λ r. ⌜ SeenIs (now (session .entry)) (record { current = now (current .entry); ended = now (ended .entry); tallies = now (tallies .entry); queue = now (queue .entry); work = now (work .entry) }) level ask r ⌝ }
-{
-    match ask {
-        Ask::Nothing => Value::Nil,
-        Ask::Field { object, field } => {
-            field_of(
-                session,
-                masks,
-                current,
-                ended,
-                tallies,
-                queue,
-                work,
-                level,
-                object,
-                field,
-            )
-        }
-    }
 }

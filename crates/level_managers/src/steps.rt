@@ -1,15 +1,55 @@
-// A scheduler step at a level. The manager that runs at the level is handed in and back by value.
+// A scheduler step at a level, and what it is made of. The manager that runs at the level is handed in and
+// back by value. `seen` keeps what it has read at other levels; a step leaves nothing there.
 use crate::reads;
+use managers::Core;
 use managers::Effect;
 use managers::Manager;
-use records::fields;
 use records::histories;
 use session::Message;
 use session::Value;
+use words::fields;
+ghost use Prim.Native.Nat.{_+_, _^_, _<_};
 ghost use mathlib.Core.Path.{_≡_};
 ghost use lib.ListN.{getD};
+ghost use Rattle.scripts.specs.Valid.{Leveled};
+ghost use Rattle.managers.specs.Core.{managerOf, effectOf};
+ghost use Rattle.managers.specs.Steps.{Held};
 ghost use Rattle.level_managers.specs.Kept.{busyPlace};
-ghost use Rattle.level_managers.specs.Steps.{Read, WriteReady, Wrote, ForkReady, Forked, EffectReady, EffectDone, SettleReady, Settled, StartReady, Started, MayStep, StepDone};
+ghost use Rattle.level_managers.specs.Steps.{Read, IsBusy, TellReady, Answered, WriteReady, Wrote, ForkReady, Forked, PerformReady, Performed, SettleReady, CoreSettled, StartReady, Started, Fresh, RunsAt, AsksFor, ScriptStep, MayStep, StepDone};
+
+// The READ that the manager that runs at a level asks for is answered: what it reads is kept in `seen`.
+pub fn tell(
+    session: &[u8],
+    masks: &[u16],
+    current: &[u32],
+    ended: &[u32],
+    tallies: &[usize],
+    queue: &[u32],
+    work: &[u32],
+    seen: &mut [u32],
+    level: usize,
+    object: u8,
+    field: u8,
+)
+    requires { ⌜ Leveled (now session) (now masks) ⌝ }
+    requires { ⌜ IsBusy (now session) (record { current = now current; ended = now ended; tallies = now tallies; queue = now queue; work = now work }) level ⌝ }
+    requires { ⌜ TellReady (now session) (now seen) object field ⌝ }
+    ensures { λ _. ⌜ Answered (now (session .entry)) (record { current = now (current .entry); ended = now (ended .entry); tallies = now (tallies .entry); queue = now (queue .entry); work = now (work .entry) }) (now (seen .entry)) (now (seen .exit)) level object field ⌝ }
+{
+    let value = reads::field_of(
+        session,
+        masks,
+        current,
+        ended,
+        tallies,
+        queue,
+        work,
+        level,
+        object,
+        field,
+    );
+    fields::remember(seen, object as usize, field as usize, value);
+}
 
 // A write takes effect.
 pub fn write(
@@ -58,54 +98,65 @@ pub fn fork(
     tallies[16 + above] = queues::arrive(queue, above, started, waiting, &row);
 }
 
-// What a script step of the manager that runs at a level does outside it.
-fn effect_of(
+// What a script step of the manager that runs at a level did outside it. The manager started with write
+// stamp `first`, and has made so many forks with that step: a fork carries the stamp that it had before.
+pub fn perform(
     current: &mut [u32],
     tallies: &mut [usize],
     queue: &mut [u32],
     work: &mut [u32],
     level: usize,
-    stamp: u16,
+    first: u16,
     forks: u8,
     effect: Effect,
 )
-    requires { ⌜ EffectReady (now current) (now tallies) (now queue) (now work) level forks effect ⌝ }
-    ensures { λ _. ⌜ EffectDone (record { current = now (current .entry); tallies = now (tallies .entry); queue = now (queue .entry); work = now (work .entry) }) (record { current = now (current .exit); tallies = now (tallies .exit); queue = now (queue .exit); work = now (work .exit) }) level stamp forks effect ⌝ }
+    requires { ⌜ PerformReady (now current) (now tallies) (now queue) (now work) level first forks (effectOf effect) ⌝ }
+    ensures { λ _. ⌜ Performed (record { current = now (current .entry); tallies = now (tallies .entry); queue = now (queue .entry); work = now (work .entry) }) (record { current = now (current .exit); tallies = now (tallies .exit); queue = now (queue .exit); work = now (work .exit) }) level first forks (effectOf effect) ⌝ }
 {
     match effect {
-        Effect::Nothing => {}
         Effect::Write {
             object,
             field,
             value,
-        } => write(current, tallies, work, level, stamp, object, field, value),
+        } => {
+            let stamp = first + forks as u16;
+            write(current, tallies, work, level, stamp, object, field, value);
+        }
         Effect::Fork {
             level: above,
             message,
-        } => fork(tallies, queue, level, stamp, forks, above as usize, message),
+        } => {
+            let made = forks - 1;
+            let stamp = first + made as u16;
+            fork(tallies, queue, level, stamp, made, above as usize, message);
+        }
+        _ => {}
     }
 }
 
-// The manager that runs at a level has made a step. If it has ended its history is kept, and none runs
+// The manager that runs at a level has made its steps. If it has ended its history is kept, and none runs
 // there any more.
-fn settle(ended: &mut [u32], tallies: &mut [usize], queue: &[u32], level: usize, m: Manager)
+pub fn settle(ended: &mut [u32], tallies: &mut [usize], queue: &[u32], level: usize, core: Core)
     requires { ⌜ SettleReady (now ended) (now tallies) (now queue) level ⌝ }
-    ensures { λ _. ⌜ Settled (now (ended .entry)) (now (ended .exit)) (now (tallies .entry)) (now (tallies .exit)) (now (queue .entry)) level m ⌝ }
+    requires { ⌜ core .first + core .forks < 2 ^ 16 ⌝ }
+    ensures { λ _. ⌜ CoreSettled (now (ended .entry)) (now (ended .exit)) (now (tallies .entry)) (now (tallies .exit)) (now (queue .entry)) level core ⌝ }
 {
-    let ending = m.ending;
-    if managers::is_running(ending) {
+    let ending = core.ending;
+    if scripts::is_running(ending) {
         return;
     }
     let count = tallies[level];
     let stamp = queues::stamp_at(queue, level, count);
-    histories::add(ended, level, count, histories::ended_of(m, stamp));
+    let history = core.ended(stamp);
+    histories::add(ended, level, count, history);
     tallies[level] = count + 1;
-    tallies[8 + level] = m.stamp as usize + 1;
+    tallies[8 + level] = history.last as usize + 1;
     tallies[32 + level] = 0;
 }
 
-// Starts the fork of smallest stamp that waits at a level.
-fn start(
+// Starts the fork of smallest stamp that waits at a level. One whose method is empty has ended at once, and
+// none runs there then.
+pub fn start(
     session: &[u8],
     index: &[u16],
     ended: &mut [u32],
@@ -114,18 +165,102 @@ fn start(
     level: usize,
 ) -> Manager
     requires { ⌜ StartReady (now session) (now index) (now ended) (now tallies) (now queue) level ⌝ }
-    ensures { λ r. ⌜ Started (now (session .entry)) (now (ended .entry)) (now (ended .exit)) (now (tallies .entry)) (now (tallies .exit)) (now (queue .entry)) level r ⌝ }
+    ensures { λ r. ⌜ Started (now (session .entry)) (now (ended .entry)) (now (ended .exit)) (now (tallies .entry)) (now (tallies .exit)) (now (queue .entry)) level (managerOf r) × Held (now (session .entry)) r ⌝ }
 {
     let message = queues::message_at(queue, level, tallies[level]);
     let next = tallies[8 + level] as u16;
     let m = Manager::start(session, index, level as u8, next, message);
     tallies[16 + level] = tallies[16 + level] - 1;
     tallies[32 + level] = 1;
-    settle(ended, tallies, queue, level, m);
+    let core = m.core;
+    settle(ended, tallies, queue, level, core);
     m
 }
 
-// Makes one script step of the manager that runs at a level.
+// The script step of the manager that runs at a level, which asks for a field: that is read, and is not kept
+// longer than the step takes.
+fn answered(
+    session: &[u8],
+    masks: &[u16],
+    index: &[u16],
+    current: &[u32],
+    ended: &[u32],
+    tallies: &[usize],
+    queue: &[u32],
+    work: &[u32],
+    seen: &mut [u32],
+    level: usize,
+    m: Manager,
+    object: u8,
+    field: u8,
+) -> Manager
+    requires { ⌜ Read (now session) (now masks) (now index) ⌝ }
+    requires { ⌜ RunsAt (now session) (record { current = now current; ended = now ended; tallies = now tallies; queue = now queue; work = now work }) level m ⌝ }
+    requires { ⌜ Fresh (now session) (now seen) m ⌝ }
+    requires { ⌜ AsksFor (now session) (now seen) m object field ⌝ }
+    ensures { λ r. ⌜ ScriptStep (now (session .entry)) (record { current = now (current .entry); ended = now (ended .entry); tallies = now (tallies .entry); queue = now (queue .entry); work = now (work .entry) }) level (now (seen .exit)) m r ⌝ }
+{
+    tell(
+        session,
+        masks,
+        current,
+        ended,
+        tallies,
+        queue,
+        work,
+        seen,
+        level,
+        object,
+        field,
+    );
+    let n = m.step(session, masks, index, current, seen);
+    fields::forget(seen, object as usize, field as usize);
+    n
+}
+
+// The script step of the manager that runs at a level.
+fn stepped(
+    session: &[u8],
+    masks: &[u16],
+    index: &[u16],
+    current: &[u32],
+    ended: &[u32],
+    tallies: &[usize],
+    queue: &[u32],
+    work: &[u32],
+    seen: &mut [u32],
+    level: usize,
+    m: Manager,
+) -> Manager
+    requires { ⌜ Read (now session) (now masks) (now index) ⌝ }
+    requires { ⌜ RunsAt (now session) (record { current = now current; ended = now ended; tallies = now tallies; queue = now queue; work = now work }) level m ⌝ }
+    requires { ⌜ Fresh (now session) (now seen) m ⌝ }
+    ensures { λ r. ⌜ ScriptStep (now (session .entry)) (record { current = now (current .entry); ended = now (ended .entry); tallies = now (tallies .entry); queue = now (queue .entry); work = now (work .entry) }) level (now (seen .exit)) m r ⌝ }
+{
+    let n = m.step(session, masks, index, current, seen);
+    let core = n.core;
+    let effect = core.effect;
+    if let Effect::Read { object, field } = effect {
+        return answered(
+            session,
+            masks,
+            index,
+            current,
+            ended,
+            tallies,
+            queue,
+            work,
+            seen,
+            level,
+            m,
+            object,
+            field,
+        );
+    }
+    n
+}
+
+// Makes one script step of the manager that runs at a level, and what that does outside it.
 fn advance(
     session: &[u8],
     masks: &[u16],
@@ -135,42 +270,43 @@ fn advance(
     tallies: &mut [usize],
     queue: &mut [u32],
     work: &mut [u32],
+    seen: &mut [u32],
     level: usize,
     m: Manager,
 ) -> Manager
     requires { ⌜ Read (now session) (now masks) (now index) ⌝ }
     requires { ⌜ MayStep (now session) (record { current = now current; ended = now ended; tallies = now tallies; queue = now queue; work = now work }) level m ⌝ }
+    requires { ⌜ Fresh (now session) (now seen) m ⌝ }
     requires { ⌜ (getD (now tallies) (busyPlace level) 0 ≡ 0 → ⊥) ⌝ }
-    ensures { λ r. ⌜ StepDone (now (session .entry)) level m (record { current = now (current .entry); ended = now (ended .entry); tallies = now (tallies .entry); queue = now (queue .entry); work = now (work .entry) }) (record { current = now (current .exit); ended = now (ended .exit); tallies = now (tallies .exit); queue = now (queue .exit); work = now (work .exit) }) r ⌝ }
+    ensures { λ r. ⌜ StepDone (now (session .entry)) level m (record { current = now (current .entry); ended = now (ended .entry); tallies = now (tallies .entry); queue = now (queue .entry); work = now (work .entry) }) (record { current = now (current .exit); ended = now (ended .exit); tallies = now (tallies .exit); queue = now (queue .exit); work = now (work .exit) }) (now (seen .exit)) r ⌝ }
 {
-    let at = m.height as usize - 1;
-    let f = m.frames[at];
-    let ask = f.asks(session, index);
-    let seen = reads::seen_by(
+    let n = stepped(
         session,
         masks,
+        index,
         current,
         ended,
         tallies,
         queue,
         work,
+        seen,
         level,
-        ask,
+        m,
     );
-    let s = m.step(session, masks, index, seen);
-    let effect = s.effect;
-    effect_of(
+    let core = n.core;
+    let effect = core.effect;
+    perform(
         current,
         tallies,
         queue,
         work,
         level,
-        m.stamp,
-        m.forks,
+        core.first,
+        core.forks,
         effect,
     );
-    settle(ended, tallies, queue, level, s.manager);
-    s.manager
+    settle(ended, tallies, queue, level, core);
+    n
 }
 
 // A scheduler step at a level that may make one: it starts a manager, or makes a script step of the one
@@ -184,12 +320,14 @@ pub fn step(
     tallies: &mut [usize],
     queue: &mut [u32],
     work: &mut [u32],
+    seen: &mut [u32],
     level: usize,
     m: Manager,
 ) -> Manager
     requires { ⌜ Read (now session) (now masks) (now index) ⌝ }
     requires { ⌜ MayStep (now session) (record { current = now current; ended = now ended; tallies = now tallies; queue = now queue; work = now work }) level m ⌝ }
-    ensures { λ r. ⌜ StepDone (now (session .entry)) level m (record { current = now (current .entry); ended = now (ended .entry); tallies = now (tallies .entry); queue = now (queue .entry); work = now (work .entry) }) (record { current = now (current .exit); ended = now (ended .exit); tallies = now (tallies .exit); queue = now (queue .exit); work = now (work .exit) }) r ⌝ }
+    requires { ⌜ Fresh (now session) (now seen) m ⌝ }
+    ensures { λ r. ⌜ StepDone (now (session .entry)) level m (record { current = now (current .entry); ended = now (ended .entry); tallies = now (tallies .entry); queue = now (queue .entry); work = now (work .entry) }) (record { current = now (current .exit); ended = now (ended .exit); tallies = now (tallies .exit); queue = now (queue .exit); work = now (work .exit) }) (now (seen .exit)) r ⌝ }
 {
     if tallies[32 + level] == 0 {
         return start(session, index, ended, tallies, queue, level);
@@ -203,6 +341,7 @@ pub fn step(
         tallies,
         queue,
         work,
+        seen,
         level,
         m,
     )

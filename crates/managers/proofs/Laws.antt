@@ -1,12 +1,9 @@
--- Laws of a manager: what a script step may change. The runs cite these, not the text of the step.
-pub mod Counts
-pub mod Effects
-pub mod Endings
-pub mod Outcome
-pub mod Send
-pub mod Settle
-pub mod Stack
-pub mod Within
-pub mod Accepted
-pub mod Valid
-pub mod Step
+-- Laws of the code's manager.
+pub mod Leads
+pub mod Frames
+pub mod Turns
+pub mod Advance
+pub mod Closing
+pub mod Done
+pub mod Makes
+pub mod Operations

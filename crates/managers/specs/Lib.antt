@@ -1,8 +1,5 @@
--- What the contracts of this crate cite, and what a reader of it must believe.
-pub mod Limits
-pub mod Value
-pub mod Frame
-pub mod Manager
-pub mod Asked
-pub mod Outcome
-pub mod Valid
+-- What the contracts of the code's manager cite.
+pub mod Frames
+pub mod Core
+pub mod Moves
+pub mod Steps

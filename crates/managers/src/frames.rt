@@ -1,28 +1,87 @@
-// Frames: their registers, and where they are in their scripts.
-use crate::Ask;
-use crate::Frame;
+// Frames: the one on top of a manager, and those that wait below it.
 use session::Step;
 use session::Value;
+use session::contents;
+ghost use Prim.Native.Nat.{_+_, _<_};
 ghost use mathlib.Core.Path.{_≡_};
-ghost use mathlib.Core.Bool.{not, cond, _&&_};
-ghost use lib.Dec.{ltb};
+ghost use mathlib.Core.Bool.{cond};
+ghost use mathlib.Core.List.{[], _∷_};
+ghost use lib.Dec.{leb};
+ghost use lib.ListN.{getD};
 ghost use Rattle.session.specs.Program.{programOf};
+ghost use Rattle.session.specs.Questions.{verdictOf};
 ghost use Rattle.session.specs.declared.Value.the-variants.{Nil};
-ghost use Rattle.managers.specs.Limits.{maxScriptSteps};
-ghost use Rattle.managers.specs.Frame.{frameFor, register, withRegister};
-ghost use Rattle.managers.specs.Manager.{nextStep, isEnd};
-ghost use Rattle.managers.specs.Asked.{askedOf};
-ghost use Rattle.managers.specs.Valid.{Indexed, Known};
+ghost use Rattle.session.specs.declared.Verdict.the-variants.{Accepted};
+ghost use Rattle.scripts.specs.Frame.{frameFor, register, withRegister, atStep};
+ghost use Rattle.scripts.specs.Manager.{nextStep};
+ghost use Rattle.scripts.specs.Valid.{Indexed};
+ghost use Rattle.managers.specs.Frames.{frameOf, asideOf, noWaiting, Becomes, Placed, Method, Waits};
+
+// The frame on top: a method that is running.
+pub struct Frame {
+    pub object: usize,
+    pub name: usize,
+    // The step that is made next, counted from 0.
+    pub next: usize,
+    // Where its method stands in the session: the record of the first step, and how many steps there are.
+    pub start: usize,
+    pub count: usize,
+    // The register of the sender's frame, below, that gets the reply.
+    pub into: u8,
+    // Whether it gets the reply itself, and not NIL in its place.
+    pub returns: bool,
+    pub r0: Value,
+    pub r1: Value,
+    pub r2: Value,
+    pub r3: Value,
+}
+
+// A frame that waits for the reply of the one above it.
+pub struct Waiting {
+    pub object: u8,
+    pub name: u8,
+    pub next: u8,
+    pub into: u8,
+    pub returns: bool,
+    pub r0: Value,
+    pub r1: Value,
+    pub r2: Value,
+    pub r3: Value,
+}
+
+// The register of a number.
+fn pick(k: u8, r0: Value, r1: Value, r2: Value, r3: Value) -> Value
+    ensures { λ r. ⌜ r ≡ getD (r0 ∷ r1 ∷ r2 ∷ []) k r3 ⌝ }
+{
+    match k {
+        0 => r0,
+        1 => r1,
+        2 => r2,
+        _ => r3,
+    }
+}
 
 impl Frame {
     // A frame for a message, whose reply goes to the sender's register `into`, or is thrown away.
-    pub fn new(object: u8, name: u8, into: u8, returns: bool, parameter: Value) -> Frame
-        ensures { λ r. ⌜ r ≡ frameFor object name into returns parameter ⌝ }
+    pub fn new(
+        session: &[u8],
+        index: &[u16],
+        object: u8,
+        name: u8,
+        into: u8,
+        returns: bool,
+        parameter: Value,
+    ) -> Frame
+        requires { ⌜ Indexed (now session) (now index) × Method object name (now session) ⌝ }
+        ensures { λ r. ⌜ (frameOf r ≡ frameFor object name into returns parameter) × Placed (now (session .entry)) r ⌝ }
     {
+        let method = contents::method_of(session, index, object as usize, name as usize);
         Frame {
-            object,
-            name,
+            object: object as usize,
+            name: name as usize,
             next: 0,
+            start: method.start,
+            count: method.count,
             into,
             returns,
             r0: parameter,
@@ -32,21 +91,36 @@ impl Frame {
         }
     }
 
+    // The step that it makes next, or its script's end.
+    pub fn next_step(self, session: &[u8]) -> Step
+        requires { ⌜ verdictOf (now session) ≡ Accepted ⌝ }
+        requires { ⌜ Placed (now session) self ⌝ }
+        ensures { λ r. ⌜ r ≡ nextStep (programOf (now (session .entry))) (frameOf self) ⌝ }
+    {
+        contents::step_in_method(session, self.start, self.count, self.next)
+    }
+
+    // Whether it is at its script's end.
+    pub fn is_at_end(self) -> bool
+        ensures { λ r. ⌜ r ≡ leb (self .count) (self .next) ⌝ }
+    {
+        self.next >= self.count
+    }
+
     // What register `k` holds.
     pub fn register(self, k: u8) -> Value
-        ensures { λ r. ⌜ r ≡ register self k ⌝ }
+        ensures { λ r. ⌜ r ≡ register (frameOf self) k ⌝ }
     {
-        match k {
-            0 => self.r0,
-            1 => self.r1,
-            2 => self.r2,
-            _ => self.r3,
-        }
+        let r0 = self.r0;
+        let r1 = self.r1;
+        let r2 = self.r2;
+        let r3 = self.r3;
+        pick(k, r0, r1, r2, r3)
     }
 
     // The frame with register `k` set.
     pub fn with_register(self, k: u8, v: Value) -> Frame
-        ensures { λ r. ⌜ r ≡ withRegister self k v ⌝ }
+        ensures { λ r. ⌜ Becomes self r (withRegister (frameOf self) k v) ⌝ }
     {
         match k {
             0 => Frame { r0: v, ..self },
@@ -56,9 +130,18 @@ impl Frame {
         }
     }
 
+    // The frame past its next step.
+    pub fn past(self) -> Frame
+        requires { ⌜ self .next < self .count ⌝ }
+        ensures { λ r. ⌜ Becomes self r (atStep (frameOf self) (self .next + 1)) ⌝ }
+    {
+        let next = self.next + 1;
+        Frame { next, ..self }
+    }
+
     // The frame with a reply, or NIL in its place, in register `into`.
     pub fn answered(self, into: u8, returns: bool, reply: Value) -> Frame
-        ensures { λ r. ⌜ r ≡ withRegister self into (cond returns reply Nil) ⌝ }
+        ensures { λ r. ⌜ Becomes self r (withRegister (frameOf self) into (cond returns reply Nil)) ⌝ }
     {
         if returns {
             self.with_register(into, reply)
@@ -66,58 +149,69 @@ impl Frame {
             self.with_register(into, Value::Nil)
         }
     }
+}
 
-    // The step that the frame makes next, or its script's end.
-    pub fn next_step(self, session: &[u8], index: &[u16]) -> Step
-        requires { ⌜ Indexed (now session) (now index) ⌝ }
-        requires { ⌜ Known (now session) self ⌝ }
-        ensures { λ r. ⌜ r ≡ nextStep (programOf (now (session .entry))) self ⌝ }
-    {
-        let object = self.object as usize;
-        let name = self.name as usize;
-        session::contents::step_of(session, index, object, name, self.next as usize)
+// What stands where no frame waits.
+pub fn no_frame() -> Waiting
+    ensures { λ r. ⌜ r ≡ noWaiting ⌝ }
+{
+    Waiting {
+        object: 0,
+        name: 0,
+        next: 0,
+        into: 0,
+        returns: false,
+        r0: Value::Nil,
+        r1: Value::Nil,
+        r2: Value::Nil,
+        r3: Value::Nil,
     }
+}
 
-    // What its next step asks from outside.
-    pub fn asks(self, session: &[u8], index: &[u16]) -> Ask
-        requires { ⌜ Indexed (now session) (now index) ⌝ }
-        requires { ⌜ Known (now session) self ⌝ }
-        ensures { λ r. ⌜ r ≡ askedOf (programOf (now (session .entry))) self ⌝ }
-    {
-        let step = self.next_step(session, index);
-        match step {
-            Step::Read { a: _, b } => Ask::Field {
-                object: self.object,
-                field: b,
-            },
-            _ => Ask::Nothing,
-        }
+// The frame on top, as one that waits. `session` is for its contract.
+pub fn set_aside(session: &[u8], f: Frame) -> Waiting
+    requires { ⌜ verdictOf (now session) ≡ Accepted ⌝ }
+    requires { ⌜ Placed (now session) f ⌝ }
+    ensures { λ r. ⌜ (asideOf r ≡ frameOf f) × Waits (now (session .entry)) (asideOf r) ⌝ }
+{
+    let r0 = f.r0;
+    let r1 = f.r1;
+    let r2 = f.r2;
+    let r3 = f.r3;
+    Waiting {
+        object: f.object as u8,
+        name: f.name as u8,
+        next: f.next as u8,
+        into: f.into,
+        returns: f.returns,
+        r0,
+        r1,
+        r2,
+        r3,
     }
+}
 
-    // Whether it is at its script's end.
-    pub fn is_at_end(self, session: &[u8], index: &[u16]) -> bool
-        requires { ⌜ Indexed (now session) (now index) ⌝ }
-        requires { ⌜ Known (now session) self ⌝ }
-        ensures { λ r. ⌜ r ≡ isEnd (nextStep (programOf (now (session .entry))) self) ⌝ }
-    {
-        let step = self.next_step(session, index);
-        match step {
-            Step::End => true,
-            _ => false,
-        }
-    }
-
-    // Whether a manager with this frame on top goes on after so many script steps: it has steps left, and
-    // the frame is not at its script's end.
-    pub fn goes_on(self, session: &[u8], index: &[u16], steps: u16) -> bool
-        requires { ⌜ Indexed (now session) (now index) ⌝ }
-        requires { ⌜ Known (now session) self ⌝ }
-        ensures { λ r. ⌜ r ≡ (ltb steps maxScriptSteps && not (isEnd (nextStep (programOf (now (session .entry))) self))) ⌝ }
-    {
-        if steps < 256 {
-            !self.is_at_end(session, index)
-        } else {
-            false
-        }
+// A frame that waited, as the one on top.
+pub fn woken(session: &[u8], index: &[u16], w: Waiting) -> Frame
+    requires { ⌜ Indexed (now session) (now index) × Waits (now session) (asideOf w) ⌝ }
+    ensures { λ r. ⌜ (frameOf r ≡ asideOf w) × Placed (now (session .entry)) r ⌝ }
+{
+    let method = contents::method_of(session, index, w.object as usize, w.name as usize);
+    let r0 = w.r0;
+    let r1 = w.r1;
+    let r2 = w.r2;
+    let r3 = w.r3;
+    Frame {
+        object: w.object as usize,
+        name: w.name as usize,
+        next: w.next as usize,
+        start: method.start,
+        count: method.count,
+        into: w.into,
+        returns: w.returns,
+        r0,
+        r1,
+        r2,
+        r3,
     }
 }

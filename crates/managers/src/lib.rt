@@ -1,200 +1,275 @@
-// Message managers: a stack of frames that runs the methods of one message.
-mod frames;
+// Message managers: a stack of frames that runs the methods of one message, by value.
+mod ends;
+pub mod frames;
+mod moves;
 mod operations;
-mod stack;
 pub mod values;
 
-use operations::Outcome;
-use operations::Standing;
+use frames::Frame;
+use frames::Waiting;
+use scripts::Ended;
+use scripts::Ending;
 use session::Message;
 use session::Value;
-ghost use Prim.Native.Nat.{ℕ};
+ghost use Prim.Native.Nat.{_+_, _≤_, _<_};
 ghost use mathlib.Core.Path.{_≡_};
+ghost use mathlib.Core.Bool.{_&&_};
+ghost use lib.Dec.{ltb};
 ghost use Rattle.session.specs.Program.{programOf};
-ghost use Rattle.managers.specs.Manager.{isRunning, top, started, stepped};
-ghost use Rattle.managers.specs.Asked.{askedOf, Sees};
-ghost use Rattle.managers.specs.Valid.{Indexed, Startable, Ready};
+ghost use Rattle.scripts.specs.Limits.{maxScriptSteps};
+ghost use Rattle.scripts.specs.Manager.{started};
+ghost use Rattle.scripts.specs.Valid.{Indexed, Startable};
+ghost use Rattle.managers.specs.Core.{managerOf, isNothing};
+ghost use Rattle.managers.specs.Moves.{causing};
+ghost use Rattle.managers.specs.Steps.{noManager, Held, Advanceable, Advanced, Stepped, keptOf};
 
-// A method that is running, or waits for the reply of the frame above it.
-pub struct Frame {
-    pub object: u8,
-    pub name: u8,
-    // The step that is made next, counted from 0.
-    pub next: u8,
-    // The register of the sender's frame, below, that gets the reply.
-    pub into: u8,
-    // Whether it gets the reply itself, and not NIL in its place.
-    pub returns: bool,
-    pub r0: Value,
-    pub r1: Value,
-    pub r2: Value,
-    pub r3: Value,
-}
+// How many frames a manager may have, and how many of them then wait below the top.
+pub const MAX_FRAMES: u8 = 8;
 
-// How a manager stands.
-pub enum Ending {
-    Running,
-    // Ending 0: the stack is empty.
-    Finished,
-    // Ending 1: the 256th script step left frames.
-    OutOfSteps,
-    // Ending 2: a seventeenth write.
-    OutOfWrites,
-}
+pub const MAX_WAITING: usize = 7;
 
-// Whether a manager has not ended.
-pub fn is_running(ending: Ending) -> bool
-    ensures { λ r. ⌜ r ≡ isRunning ending ⌝ }
-{
-    match ending {
-        Ending::Running => true,
-        Ending::Finished => false,
-        Ending::OutOfSteps => false,
-        Ending::OutOfWrites => false,
-    }
-}
+// How many script steps, writes that take effect and forks a manager may make.
+pub const MAX_SCRIPT_STEPS: u16 = 256;
+
+pub const MAX_WRITES: u8 = 16;
+
+pub const MAX_FORKS: u8 = 15;
 
 // A message manager.
 pub struct Manager {
+    pub core: Core,
+    // The frames that wait below the top, the first first.
+    pub waiting: [Waiting; MAX_WAITING],
+}
+
+// A manager but for the frames that wait below its top.
+pub struct Core {
     pub level: u8,
-    // The write stamp at its start, and now.
+    // The write stamp at its start. Each fork made adds 1 to it.
     pub first: u16,
-    pub stamp: u16,
     pub steps: u16,
     pub writes: u8,
     pub forks: u8,
+    // How many frames there are.
+    pub height: u8,
     pub ending: Ending,
     // What its first frame replied.
     pub reply: Value,
-    // How many frames there are; the last one is on top.
-    pub height: u8,
-    pub frames: [Frame; 8],
-}
-
-// What a script step does outside its manager.
-pub enum Effect {
-    Nothing,
-    // A field of an object of the manager's level gets a value.
-    Write { object: u8, field: u8, value: Value },
-    // A manager is forked at a level, to run a message.
-    Fork { level: u8, message: Message },
-}
-
-// What a script step hands back.
-pub struct Stepped {
-    pub manager: Manager,
+    // The frame on top.
+    pub top: Frame,
+    // What its last script step did outside it, or its next one asks.
     pub effect: Effect,
 }
 
-// What a script step asks from outside.
-pub enum Ask {
+// What a script step does outside its manager, asks before it is made, or leaves to do to the frames.
+pub enum Effect {
     Nothing,
-    // What a field of an object holds.
-    Field { object: u8, field: u8 },
+    // The manager has ended.
+    End,
+    // A field of an object of the manager's level gets a value.
+    Write {
+        object: u8,
+        field: u8,
+        value: Value,
+    },
+    // The step is a READ of a field that is not at hand, and is not made.
+    Read {
+        object: u8,
+        field: u8,
+    },
+    // A manager is forked at a level, to run a message.
+    Fork {
+        level: u8,
+        message: Message,
+    },
+    // A frame is to be made above the top. Nobody outside sees this.
+    Call {
+        object: u8,
+        name: u8,
+        into: u8,
+        returns: bool,
+        parameter: Value,
+    },
+    // The top is to pop with a reply. Nobody outside sees this.
+    Pop(Value),
+}
+
+// Whether a step did nothing outside its manager, asks nothing, and leaves nothing to do.
+fn is_nothing(effect: Effect) -> bool
+    ensures { λ r. ⌜ r ≡ isNothing effect ⌝ }
+{
+    match effect {
+        Effect::Nothing => true,
+        _ => false,
+    }
+}
+
+impl Core {
+    // The core with another effect.
+    fn causing(self, effect: Effect) -> Core
+        ensures { λ r. ⌜ r ≡ causing self effect ⌝ }
+    {
+        Core { effect, ..self }
+    }
+
+    // Whether it makes its next script step by itself.
+    fn goes_on(self, limit: u16) -> bool
+        ensures { λ r. ⌜ r ≡ (isNothing (self .effect) && ltb (self .steps) limit) ⌝ }
+    {
+        let effect = self.effect;
+        is_nothing(effect) && self.steps < limit
+    }
+
+    // What is kept of it once it has ended, with the stamp of its fork.
+    pub fn ended(self, stamp: u32) -> Ended
+        requires { ⌜ self .first + self .forks < 65536 ⌝ }
+        ensures { λ r. ⌜ r ≡ keptOf self stamp ⌝ }
+    {
+        let ending = self.ending;
+        let reply = self.reply;
+        Ended {
+            ending,
+            writes: self.writes,
+            stamp,
+            first: self.first,
+            last: self.first + self.forks as u16,
+            steps: self.steps,
+            reply,
+        }
+    }
 }
 
 impl Manager {
-    // The manager of a message, started at a level with a write stamp: its first frame is made, and an
-    // empty method ends at once.
-    pub fn start(session: &[u8], index: &[u16], level: u8, stamp: u16, message: Message) -> Manager
-        requires { ⌜ Indexed (now session) (now index) ⌝ }
-        requires { ⌜ Startable (now session) level stamp message ⌝ }
-        ensures { λ r. ⌜ r ≡ started (programOf (now (session .entry))) level stamp message ⌝ }
+    // What stands for a manager where none has started: one that does not run.
+    pub fn none() -> Manager
+        ensures { λ r. ⌜ r ≡ noManager ⌝ }
     {
-        let parameter = message.parameter;
-        let mut frames = [Frame::new(0, 0, 0, false, Value::Nil); 8];
-        frames[0] = Frame::new(message.object, message.name, 0, true, parameter);
-        let m = Manager {
-            level,
-            first: stamp,
-            stamp,
+        let top = Frame {
+            object: 0,
+            name: 0,
+            next: 0,
+            start: 0,
+            count: 0,
+            into: 0,
+            returns: false,
+            r0: Value::Nil,
+            r1: Value::Nil,
+            r2: Value::Nil,
+            r3: Value::Nil,
+        };
+        let core = Core {
+            level: 0,
+            first: 0,
             steps: 0,
             writes: 0,
             forks: 0,
-            ending: Ending::Running,
+            height: 0,
+            ending: Ending::Finished,
             reply: Value::Nil,
-            height: 1,
-            frames,
+            top,
+            effect: Effect::Nothing,
         };
-        m.conclude(session, index)
+        let waiting = [frames::no_frame(); MAX_WAITING];
+        Manager { core, waiting }
     }
 
-    // One script step of a manager that runs: the advanced manager, and what the step does outside it.
-    // `seen` is what a READ sees, for a step that asks (`Frame::asks`, of the top frame).
-    pub fn step(self, session: &[u8], masks: &[u16], index: &[u16], seen: Value) -> Stepped
-        requires { ⌜ Ready (now session) (now masks) (now index) self ⌝ }
-        ensures { λ r. ⌜ ((read : ℕ → ℕ → Value) → Sees read (askedOf (programOf (now (session .entry))) (top self)) seen → r ≡ stepped (programOf (now (session .entry))) read self) ⌝ }
+    // The manager of a message, started at a level with a write stamp: its first frame is made, and an
+    // empty method ends at once.
+    pub fn start(session: &[u8], index: &[u16], level: u8, stamp: u16, message: Message) -> Manager
+        requires { ⌜ Indexed (now session) (now index) × Startable (now session) level stamp message ⌝ }
+        ensures { λ r. ⌜ (managerOf r ≡ started (programOf (now (session .entry))) level stamp message) × Held (now (session .entry)) r ⌝ }
     {
-        let mut m = self;
-        let at = m.height as usize - 1;
-        let f = m.frames[at];
-        let standing = Standing {
-            level: m.level,
-            height: m.height,
-            writes: m.writes,
-            forks: m.forks,
+        let parameter = message.parameter;
+        let top = Frame::new(
+            session,
+            index,
+            message.object,
+            message.name,
+            0,
+            true,
+            parameter,
+        );
+        let made = Core {
+            level,
+            first: stamp,
+            steps: 0,
+            writes: 0,
+            forks: 0,
+            height: 1,
+            ending: Ending::Running,
+            reply: Value::Nil,
+            top,
+            effect: Effect::Nothing,
         };
-        let outcome = operations::outcome_of(session, masks, index, standing, f, seen);
-        m.steps = m.steps + 1;
-        // A manager that goes on is handed back as it is, in each case by itself: a function in common
-        // would copy it once more.
-        match outcome {
-            Outcome::Rest => m.close(session, index, Effect::Nothing),
-            Outcome::Proceed(top) => {
-                m.frames[at] = top;
-                let effect = Effect::Nothing;
-                if top.goes_on(session, index, m.steps) {
-                    return Stepped { manager: m, effect };
-                }
-                m.close(session, index, effect)
-            }
-            Outcome::Write { top, field, value } => {
-                m.frames[at] = top;
-                m.writes = m.writes + 1;
-                let object = top.object;
-                let effect = Effect::Write {
-                    object,
-                    field,
-                    value,
-                };
-                if top.goes_on(session, index, m.steps) {
-                    return Stepped { manager: m, effect };
-                }
-                m.close(session, index, effect)
-            }
-            Outcome::Exhausted(top) => {
-                m.frames[at] = top;
-                m.exhaust()
-            }
-            Outcome::Call { top, callee } => {
-                m.frames[at] = top;
-                let above = m.height as usize;
-                m.frames[above] = callee;
-                m.height = m.height + 1;
-                let effect = Effect::Nothing;
-                if callee.goes_on(session, index, m.steps) {
-                    return Stepped { manager: m, effect };
-                }
-                m.close(session, index, effect)
-            }
-            Outcome::Fork {
-                top,
-                level,
-                message,
-            } => {
-                m.frames[at] = top;
-                m.forks = m.forks + 1;
-                m.stamp = m.stamp + 1;
-                let effect = Effect::Fork { level, message };
-                if top.goes_on(session, index, m.steps) {
-                    return Stepped { manager: m, effect };
-                }
-                m.close(session, index, effect)
-            }
-            Outcome::Quit { top, reply } => {
-                m.frames[at] = top;
-                m.quit(session, index, reply)
+        let core = made.closed();
+        let waiting = [frames::no_frame(); MAX_WAITING];
+        Manager { core, waiting }
+    }
+
+    // Script steps of a manager that runs, until one concerns others or asks, the manager ends, or `limit`
+    // are made in all. READs are of any object where `all` says so, and else of those of the level and of
+    // what `seen` has of others.
+    pub fn advance(
+        self,
+        session: &[u8],
+        masks: &[u16],
+        index: &[u16],
+        current: &[u32],
+        seen: &[u32],
+        all: bool,
+        limit: u16,
+    ) -> Manager
+        requires { ⌜ Advanceable (now session) (now masks) (now index) (now current) (now seen) self ⌝ }
+        requires { ⌜ (self .core .steps < limit) × (limit ≤ maxScriptSteps) ⌝ }
+        ensures { λ r. ⌜ Advanced (now (session .entry)) (now (current .entry)) (now (seen .entry)) all limit self r ⌝ }
+    {
+        let mut core = self.core.causing(Effect::Nothing);
+        let mut waiting = self.waiting;
+        while core.goes_on(limit) {
+            let f = core.top;
+            let step = f.next_step(session);
+            core = core.operate(session, masks, current, seen, all, step);
+            let effect = core.effect;
+            if let Effect::Call {
+                object,
+                name,
+                into,
+                returns,
+                parameter,
+            } = effect {
+                let f = core.top;
+                let at = core.height as usize - 1;
+                waiting[at] = frames::set_aside(session, f);
+                core = core.pushed(session, index, object, name, into, returns, parameter);
+            } else if let Effect::Pop(reply) = effect {
+                let at = core.height as usize - 2;
+                core = core.popped(session, index, waiting[at], reply);
             }
         }
+        while core.pops() {
+            let at = core.height as usize - 2;
+            let effect = core.effect;
+            let lower = core.popped(session, index, waiting[at], Value::Nil);
+            core = lower.causing(effect);
+        }
+        core = core.closed();
+        Manager { core, waiting }
+    }
+
+    // One script step of a manager that runs, pops and ending included. A READ that the words at hand do not
+    // answer is asked for, and not made.
+    pub fn step(
+        self,
+        session: &[u8],
+        masks: &[u16],
+        index: &[u16],
+        current: &[u32],
+        seen: &[u32],
+    ) -> Manager
+        requires { ⌜ Advanceable (now session) (now masks) (now index) (now current) (now seen) self ⌝ }
+        ensures { λ r. ⌜ Stepped (now (session .entry)) (now (current .entry)) (now (seen .entry)) self r ⌝ }
+    {
+        let limit = self.core.steps + 1;
+        self.advance(session, masks, index, current, seen, false, limit)
     }
 }

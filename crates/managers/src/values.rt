@@ -1,7 +1,7 @@
 // Values of registers: the sum of two, and the test of a JUMP.
 use session::Value;
 ghost use mathlib.Core.Path.{_≡_};
-ghost use Rattle.managers.specs.Value.{sum, isNilOr0};
+ghost use Rattle.scripts.specs.Value.{sum, isNilOr0};
 
 // Two values added modulo 2^32; NIL if either is NIL.
 pub fn sum(x: Value, y: Value) -> Value

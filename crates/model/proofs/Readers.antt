@@ -16,9 +16,9 @@ use Rattle.session.specs.Meaning.{methodOf}
 use Rattle.session.specs.SessionW.{sessionW}
 use Rattle.session.specs.Program.{programOf, seenBy}
 use Rattle.filter.specs.Filter.{fateOf}
-use Rattle.managers.specs.Value.{sum, isNilOr0}
-use Rattle.managers.specs.Frame.{withRegister}
-use Rattle.managers.specs.Manager.{popped, settled, concluded, started, written, called, forked, sent, operated, stepped}
+use Rattle.scripts.specs.Value.{sum, isNilOr0}
+use Rattle.scripts.specs.Frame.{withRegister}
+use Rattle.scripts.specs.Manager.{popped, settled, concluded, started, written, called, forked, sent, operated, stepped}
 use Rattle.model.specs.Lists.{inserted, modify, lastOr}
 use Rattle.model.specs.Fork.{childOf}
 use Rattle.model.specs.History.{endBefore}

@@ -7,11 +7,11 @@ use lib.ListN.{length, getD, replicate}
 use Rattle.session.specs.Program.{Program}
 use Rattle.session.specs.declared.Value.{Value}
 use Rattle.session.specs.declared.Message.{Message}
-use Rattle.managers.specs.Limits.{maxScriptSteps}
-use Rattle.managers.specs.Manager.{isRunning, started, stepped}
-use Rattle.managers.specs.declared.Manager.{Manager}
-use Rattle.managers.specs.declared.Effect.{Effect}
-use Rattle.managers.specs.declared.Effect.the-variants.{Nothing, Write, Fork}
+use Rattle.scripts.specs.Limits.{maxScriptSteps}
+use Rattle.scripts.specs.Ending.{isRunning}
+use Rattle.scripts.specs.Manager.{started, stepped}
+use Rattle.scripts.specs.State.{Manager}
+use Rattle.scripts.specs.Effect.{Effect, Nothing, Write, Fork}
 use Rattle.model.specs.Limits.{maxManagers}
 use Rattle.model.specs.Lists.{inserted, modify}
 use Rattle.model.specs.Fork as fork

@@ -3,7 +3,7 @@ use Prim.Native.Nat.{ℕ, _+_, _*_, _-_, _^_}
 use mathlib.Core.List.{List}
 use lib.ListN.{replicate, set}
 use Rattle.session.specs.declared.Message.{Message}
-use Rattle.managers.specs.declared.Manager.{Manager}
+use Rattle.scripts.specs.State.{Manager}
 use Rattle.model.specs.Limits.{stampDigits}
 
 -- a message with its fork stamp; how many forks deep its manager will be; and for each level the write stamp that an ancestor at that

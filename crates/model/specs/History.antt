@@ -4,8 +4,8 @@ use mathlib.Core.List.{List, map}
 use lib.Dec.{ltb}
 use Rattle.session.specs.declared.Value.{Value}
 use Rattle.session.specs.Lists.{select}
-use Rattle.managers.specs.declared.Ending.{Ending}
-use Rattle.managers.specs.declared.Manager.{Manager}
+use Rattle.scripts.specs.declared.Ending.{Ending}
+use Rattle.scripts.specs.State.{Manager}
 use Rattle.model.specs.Lists.{lastOr}
 use Rattle.model.specs.Fork.{Fork}
 

@@ -5,8 +5,8 @@ use mathlib.Core.List.{List, [], _∷_}
 use lib.Dec.{eqb, leb}
 use lib.ListN.{length, take}
 use Rattle.session.specs.declared.Value.{Value}
-use Rattle.managers.specs.Manager.{isRunning}
-use Rattle.managers.specs.declared.Manager.{Manager}
+use Rattle.scripts.specs.Ending.{isRunning}
+use Rattle.scripts.specs.State.{Manager}
 use Rattle.model.specs.Limits.{maxManagers}
 use Rattle.model.specs.Lists.{inserted}
 use Rattle.model.specs.Fork.{Fork}

@@ -1,7 +1,7 @@
 -- The numbers that document 01 fixes for runs. Assumes nothing.
 use Prim.Native.Nat.{ℕ, _+_, _*_}
 use Rattle.session.specs.Limits.{recordBytes, maxLevels, maxObjects}
-use Rattle.managers.specs.Limits.{maxScriptSteps, maxWrites}
+use Rattle.scripts.specs.Limits.{maxScriptSteps, maxWrites}
 
 -- "A level keeps the 32 forks of smallest stamp"
 abbrev pub maxManagers : ℕ

@@ -9,8 +9,9 @@ use Rattle.session.specs.Lists.{tab, select, every, joined}
 use Rattle.session.specs.Record.{Record}
 use Rattle.session.specs.Program.{Program}
 use Rattle.session.specs.declared.Value.{Value}
-use Rattle.session.specs.declared.Value.the-variants.{Nil, Number}
-use Rattle.managers.specs.Manager.{numberOfEnding}
+use Rattle.session.specs.declared.Value.the-variants.{Nil}
+use Rattle.scripts.specs.Value.{tag, numberIn}
+use Rattle.scripts.specs.Ending.{numberOfEnding}
 use Rattle.model.specs.History.{History}
 use Rattle.model.specs.Level.{newest}
 use Rattle.model.specs.Step.{State, levelAt}
@@ -39,15 +40,6 @@ bytes2 n = n % 2 ^ 8 ∷ n / 2 ^ 8 % 2 ^ 8 ∷ []
 
 abbrev pub bytes4 : ℕ → List ℕ
 bytes4 n = n % 2 ^ 8 ∷ n / 2 ^ 8 % 2 ^ 8 ∷ n / 2 ^ 16 % 2 ^ 8 ∷ n / 2 ^ 24 % 2 ^ 8 ∷ []
-
--- "tag (1 number, 0 NIL)", and the number, "0 if NIL"
-abbrev pub tag : Value → ℕ
-tag Nil = 0
-tag (Number n) = 1
-
-abbrev pub numberIn : Value → ℕ
-numberIn Nil = 0
-numberIn (Number n) = n
 
 -- "Kind 5: .. laid out as kind 2"
 unfoldable pub objectRecord : ℕ → ℕ → (ℕ → Value) → Record

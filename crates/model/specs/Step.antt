@@ -7,10 +7,9 @@ use lib.ListN.{getD}
 use Rattle.session.specs.Lists.{tab}
 use Rattle.session.specs.Program.{Program, seenBy}
 use Rattle.session.specs.declared.Value.{Value}
-use Rattle.managers.specs.Manager.{started, stepped}
-use Rattle.managers.specs.declared.Manager.{Manager}
-use Rattle.managers.specs.declared.Effect.{Effect}
-use Rattle.managers.specs.declared.Effect.the-variants.{Nothing, Write, Fork}
+use Rattle.scripts.specs.Manager.{started, stepped}
+use Rattle.scripts.specs.State.{Manager}
+use Rattle.scripts.specs.Effect.{Effect, Nothing, Write, Fork}
 use Rattle.model.specs.Lists.{modify}
 use Rattle.model.specs.Fork as fork
 use Rattle.model.specs.History.{endBefore}

@@ -8,13 +8,13 @@ use lib.ListN.{length, getD, set, take, replicate}
 use Rattle.session.specs.Limits.{maxLevels}
 use Rattle.session.specs.Lists.{tab}
 use Rattle.session.specs.declared.Message.{Message}
+use Rattle.scripts.specs.Value.{tag, numberIn}
+use Rattle.words.specs.Outside.{Outside}
+use Rattle.words.specs.Fields.{valueOf}
 use Rattle.model.specs.Limits.{maxManagers}
 use Rattle.model.specs.Lists.{inserted, lastOr}
 use Rattle.model.specs.Fork.{Fork, rootFork}
-use Rattle.model.specs.Result.{tag, numberIn}
 use Rattle.rows.specs.Rows.{rowAt, rowsAt, Rising}
-use Rattle.rows.specs.Change.{Outside}
-use Rattle.records.specs.Fields.{valueOf}
 
 -- a fork's words: stamp, depth, object, name, the parameter's tag and number, and a write stamp for each level
 abbrev pub forkWords : ℕ

@@ -4,8 +4,8 @@
 // parameter's tag and number, and for each of 8 levels the write stamp that an ancestor there had at
 // its fork. A level's forks that started stand first, those that wait behind them, by rising stamp: a
 // fork that starts is not moved.
-use records::values;
 use session::Message;
+use words::values;
 ghost use Prim.Native.Nat.{ℕ, _+_, _-_, _^_, _≤_, _<_};
 ghost use mathlib.Core.Path.{_≡_};
 ghost use lib.ListN.{getD};

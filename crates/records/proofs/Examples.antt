@@ -9,9 +9,9 @@ use Rattle.session.specs.Record.{recordAt, recordsOf}
 use Rattle.session.specs.Parts.{ofKind, masksOf}
 use Rattle.session.specs.Program.{programOf}
 use Rattle.session.specs.SessionW.{sessionW}
+use Rattle.words.specs.Fields.{fieldAt}
 use Rattle.model.specs.Result.{objectRecord, historyRecord, replyRecord, objectsShown, historiesShown, replyShown, bytesOf}
 use Rattle.rows.specs.Rows.{rowAt, rowsAt}
-use Rattle.records.specs.Fields.{fieldAt}
 use Rattle.records.specs.Histories.{historyOfRow, historiesAt}
 use Rattle.records.specs.Writing.{resultIn, bytesIn}
 

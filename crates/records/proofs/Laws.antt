@@ -1,5 +1,4 @@
 -- Laws of the definitions: what the proofs of this crate and of the crates above it cite.
-pub mod Fields
 pub mod Histories
 pub mod EndBefore
 pub mod Bytes

@@ -7,20 +7,20 @@ use lib.Dec.{eqb}
 use lib.ListN.{length, getD}
 use Rattle.session.specs.Limits.{maxLevels}
 use Rattle.session.specs.Lists.{risingFrom}
-use Rattle.managers.specs.Manager.{isRunning}
-use Rattle.managers.specs.declared.Ending.{Ending}
-use Rattle.managers.specs.declared.Ending.the-variants.{Finished, OutOfSteps, OutOfWrites}
-use Rattle.managers.specs.declared.Manager.{Manager}
+use Rattle.scripts.specs.Ending.{isRunning}
+use Rattle.scripts.specs.declared.Ending.{Ending}
+use Rattle.scripts.specs.declared.Ending.the-variants.{Finished, OutOfSteps, OutOfWrites}
+use Rattle.scripts.specs.State.{Manager}
+use Rattle.scripts.specs.declared.Ended.{Ended}
+use Rattle.words.specs.Outside.{Outside}
+use Rattle.words.specs.Fields.{valueOf}
 use Rattle.model.specs.Limits.{maxManagers}
 use Rattle.model.specs.Lists.{inserted}
 use Rattle.model.specs.Fork.{Fork}
 use Rattle.model.specs.History as model
 use Rattle.model.specs.History.{History}
 use Rattle.rows.specs.Rows.{rowsAt}
-use Rattle.rows.specs.Change.{Outside}
 use Rattle.records.specs.Limits.{rowWords, levelWords, historyWords}
-use Rattle.records.specs.Fields.{valueOf}
-use Rattle.records.specs.declared.Ended.{Ended}
 
 -- "Endings: 0 stack empty; 1 the 256th step left frames; 2 a seventeenth write"
 abbrev pub endingOf : ℕ → Ending

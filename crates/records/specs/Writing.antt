@@ -9,11 +9,11 @@ use Rattle.session.specs.Lists.{joined}
 use Rattle.session.specs.Parts.{levelCount}
 use Rattle.session.specs.Program.{Program, programOf}
 use Rattle.session.specs.declared.Value.{Value}
+use Rattle.words.specs.Fields.{fieldAt, FieldsReady}
 use Rattle.model.specs.Limits.{resultBytes}
 use Rattle.model.specs.History.{History}
 use Rattle.model.specs.Result.{Result, objectRecord, historyRecord, replyRecord, replyOf, bytesOf, byNumber}
 use Rattle.model.specs.Entries.{writtenOver}
-use Rattle.records.specs.Fields.{fieldAt, FieldsReady}
 use Rattle.records.specs.Histories.{endedIn, HistoriesReady}
 
 -- what the words of a run say

@@ -1,17 +1,18 @@
 // Result records by value: 16 bytes each.
-use crate::fields;
-use crate::values;
 use session::Value;
+use words::fields;
+use words::values;
 ghost use mathlib.Core.Path.{_≡_};
 ghost use Prim.Native.Nat.{_+_, _*_, _%_, _≤_, _<_};
 ghost use lib.ListN.{length};
 ghost use Rattle.session.specs.Limits.{maxObjects, maxLevels};
-ghost use Rattle.managers.specs.Manager.{numberOfEnding};
+ghost use Rattle.scripts.specs.Ending.{numberOfEnding};
+ghost use Rattle.words.specs.Limits.{fieldWords};
+ghost use Rattle.words.specs.Fields.{fieldAt};
 ghost use Rattle.model.specs.Limits.{maxManagers};
 ghost use Rattle.model.specs.Result.{bytes2, bytes4, objectRecord, historyRecord, replyRecord};
 ghost use Rattle.rows.specs.Rows.{rowAt};
-ghost use Rattle.records.specs.Limits.{rowWords, fieldWords, historyWords};
-ghost use Rattle.records.specs.Fields.{fieldAt};
+ghost use Rattle.records.specs.Limits.{rowWords, historyWords};
 ghost use Rattle.records.specs.Histories.{endingOf, historyOfRow, levelPlace};
 
 // The lowest byte of a number.

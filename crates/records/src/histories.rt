@@ -1,12 +1,11 @@
 // The histories of a run: eight words for each, 32 of them for each level, in stamp order.
-use crate::Ended;
-use crate::values;
-use managers::Ending;
-use managers::Manager;
+use scripts::Ended;
+use scripts::Ending;
+use words::values;
 ghost use mathlib.Core.Path.{_≡_};
-ghost use Rattle.managers.specs.Manager.{numberOfEnding};
+ghost use Rattle.scripts.specs.Ending.{numberOfEnding};
 ghost use Rattle.model.specs.History.{endBefore};
-ghost use Rattle.records.specs.Histories.{historiesAt, HistoryRoom, Added, HistoriesThere, HistoryIs};
+ghost use Rattle.records.specs.Histories.{historiesAt, HistoryRoom, Added, HistoriesThere};
 
 // Document 01's number of an ending.
 fn number_of_ending(ending: Ending) -> u32
@@ -54,21 +53,4 @@ pub fn end_before(histories: &[u32], level: usize, count: usize, stamp: u32) -> 
         return 0;
     }
     histories[256 * level + 8 * (smaller - 1) + 4]
-}
-
-// What is kept of a manager, with the stamp of its fork.
-pub fn ended_of(m: Manager, stamp: u32) -> Ended
-    ensures { λ r. ⌜ HistoryIs stamp m r ⌝ }
-{
-    let ending = m.ending;
-    let reply = m.reply;
-    Ended {
-        ending,
-        writes: m.writes,
-        stamp,
-        first: m.first,
-        last: m.stamp,
-        steps: m.steps,
-        reply,
-    }
 }

@@ -1,12 +1,8 @@
 // Result records: kinds 5, 6 and 7 as bytes, from the fields and histories of a run kept in words.
 mod bytes;
-pub mod fields;
 pub mod histories;
 mod shown;
-pub mod values;
 
-use managers::Ending;
-use session::Value;
 ghost use Rattle.records.specs.Writing.{resultIn, bytesIn, Ready, Written};
 
 // What a run answers: its number, its place, and the count of result bytes written.
@@ -14,19 +10,6 @@ pub struct Answer {
     pub number: u32,
     pub place: u32,
     pub count: u32,
-}
-
-// What is kept of a manager that has ended.
-pub struct Ended {
-    pub ending: Ending,
-    pub writes: u8,
-    // Its fork stamp.
-    pub stamp: u32,
-    // Its write stamps, at its start and at its end.
-    pub first: u16,
-    pub last: u16,
-    pub steps: u16,
-    pub reply: Value,
 }
 
 // Writes the records of a run that a clearance is shown to the buffer's start, the level groups by rising

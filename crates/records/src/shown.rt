@@ -1,9 +1,9 @@
 // The records that a clearance is shown, written to a buffer one after the other. Each function writes
 // from `at` on and returns the place behind what it wrote.
 use crate::bytes;
-use crate::values;
 use session::Value;
 use session::contents;
+use words::values;
 ghost use mathlib.Core.Path.{_≡_};
 ghost use mathlib.Core.List.{map};
 ghost use Prim.Native.Nat.{_+_, _*_, _≤_, _<_};
@@ -13,10 +13,10 @@ ghost use Rattle.session.specs.Limits.{recordBytes, maxLevels, maxObjects};
 ghost use Rattle.session.specs.Lists.{tab, joined};
 ghost use Rattle.session.specs.Parts.{objectCount};
 ghost use Rattle.session.specs.Program.{programOf};
+ghost use Rattle.words.specs.Fields.{fieldAt, FieldsReady};
 ghost use Rattle.model.specs.Limits.{maxManagers};
 ghost use Rattle.model.specs.Result.{historyRecord, replyOf};
 ghost use Rattle.records.specs.Limits.{historyWords};
-ghost use Rattle.records.specs.Fields.{fieldAt, FieldsReady};
 ghost use Rattle.records.specs.Histories.{historiesAt, endedIn, HistoriesReady};
 ghost use Rattle.records.specs.Writing.{shownObject, shownLevel, shownReply, Placed};
 

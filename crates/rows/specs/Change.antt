@@ -3,14 +3,9 @@ use Prim.Native.Nat.{ℕ, _+_, _*_, _≤_, _<_, min}
 use mathlib.Core.Path.{_≡_}
 use mathlib.Core.List.{List}
 use lib.ListN.{length, getD, take}
+use Rattle.words.specs.Outside.{Outside}
 use Rattle.model.specs.Lists.{inserted}
 use Rattle.rows.specs.Rows.{rowAt, rowsAt, keyOf, Rising}
-
--- of the words ws only those from a up to e may have become others in ws'
-pub record Outside (ws ws' : List ℕ) (a e : ℕ) : Type 0 where
-  pub length-same : length ws' ≡ length ws
-  pub below : (k : ℕ) → k < a → getD ws' k 0 ≡ getD ws k 0
-  pub above : (k : ℕ) → e ≤ k → getD ws' k 0 ≡ getD ws k 0
 
 -- the words from a up to e stand `by` places higher
 pub record Shifted (ws ws' : List ℕ) (a e by : ℕ) : Type 0 where

@@ -1,7 +1,7 @@
 -- What the stages of a run promise each other. No meaning rests on these. Assumes nothing.
 use Prim.Native.Nat.{ℕ, _+_, _*_, _≤_, _<_}
 use mathlib.Core.Path.{_≡_}
-use mathlib.Core.Bool.{false}
+use mathlib.Core.Bool.{Bool, true, false}
 use mathlib.Core.List.{List, _++_}
 use lib.ListN.{length, drop, replicate}
 use Rattle.session.specs.Limits.{maxLevels, maxMethods}
@@ -9,19 +9,16 @@ use Rattle.session.specs.Parts.{levelCount}
 use Rattle.session.specs.Meaning.{levelOf, rootObject, rootOf}
 use Rattle.session.specs.Program.{programOf}
 use Rattle.session.specs.Reading.{indexOf}
-use Rattle.session.specs.declared.Value.the-variants.{Nil}
-use Rattle.managers.specs.Limits.{maxFrames}
-use Rattle.managers.specs.Frame.{noFrame}
-use Rattle.managers.specs.Valid.{Leveled}
-use Rattle.managers.specs.declared.Manager.{Manager}
-use Rattle.managers.specs.declared.Ending.the-variants as ending
+use Rattle.scripts.specs.Valid.{Leveled}
+use Rattle.scripts.specs.State.{Manager}
 use Rattle.model.specs.Limits.{workNumbers, resultBytes}
 use Rattle.model.specs.Level.{idle, hasManager}
 use Rattle.model.specs.Step.{State, levelAt}
 use Rattle.model.specs.Schedule.{finished, refused, readIn, stepRefusal, runOf, plainOrder, Leads}
 use Rattle.model.specs.Result.{byNumber}
 use Rattle.model.specs.Entries.{Request, question10, entryRefusal, answerOf}
-use Rattle.records.specs.Limits.{fieldWords, historyWords}
+use Rattle.words.specs.Limits.{fieldWords}
+use Rattle.records.specs.Limits.{historyWords}
 use Rattle.records.specs.Writing.{resultIn, bytesIn, Written}
 use Rattle.records.specs.declared.Answer.{Answer}
 use Rattle.queues.specs.Queue.{queueWords}
@@ -54,11 +51,6 @@ pub record Rests (s : List ℕ) (w : Words) (st : State) : Type 0 where
   pub says : (ms : ℕ → Manager) → Says s w ms st
   pub idle-all : (k : ℕ) → k < levelCount s → levelAt st k .activity ≡ idle
 
--- what stands for the manager of a level where none has run yet
-abbrev pub noManager : Manager
-noManager =
-    record { level = 0; first = 0; stamp = 0; steps = 0; writes = 0; forks = 0; ending = ending.Finished; reply = Nil; height = 0; frames = replicate maxFrames noFrame }
-
 -- what is counted before any manager started: "A level's write stamp starts at 1"
 abbrev pub startTallies : List ℕ
 startTallies = replicate maxLevels 0 ++ replicate maxLevels 1 ++ replicate (4 * maxLevels) 0
@@ -83,6 +75,11 @@ SameRest work work' = drop workNumbers work' ≡ drop workNumbers work
 -- a step that is not permitted ends a run
 abbrev pub RefusedAt : Permit → ℕ → Outcome → Type 0
 RefusedAt permit place r = r ≡ outcome.Refused (numberOfPermit permit) place
+
+-- the scheduler steps of a run: those of a timetable, if it is listed, or the plain ones
+abbrev pub listOf : List ℕ → List ℕ → Bool → List ℕ
+listOf s ls true = ls
+listOf s ls false = plainOrder (programOf s) (rootOf s)
 
 -- a list of scheduler steps of session s has ended: refused, or in a state that the words say
 abbrev pub Ends : List ℕ → List ℕ → Words → Outcome → Type 0
@@ -132,8 +129,3 @@ abbrev pub ListDone : List ℕ → List ℕ → ℕ → List ℕ → List ℕ �
 ListDone s ls clearance work work' buffer buffer' r =
     record { number = r .number; place = r .place; count = r .count; work = work'; buffer = buffer' }
     ≡ answerOf (record { session = s; clearance = clearance; work = work; buffer = buffer }) (byNumber (programOf s) clearance) (runOf (programOf s) (rootOf s) ls)
-
--- that of the plain run
-abbrev pub PlainDone : List ℕ → ℕ → List ℕ → List ℕ → List ℕ → List ℕ → Answer → Type 0
-PlainDone s clearance work work' buffer buffer' r =
-    ListDone s (plainOrder (programOf s) (rootOf s)) clearance work work' buffer buffer' r

@@ -3,14 +3,15 @@ mod plain;
 mod timetable;
 
 use records::Answer;
-use records::fields;
 use session::contents;
+use words::fields;
 ghost use mathlib.Core.Path.{_≡_};
 ghost use Rattle.session.specs.Meaning.{levelOf, rootObject};
-ghost use Rattle.managers.specs.Valid.{Leveled};
+ghost use Rattle.scripts.specs.Valid.{Leveled};
 ghost use Rattle.model.specs.Entries.{timetabled, plain as plainly, Answers};
 ghost use Rattle.records.specs.Writing.{Ready};
-ghost use Rattle.scheduler.specs.Runs.{startTallies, EntryRefusal, Fresh, ReadIn, Shows, RunReady, ListDone, PlainDone, Refused, RefusedBy};
+ghost use Rattle.level_managers.specs.Steps.{Read};
+ghost use Rattle.scheduler.specs.Runs.{startOf, startTallies, listOf, EntryRefusal, Rests, Fresh, ReadIn, Ends, SameRest, Shows, RunReady, ListDone, Refused, RefusedBy};
 
 // How the scheduler steps of a run end.
 pub enum Outcome {
@@ -126,17 +127,53 @@ fn refused_by(outcome: Outcome) -> Answer
     }
 }
 
-// Runs an accepted session by a timetable, and writes the records that a clearance is shown.
-fn run_list(
+// Makes scheduler steps from the session as read in: those of a timetable, if it is listed, of which one can
+// be refused; else plainly, until all managers have ended.
+fn make_steps(
     session: &[u8],
     timetable: &[u8],
+    listed: bool,
+    masks: &[u16],
+    index: &[u16],
+    current: &mut [u32],
+    ended: &mut [u32],
+    tallies: &mut [usize],
+    queue: &mut [u32],
+    work: &mut [u32],
+) -> Outcome
+    requires { ⌜ Read (now session) (now masks) (now index) ⌝ }
+    requires { ⌜ Rests (now session) (record { current = now current; ended = now ended; tallies = now tallies; queue = now queue; work = now work }) (startOf (now session)) ⌝ }
+    ensures { λ r. ⌜ Ends (now (session .entry)) (listOf (now (session .entry)) (now (timetable .entry)) listed) (record { current = now (current .exit); ended = now (ended .exit); tallies = now (tallies .exit); queue = now (queue .exit); work = now (work .exit) }) r × SameRest (now (work .entry)) (now (work .exit)) ⌝ }
+{
+    if listed {
+        return timetable::run(
+            session,
+            timetable,
+            masks,
+            index,
+            current,
+            ended,
+            tallies,
+            queue,
+            work,
+        );
+    }
+    plain::run(session, masks, index, current, ended, tallies, queue, work);
+    Outcome::Finished
+}
+
+// Runs an accepted session, by a timetable or plainly, and writes the records that a clearance is shown.
+fn run_accepted(
+    session: &[u8],
+    timetable: &[u8],
+    listed: bool,
     masks: &[u16],
     clearance: usize,
     work: &mut [u32],
     result: &mut [u8],
 ) -> Answer
     requires { ⌜ RunReady (now session) (now masks) (now work) (now result) ⌝ }
-    ensures { λ r. ⌜ ListDone (now (session .entry)) (now (timetable .entry)) clearance (now (work .entry)) (now (work .exit)) (now (result .entry)) (now (result .exit)) r ⌝ }
+    ensures { λ r. ⌜ ListDone (now (session .entry)) (listOf (now (session .entry)) (now (timetable .entry)) listed) clearance (now (work .entry)) (now (work .exit)) (now (result .entry)) (now (result .exit)) r ⌝ }
 {
     let mut index = [0u16; 513];
     let mut current = [0u32; 192];
@@ -151,9 +188,10 @@ fn run_list(
         &mut tallies,
         &mut queue,
     );
-    let outcome = timetable::run(
+    let outcome = make_steps(
         session,
         timetable,
+        listed,
         masks,
         &index,
         &mut current,
@@ -178,49 +216,30 @@ fn run_list(
     )
 }
 
-// Runs an accepted session plainly, and writes the records that a clearance is shown.
-fn run_lowest(
+// Runs a session, by a timetable or plainly, and writes what a clearance is shown of it: questions 1 to 15.
+fn run_session(
     session: &[u8],
-    masks: &[u16],
+    timetable: &[u8],
+    listed: bool,
     clearance: usize,
     work: &mut [u32],
     result: &mut [u8],
 ) -> Answer
-    requires { ⌜ RunReady (now session) (now masks) (now work) (now result) ⌝ }
-    ensures { λ r. ⌜ PlainDone (now (session .entry)) clearance (now (work .entry)) (now (work .exit)) (now (result .entry)) (now (result .exit)) r ⌝ }
+    ensures { λ r. ⌜ Answers (record { session = now (session .entry); clearance = clearance; work = now (work .entry); buffer = now (result .entry) }) (λ order. timetabled (record { session = now (session .entry); clearance = clearance; work = now (work .entry); buffer = now (result .entry) }) order (listOf (now (session .entry)) (now (timetable .entry)) listed)) (r .number) (r .place) (r .count) (now (work .exit)) (now (result .exit)) ⌝ }
 {
-    let mut index = [0u16; 513];
-    let mut current = [0u32; 192];
-    let mut ended = [0u32; 2048];
-    let mut queue = [0u32; 3584];
-    let mut tallies = first_tallies();
-    let level = read_in(
+    let number = entry_refusal(session, clearance, work.len(), result.len());
+    if number != 0 {
+        return refused(number, 0);
+    }
+    let mut masks = [0u16; 8];
+    let levels = contents::level_table(session, &mut masks);
+    run_accepted(
         session,
-        masks,
-        &mut index,
-        &mut current,
-        &mut tallies,
-        &mut queue,
-    );
-    plain::run(
-        session,
-        masks,
-        &index,
-        &mut current,
-        &mut ended,
-        &mut tallies,
-        &mut queue,
-        work,
-    );
-    versions::clear(work);
-    show(
-        session,
-        masks,
-        &current,
-        &ended,
-        &tallies,
+        timetable,
+        listed,
+        &masks[..levels],
         clearance,
-        level,
+        work,
         result,
     )
 }
@@ -236,20 +255,7 @@ pub fn run_timetable(
 ) -> Answer
     ensures { λ r. ⌜ Answers (record { session = now (session .entry); clearance = clearance; work = now (work .entry); buffer = now (result .entry) }) (λ order. timetabled (record { session = now (session .entry); clearance = clearance; work = now (work .entry); buffer = now (result .entry) }) order (now (timetable .entry))) (r .number) (r .place) (r .count) (now (work .exit)) (now (result .exit)) ⌝ }
 {
-    let number = entry_refusal(session, clearance, work.len(), result.len());
-    if number != 0 {
-        return refused(number, 0);
-    }
-    let mut masks = [0u16; 8];
-    let levels = contents::level_table(session, &mut masks);
-    run_list(
-        session,
-        timetable,
-        &masks[..levels],
-        clearance,
-        work,
-        result,
-    )
+    run_session(session, timetable, true, clearance, work, result)
 }
 
 // Runs a session plainly and writes what a clearance is shown of it: questions 1 to 11 of any bytes, of
@@ -257,13 +263,8 @@ pub fn run_timetable(
 pub fn run_plain(session: &[u8], clearance: usize, work: &mut [u32], result: &mut [u8]) -> Answer
     ensures { λ r. ⌜ Answers (record { session = now (session .entry); clearance = clearance; work = now (work .entry); buffer = now (result .entry) }) (plainly (record { session = now (session .entry); clearance = clearance; work = now (work .entry); buffer = now (result .entry) })) (r .number) (r .place) (r .count) (now (work .exit)) (now (result .exit)) ⌝ }
 {
-    let number = entry_refusal(session, clearance, work.len(), result.len());
-    if number != 0 {
-        return refused(number, 0);
-    }
-    let mut masks = [0u16; 8];
-    let levels = contents::level_table(session, &mut masks);
-    run_lowest(session, &masks[..levels], clearance, work, result)
+    let no_timetable = [0u8; 0];
+    run_session(session, &no_timetable, false, clearance, work, result)
 }
 
 // Runs a session plainly for a reader cleared to the level of its root's object.

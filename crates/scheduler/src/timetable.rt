@@ -3,14 +3,11 @@ use crate::Outcome;
 use level_managers::steps;
 use level_managers::tallies;
 use level_managers::tallies::Permit;
-use managers::Ending;
-use managers::Frame;
 use managers::Manager;
-use session::Value;
 ghost use mathlib.Core.Path.{_≡_};
 ghost use Rattle.level_managers.specs.Permits.{numberOfPermit};
 ghost use Rattle.level_managers.specs.Steps.{Read};
-ghost use Rattle.scheduler.specs.Runs.{startOf, noManager, Rests, RefusedAt, Ends, SameRest};
+ghost use Rattle.scheduler.specs.Runs.{startOf, Rests, RefusedAt, Ends, SameRest};
 
 // Document 01's number of what questions 12 to 14 say.
 fn number_of(permit: Permit) -> u32
@@ -34,37 +31,9 @@ fn refused_at(permit: Permit, place: u32) -> Outcome
     }
 }
 
-// What stands for the manager of a level where none has run yet.
-fn no_manager() -> Manager
-    ensures { λ r. ⌜ r ≡ noManager ⌝ }
-{
-    let frame = Frame {
-        object: 0,
-        name: 0,
-        next: 0,
-        into: 0,
-        returns: false,
-        r0: Value::Nil,
-        r1: Value::Nil,
-        r2: Value::Nil,
-        r3: Value::Nil,
-    };
-    Manager {
-        level: 0,
-        first: 0,
-        stamp: 0,
-        steps: 0,
-        writes: 0,
-        forks: 0,
-        ending: Ending::Finished,
-        reply: Value::Nil,
-        height: 0,
-        frames: [frame; 8],
-    }
-}
-
 // Makes the scheduler steps of a timetable, from the session as read in. The first that is not permitted
-// ends the run; so does a timetable at whose end a manager has not ended.
+// ends the run; so does a timetable at whose end a manager has not ended. Between the steps of a manager
+// others step: nothing that it has read is kept in `seen`.
 pub fn run(
     session: &[u8],
     timetable: &[u8],
@@ -80,7 +49,8 @@ pub fn run(
     requires { ⌜ Rests (now session) (record { current = now current; ended = now ended; tallies = now tallies; queue = now queue; work = now work }) (startOf (now session)) ⌝ }
     ensures { λ r. ⌜ Ends (now (session .entry)) (now (timetable .entry)) (record { current = now (current .exit); ended = now (ended .exit); tallies = now (tallies .exit); queue = now (queue .exit); work = now (work .exit) }) r × SameRest (now (work .entry)) (now (work .exit)) ⌝ }
 {
-    let mut managers = [no_manager(); 8];
+    let mut managers = [Manager::none(); 8];
+    let mut seen = [0u32; 192];
     for i in 0..timetable.len() {
         let level = timetable[i] as usize;
         let permit = tallies::ask(masks, tallies, level);
@@ -96,6 +66,7 @@ pub fn run(
             tallies,
             queue,
             work,
+            &mut seen,
             level,
             managers[level],
         );

@@ -10,6 +10,7 @@ use Rattle.session.specs.Limits.{names, maxMethods}
 use Rattle.session.specs.Lists.{select, tab}
 use Rattle.session.specs.Record.{Record, recordAt}
 use Rattle.session.specs.Parts.{stepRecords, levelCount, objectCount, stepCount, key, keyOf}
+use Rattle.session.specs.Meaning.{methodOf}
 
 -- these numbers are a session's
 pub record Counted (s : List ℕ) (levels objects steps : ℕ) : Type 0 where
@@ -37,3 +38,12 @@ methodStart s k = levelCount s + objectCount s + countBelow keyOf k (stepRecords
 -- where each method starts, by object and then name, and behind them where the last one ends
 unfoldable pub indexOf : List ℕ → List ℕ
 indexOf s = tab (maxMethods + 1) (λ i. methodStart s (key (i / names) (i % names)))
+
+-- where the steps of the method (object, name) stand: the record of the first, and how many there are
+pub record MethodAt (s : List ℕ) (object name start count : ℕ) : Type 0 where
+  pub start-is : start ≡ methodStart s (key object name)
+  pub count-is : count ≡ length (methodOf s object name)
+
+-- the steps of one of the session's methods stand there
+abbrev pub IsMethod : List ℕ → ℕ → ℕ → Type 0
+IsMethod s start count = (object : ℕ) × ((name : ℕ) × MethodAt s object name start count)

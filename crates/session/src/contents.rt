@@ -3,6 +3,7 @@
 // A run makes the level table and the method index once. With them each function below costs a few
 // reads: no record is searched for.
 use crate::Message;
+use crate::Method;
 use crate::Step;
 use crate::Value;
 use crate::Verdict;
@@ -11,13 +12,13 @@ use crate::levels;
 use crate::record;
 ghost use mathlib.Core.Path.{_≡_};
 ghost use mathlib.Core.List.{_++_};
-ghost use Prim.Native.Nat.{_+_, _≤_, _<_};
+ghost use Prim.Native.Nat.{ℕ, _+_, _≤_, _<_};
 ghost use lib.ListN.{length, drop};
 ghost use Rattle.session.specs.Limits.{maxLevels, maxMethods, names, fields};
 ghost use Rattle.session.specs.Parts.{levelCount, objectCount, stepCount, masksOf};
 ghost use Rattle.session.specs.Questions.{verdictOf};
 ghost use Rattle.session.specs.Meaning.{levelOf, fieldOf, stepAt, rootOf};
-ghost use Rattle.session.specs.Reading.{methodStart, indexOf};
+ghost use Rattle.session.specs.Reading.{methodStart, indexOf, MethodAt, IsMethod};
 
 // Writes the masks of the levels to the front of `masks`, and returns how many levels there are.
 pub fn level_table(session: &[u8], masks: &mut [u16]) -> usize
@@ -90,16 +91,26 @@ pub fn field_of(session: &[u8], masks: &[u16], object: usize, k: usize) -> Value
     }
 }
 
-// Step `j` of the method `name` of an object, or the script's end.
-pub fn step_of(session: &[u8], index: &[u16], object: usize, name: usize, j: usize) -> Step
+// Where the steps of the method `name` of an object stand. A run that keeps it reads the index once a
+// message.
+pub fn method_of(session: &[u8], index: &[u16], object: usize, name: usize) -> Method
     requires { ⌜ (verdictOf (now session) ≡ Verdict.Accepted) × (now index ≡ indexOf (now session)) × (object < objectCount (now session)) × (name < names) ⌝ }
-    ensures { λ r. ⌜ r ≡ stepAt (now (session .entry)) object name j ⌝ }
+    ensures { λ r. ⌜ MethodAt (now (session .entry)) object name (r .start) (r .count) ⌝ }
 {
     let slot = 16 * object + name;
-    let first = index[slot] as usize;
+    let start = index[slot] as usize;
     let end = index[slot + 1] as usize;
-    if j < end - first {
-        record::step_in(session, first + j)
+    let count = end - start;
+    Method { start, count }
+}
+
+// Step `j` of a method of which it is known where its steps stand, or the script's end.
+pub fn step_in_method(session: &[u8], start: usize, count: usize, j: usize) -> Step
+    requires { ⌜ (verdictOf (now session) ≡ Verdict.Accepted) × IsMethod (now session) start count ⌝ }
+    ensures { λ r. ⌜ ((object name : ℕ) → MethodAt (now (session .entry)) object name start count → r ≡ stepAt (now (session .entry)) object name j) ⌝ }
+{
+    if j < count {
+        record::step_in(session, start + j)
     } else {
         Step::End
     }

@@ -44,6 +44,12 @@ pub enum Step {
     Quit { a: u8 },
 }
 
+// Where the steps of a method stand: the record of the first, and how many there are.
+pub struct Method {
+    pub start: usize,
+    pub count: usize,
+}
+
 // How many levels, objects and script steps a session has. Its records stand in that order, the
 // root message last.
 pub struct Layout {

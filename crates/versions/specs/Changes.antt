@@ -3,9 +3,9 @@ use Prim.Native.Nat.{ℕ, _+_, _*_, _≤_}
 use mathlib.Core.Path.{_≡_}
 use mathlib.Core.List.{List, _∷_}
 use lib.ListN.{set, drop}
+use Rattle.words.specs.Outside.{Outside}
 use Rattle.model.specs.Limits.{workNumbers}
 use Rattle.model.specs.Level.{Version}
-use Rattle.rows.specs.Change.{Outside}
 use Rattle.versions.specs.Log.{maxVersions, logStart, firstOf, secondOf, logOf}
 
 -- two numbers stored at a place

@@ -7,7 +7,7 @@ use lib.ListN.{length, getD}
 use Rattle.session.specs.Limits.{maxLevels, fields}
 use Rattle.session.specs.declared.Value.{Value}
 use Rattle.session.specs.declared.Value.the-variants.{Nil, Number}
-use Rattle.managers.specs.Limits.{maxWrites}
+use Rattle.scripts.specs.Limits.{maxWrites}
 use Rattle.model.specs.Limits.{maxManagers, workNumbers}
 use Rattle.model.specs.Level.{Version}
 

@@ -14,8 +14,8 @@ use Rattle.model.specs.Limits.{resultBytes}
 use Rattle.model.specs.Result.{byNumber}
 use Rattle.model.specs.Entries.{Request, entryRefusal, untouched, deep, Answers}
 use Rattle.model.proofs.Laws.Reader.Answers.{passed, deep-is}
-use Rattle.records.proofs.Laws.Orders.{by-number-shown}
 use Rattle.records.specs.declared.Answer.{Answer}
+use Rattle.records.proofs.Laws.Orders.{by-number-shown}
 use Rattle.depth_first.specs.Runs.{Shown, Refused}
 
 module _ (s : List ℕ) (c : ℕ) (b : List ℕ) where

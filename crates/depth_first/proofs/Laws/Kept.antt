@@ -11,8 +11,10 @@ use Rattle.session.specs.Limits.{maxLevels, fields}
 use Rattle.session.specs.Parts.{levelCount, objectCount}
 use Rattle.session.specs.Program.{Program, programOf}
 use Rattle.session.specs.declared.Value.{Value}
-use Rattle.managers.specs.Limits.{maxForks}
-use Rattle.managers.specs.declared.Manager.{Manager}
+use Rattle.scripts.specs.Limits.{maxForks}
+use Rattle.scripts.specs.State.{Manager}
+use Rattle.scripts.specs.declared.Ended.{Ended}
+use Rattle.words.specs.Fields.{fieldAt, FieldSet}
 use Rattle.model.specs.Limits.{maxManagers}
 use Rattle.model.specs.Lists.{inserted}
 use Rattle.model.specs.Fork as model
@@ -20,10 +22,8 @@ use Rattle.model.specs.History as history
 use Rattle.model.specs.DepthFirst.{Written, Tally, Progress, newTally, tallyAt, current, fieldNow, close}
 use Rattle.model.proofs.Laws.Lists.{modify-length, modify-at, modify-other}
 use Rattle.model.proofs.Laws.Invariant.Measure.{inserted-length}
-use Rattle.records.specs.Fields.{fieldAt, FieldSet}
 use Rattle.records.specs.Histories.{historiesAt, historyOf, Added}
-use Rattle.records.specs.declared.Ended.{Ended}
-use Rattle.depth_first.specs.Kept.{Counted, Kept}
+use Rattle.depth_first.specs.Kept.{Counted, Kept, tallied}
 
 -- the fields after a write
 abbrev pub wrote : ℕ → ℕ → Value → Progress → Progress
@@ -67,10 +67,6 @@ kept-write s g c c' e t o k v q ho hk f =
     here o' k' a b (yes x) (yes y) = rw (x, y) (f .set ∙ sym (current-own (programOf s .field o k) o k v (g .written)))
     here o' k' a b (no x) d = other o' k' a b (λ z _. x z)
     here o' k' a b (yes x) (no y) = other o' k' a b (λ _ z. y z)
-
--- the counts after a manager has ended
-abbrev pub tallied : ℕ → ℕ → ℕ → List ℕ → List ℕ
-tallied l count next t = set (set t l count) (maxLevels + l) next
 
 tallied-count : (l count next : ℕ) (t : List ℕ) (j : ℕ) → l < maxLevels → j < maxLevels → 2 * maxLevels ≤ length t → getD (tallied l count next t) j 0 ≡ getD (set t l count) j 0
 tallied-count l count next t j hl hj r = getD-set-other (set t l count) (maxLevels + l) j next 0 (λ e. omega (arith, e))

@@ -14,9 +14,10 @@ use Rattle.session.specs.declared.Message.{Message}
 use Rattle.session.specs.declared.Verdict.the-variants.{Accepted}
 use Rattle.session.proofs.Laws.Accepted.{level-present, root-present}
 use Rattle.session.proofs.Laws.Contents.{level-limit}
+use Rattle.words.specs.Limits.{fieldWords}
+use Rattle.words.specs.Fields.{Filled}
 use Rattle.model.specs.DepthFirst.{newTally, tallyAt, current, fieldNow}
-use Rattle.records.specs.Limits.{fieldWords, historyWords}
-use Rattle.records.specs.Fields.{Filled}
+use Rattle.records.specs.Limits.{historyWords}
 use Rattle.records.specs.Histories.{historiesAt, InOrder}
 use Rattle.records.proofs.Laws.Histories.{histories-none}
 use Rattle.depth_first.specs.Kept.{Counted, Kept}

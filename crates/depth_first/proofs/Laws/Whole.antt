@@ -9,13 +9,13 @@ use Rattle.session.specs.Meaning.{levelOf, rootObject, rootOf}
 use Rattle.session.specs.Program.{Program, programOf}
 use Rattle.session.proofs.Laws.Accepted.{level-present, root-present, root-named}
 use Rattle.session.proofs.Laws.Contents.{level-limit, object-limit, masks-length}
+use Rattle.scripts.specs.declared.Ended.{Ended}
 use Rattle.model.specs.Limits.{maxManagers, resultBytes}
 use Rattle.model.specs.Fork as model
 use Rattle.model.specs.DepthFirst.{Progress, tallyAt, runFork, depthFirst}
 use Rattle.model.specs.Result.{resultOfDepthFirst}
 use Rattle.records.specs.Histories.{historiesAt, endedIn}
 use Rattle.records.specs.Writing.{resultIn, bytesIn, Ready, Written}
-use Rattle.records.specs.declared.Ended.{Ended}
 use Rattle.records.proofs.Laws.Depends.{bytes-depend-by-number}
 use Rattle.records.proofs.Laws.Written.{bytes-fit}
 use Rattle.depth_first.specs.Kept.{Read, Runnable, Same, Words, Says, RunDone}

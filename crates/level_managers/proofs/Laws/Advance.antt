@@ -12,11 +12,10 @@ use Rattle.session.specs.Questions.{verdictOf}
 use Rattle.session.specs.declared.Verdict.the-variants.{Accepted}
 use Rattle.session.specs.declared.Message.{Message}
 use Rattle.session.specs.declared.Value.{Value}
-use Rattle.managers.specs.Manager.{stepped}
-use Rattle.managers.specs.declared.Manager.{Manager}
-use Rattle.managers.specs.declared.Stepped.{Stepped}
-use Rattle.managers.specs.declared.Effect.{Effect}
-use Rattle.managers.specs.declared.Effect.the-variants as effect
+use Rattle.scripts.specs.Manager.{stepped}
+use Rattle.scripts.specs.State.{Manager, Stepped}
+use Rattle.scripts.specs.Effect.{Effect}
+use Rattle.scripts.specs.Effect as effect
 use Rattle.model.specs.Lists.{modify}
 use Rattle.model.specs.Fork.{Fork, childStamp, childOf}
 use Rattle.model.specs.Level.{Version, Activity, busy, Level, newLevel, arrived, after}

@@ -9,13 +9,13 @@ use lib.Seq.{getD-set-same, getD-set-other}
 use Rattle.session.specs.Limits.{maxLevels, fields}
 use Rattle.session.specs.Parts.{levelCount, objectCount}
 use Rattle.session.specs.Program.{programOf}
-use Rattle.managers.specs.declared.Manager.{Manager}
+use Rattle.scripts.specs.State.{Manager}
+use Rattle.words.specs.Fields.{fieldAt}
 use Rattle.model.specs.Limits.{maxManagers}
 use Rattle.model.specs.Lists.{inserted, modify}
 use Rattle.model.specs.Fork.{Fork}
 use Rattle.model.specs.Level.{Activity, idle, busy, Level, startedCount, arrived, newest}
 use Rattle.model.specs.Step.{State, levelAt}
-use Rattle.records.specs.Fields.{fieldAt}
 use Rattle.queues.specs.Queue.{forkOfRow, forksAt, ForksRise, Arrived}
 use Rattle.queues.proofs.Laws.Queue.{forks-length, fork-apart}
 use Rattle.level_managers.specs.Kept.{Words, nextPlace, waitingPlace, versionsPlace, busyPlace, Runs, LevelTold, Told}

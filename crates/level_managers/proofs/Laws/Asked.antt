@@ -18,7 +18,7 @@ use Rattle.session.specs.Parts.{levelCount, masksOf}
 use Rattle.session.specs.Program.{programOf}
 use Rattle.session.proofs.Laws.Lists.{holds, fails, truth}
 use Rattle.session.proofs.Laws.Numbering.{all-ext}
-use Rattle.managers.specs.declared.Manager.{Manager}
+use Rattle.scripts.specs.State.{Manager}
 use Rattle.model.specs.Fork.{Fork}
 use Rattle.model.specs.Level.{Activity, idle, busy, Level, isBusy, isEmpty, hasManager}
 use Rattle.model.specs.Step.{State, levelAt}

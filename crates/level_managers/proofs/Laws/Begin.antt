@@ -10,12 +10,12 @@ use lib.Seq.{getD-set-same, getD-set-other}
 use Rattle.session.specs.Limits.{maxLevels, fields}
 use Rattle.session.specs.Parts.{levelCount, objectCount}
 use Rattle.session.specs.Program.{programOf}
-use Rattle.managers.specs.declared.Manager.{Manager}
+use Rattle.scripts.specs.State.{Manager}
+use Rattle.words.specs.Fields.{fieldAt}
 use Rattle.model.specs.Lists.{modify}
 use Rattle.model.specs.Fork.{Fork}
 use Rattle.model.specs.Level.{idle, busy, Level, isBusy, startedCount, newest}
 use Rattle.model.specs.Step.{State, levelAt}
-use Rattle.records.specs.Fields.{fieldAt}
 use Rattle.queues.specs.Queue.{forkAt, forksAt, ForksRise}
 use Rattle.queues.proofs.Laws.Queue.{forks-first, rises-behind}
 use Rattle.level_managers.specs.Kept.{Words, nextPlace, waitingPlace, versionsPlace, busyPlace, tallyNumbers, LevelTold, Told, placed}

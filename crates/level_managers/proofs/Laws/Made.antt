@@ -9,37 +9,35 @@ use lib.Seq.{getD-set-other, set-getD}
 use Rattle.lattice.proofs.Laws.Range.{not-both}
 use Rattle.session.specs.Limits.{maxLevels}
 use Rattle.session.specs.Parts.{levelCount}
-use Rattle.session.specs.Program.{programOf}
+use Rattle.session.specs.Program.{Program, programOf}
 use Rattle.session.specs.Questions.{verdictOf}
 use Rattle.session.specs.declared.Verdict.the-variants.{Accepted}
 use Rattle.session.specs.declared.Value.{Value}
 use Rattle.session.specs.declared.Message.{Message}
 use Rattle.session.proofs.Laws.Contents.{level-limit, object-limit}
-use Rattle.managers.specs.Limits.{maxFrames}
-use Rattle.managers.specs.Manager.{isRunning, top, started, stepped}
-use Rattle.managers.specs.Asked.{askedOf, AskedPresent, Sees}
-use Rattle.managers.specs.Valid.{Indexed, Known, Startable, Ready}
-use Rattle.managers.specs.declared.Manager.{Manager}
-use Rattle.managers.specs.declared.Stepped.{Stepped}
-use Rattle.managers.specs.declared.Effect.{Effect}
-use Rattle.managers.specs.declared.Effect.the-variants as effect
-use Rattle.managers.specs.declared.Ask.{Ask}
-use Rattle.managers.specs.declared.Ask.the-variants as ask
-use Rattle.managers.proofs.Laws.Accepted.{asked-present}
-use Rattle.managers.proofs.Laws.Step.{ready-low, ready-height, ready-known}
+use Rattle.scripts.specs.Ending.{isRunning}
+use Rattle.scripts.specs.Effect.{Effect}
+use Rattle.scripts.specs.Effect as effect
+use Rattle.scripts.specs.State.{Frame, Manager, Stepped}
+use Rattle.scripts.specs.Manager.{started, stepped}
+use Rattle.scripts.specs.Valid.{Indexed, Startable}
+use Rattle.scripts.specs.declared.Ended.{Ended}
+use Rattle.scripts.proofs.Laws.Counts.{counts, grown, oneMore, stepped-counts}
+use Rattle.managers.specs.Core.{bare, managerOf, effectOf, steppedOf}
+use Rattle.managers.specs.Steps.{Held, keptOf}
+use Rattle.managers.specs.declared.Core.{Core}
+use Rattle.managers.specs.declared.Manager as code
 use Rattle.model.specs.Fork.{Fork, childStamp}
 use Rattle.model.specs.Level.{idle, busy, hasManager}
 use Rattle.model.specs.Step.{State, levelAt, readAt}
 use Rattle.model.proofs.Laws.Code.Live.{Live}
-use Rattle.model.proofs.Laws.Code.Needs.{live-runs}
 use Rattle.model.proofs.Laws.Code.Progress.{allowed}
 use Rattle.records.specs.Histories.{HistoryIs, HistoryRoom, Added}
-use Rattle.records.specs.declared.Ended.{Ended}
 use Rattle.queues.specs.Queue.{forksAt, isDropped, ChildRow, Arrived}
 use Rattle.queues.proofs.Laws.Queue.{dropped-arrives}
 use Rattle.queues.proofs.Laws.Row.{Fits, row-there}
 use Rattle.level_managers.specs.Kept.{Words, nextPlace, waitingPlace, busyPlace, tallyNumbers}
-use Rattle.level_managers.specs.Steps.{Read, Busy, IsBusy, runningFork, SeenIs, WriteReady, Wrote, startedOf, ForkReady, Forked, EffectReady, Parts, EffectDone, SettleReady, Settled, begunTallies, StartReady, Started, Stepping, MayStep, StepDone}
+use Rattle.level_managers.specs.Steps.{Read, Busy, runningFork, WriteReady, Wrote, startedOf, ForkReady, Forked, EffectReady, Parts, EffectDone, forksAfter, PerformReady, Performed, SettleReady, Settled, CoreSettled, begunTallies, StartReady, Started, Blank, RunsAt, ScriptStep, Stepping, MayStep, StepDone}
 use Rattle.level_managers.proofs.Laws.Ready.{told-rests, told-runs, waits-some, start-ready, busy-settles, effect-ready, settle-after}
 use Rattle.level_managers.proofs.Laws.Step.{says-live, manager-is, says-start, says-advance, rest-effect}
 
@@ -70,46 +68,112 @@ module _ (tallies queue : List ℕ) (l forks u depth stamp : ℕ) (deep : (n : �
         tallies-are = sym (set-getD tallies (waitingPlace u) 0);
       }
 
--- an effect asks for what its kind asks for, and is done where that is
-module _ (a : Parts) (l stamp forks : ℕ) (e : Effect) where
-  pub effect-nothing : e ≡ effect.Nothing → EffectDone a a l stamp forks e
-  effect-nothing is = rw is refl
+-- what a step did outside its manager asks for what its kind asks for, and is done where that is
+module _ (a : Parts) (l first forks : ℕ) (e : Effect) where
+  pub performed-nothing : e ≡ effect.Nothing → Performed a a l first forks e
+  performed-nothing is made counted = rw is refl
 
   module _ (object k : ℕ) (v : Value) (is : e ≡ effect.Write object k v) where
-    pub write-ready : EffectReady (a .current) (a .tallies) (a .queue) (a .work) l forks e → WriteReady (a .current) (a .tallies) (a .work) l object k
-    write-ready ready = rw is at ready
+    pub write-ready : PerformReady (a .current) (a .tallies) (a .queue) (a .work) l first forks e → WriteReady (a .current) (a .tallies) (a .work) l object k
+    write-ready ready = let z : EffectReady (a .current) (a .tallies) (a .queue) (a .work) l (ready .made) (effect.Write object k v) = rw is at (ready .ready) in z
 
-    pub effect-write : (current' tallies' work' : List ℕ) → Wrote (a .current) current' (a .tallies) tallies' (a .work) work' l stamp object k v → EffectDone a (record { current = current'; tallies = tallies'; queue = a .queue; work = work' }) l stamp forks e
-    effect-write current' tallies' work' w = rw is (w, refl)
+    -- no fork is made: the write stamp is that of now
+    pub performed-write : (current' tallies' work' : List ℕ) → Wrote (a .current) current' (a .tallies) tallies' (a .work) work' l (first + forks) object k v → Performed a (record { current = current'; tallies = tallies'; queue = a .queue; work = work' }) l first forks e
+    performed-write current' tallies' work' w made counted =
+        let same : forks ≡ made = rw is at counted in
+        rw (is, sym same) (w, refl)
 
   module _ (u : ℕ) (message : Message) (is : e ≡ effect.Fork u message) where
-    pub fork-ready : EffectReady (a .current) (a .tallies) (a .queue) (a .work) l forks e → ForkReady (a .tallies) (a .queue) l forks u
-    fork-ready ready = rw is at ready
+    before : (made : ℕ) → forks ≡ forksAfter e made → forks - 1 ≡ made
+    before made counted = let one : forks ≡ made + 1 = rw is at counted in omega (arith, one)
 
-    pub effect-fork : (tallies' queue' : List ℕ) → Forked (a .tallies) tallies' (a .queue) queue' l stamp forks u message → EffectDone a (record { current = a .current; tallies = tallies'; queue = queue'; work = a .work }) l stamp forks e
-    effect-fork tallies' queue' f = rw is (f, (refl, refl))
+    pub forks-some : PerformReady (a .current) (a .tallies) (a .queue) (a .work) l first forks e → 0 < forks
+    forks-some ready = let one : forks ≡ ready .made + 1 = rw is at (ready .forks-are) in omega (arith, one)
 
--- a manager that runs on leaves all as it was; of one that has ended the history is kept
-module _ (ended tallies queue : List ℕ) (l : ℕ) (m : Manager) where
-  pub settled-on : isRunning (m .ending) ≡ true → Settled ended ended tallies tallies queue l m
-  settled-on e = (λ _. (refl, refl), λ q. absurd (not-both (isRunning (m .ending)) e q))
+    pub fork-ready : PerformReady (a .current) (a .tallies) (a .queue) (a .work) l first forks e → ForkReady (a .tallies) (a .queue) l (forks - 1) u
+    fork-ready ready =
+        let z : EffectReady (a .current) (a .tallies) (a .queue) (a .work) l (ready .made) (effect.Fork u message) = rw is at (ready .ready) in
+        rw (before (ready .made) (ready .forks-are)) z
 
-  module _ (stamp : ℕ) (h : Ended) (over : isRunning (m .ending) ≡ false) (stamped : (n : ℕ) → runningFork n tallies queue l .stamp ≡ stamp) (is : HistoryIs stamp m h) where
-    pub history-room : SettleReady ended tallies queue l → HistoryRoom ended l (getD tallies l 0) h
-    history-room r =
+    -- the fork is the last of those made: it carries the write stamp before it
+    pub performed-fork : (tallies' queue' : List ℕ) → Forked (a .tallies) tallies' (a .queue) queue' l (first + (forks - 1)) (forks - 1) u message → Performed a (record { current = a .current; tallies = tallies'; queue = queue'; work = a .work }) l first forks e
+    performed-fork tallies' queue' f made counted =
+        let q : Forked (a .tallies) tallies' (a .queue) queue' l (first + made) made u message = rw (before made counted) at f in
+        rw is (q, (refl, refl))
+
+-- the step of manager n that gave r: its forks are counted
+module _ (p : Program) (read : ℕ → ℕ → Value) (n : Manager) (r : code.Manager) (made : stepped p read n ≡ steppedOf r) where
+  abbrev e : Effect
+  e = effectOf (r .core .effect)
+
+  grew : counts (managerOf r) ≡ oneMore (grown (counts n) e)
+  grew =
+      ap (λ d. counts (d .manager)) (sym made)
+      ∙ stepped-counts p read n
+      ∙ ap (λ d. oneMore (grown (counts n) (d .effect))) made
+
+  forks-are : r .core .forks ≡ forksAfter e (n .forks)
+  unfolding managerOf
+  forks-are = ap (λ c. c .forks) grew ∙ by e
+    where
+      by : (e : Effect) → oneMore (grown (counts n) e) .forks ≡ forksAfter e (n .forks)
+      by effect.Nothing = refl
+      by (effect.Write object k v) = refl
+      by (effect.Fork u message) = refl
+
+  pub first-is : r .core .first ≡ n .first
+  unfolding managerOf
+  first-is = ap (λ c. c .first) grew ∙ by e
+    where
+      by : (e : Effect) → oneMore (grown (counts n) e) .first ≡ n .first
+      by effect.Nothing = refl
+      by (effect.Write object k v) = refl
+      by (effect.Fork u message) = refl
+
+  -- what it did outside can be done where the definition's effect can, and then is what that does
+  pub performs : (current tallies queue work : List ℕ) (l : ℕ) → EffectReady current tallies queue work l (n .forks) e → r .core .first + r .core .forks < 2 ^ 16 → PerformReady current tallies queue work l (r .core .first) (r .core .forks) e
+  performs current tallies queue work l ready fits = record { made = n .forks; forks-are = forks-are; ready = ready; fits = fits }
+
+  pub performed : (a b : Parts) (l : ℕ) → n .stamp ≡ n .first + n .forks → Performed a b l (r .core .first) (r .core .forks) e → EffectDone a b l (n .stamp) (n .forks) e
+  performed a b l stamped done = rw (stamped, sym first-is) (done (n .forks) forks-are)
+
+-- a manager that runs on leaves all as it was
+pub settled-on : (ended tallies queue : List ℕ) (l : ℕ) (m : Manager) → isRunning (m .ending) ≡ true → Settled ended ended tallies tallies queue l m
+settled-on ended tallies queue l m e = (λ _. (refl, refl), λ q. absurd (not-both (isRunning (m .ending)) e q))
+
+-- so does one of the code's; of one that has ended the history is kept
+module _ (ended tallies queue : List ℕ) (l : ℕ) (c : Core) where
+  pub core-on : isRunning (c .ending) ≡ true → CoreSettled ended ended tallies tallies queue l c
+  core-on e fs = settled-on ended tallies queue l (bare c fs) e
+
+  module _ (stamp : ℕ) (h : Ended) (over : isRunning (c .ending) ≡ false) (stamped : (n : ℕ) → runningFork n tallies queue l .stamp ≡ stamp) (is : h ≡ keptOf c stamp) where
+    kept-is : (fs : List Frame) → HistoryIs stamp (bare c fs) h
+    kept-is fs x e = rw (is, sym e) refl
+
+    pub core-room : SettleReady ended tallies queue l → HistoryRoom ended l (getD tallies l 0) h
+    core-room r =
         record {
           room = r .histories;
           level = r .there .level;
           more = r .there .placed;
           rises = r .rises;
-          ended = ap (λ h. isRunning (h .ending)) (is (runningFork 0 tallies queue l) (stamped 0)) ∙ over;
+          ended = ap (λ h. isRunning (h .ending)) is ∙ over;
         }
 
-    pub settled-off : (ended' : List ℕ) → Added ended ended' l (getD tallies l 0) h → Settled ended ended' tallies (set (set (set tallies l (getD tallies l 0 + 1)) (nextPlace l) (m .stamp + 1)) (busyPlace l) 0) queue l m
-    settled-off ended' added = (
-      λ e. absurd (not-both (isRunning (m .ending)) e over),
-      λ _. record { history = h; history-is = rw (stamped 0) is; added = added; tallies-are = refl },
-    )
+    pub core-off : (ended' : List ℕ) → Added ended ended' l (getD tallies l 0) h → CoreSettled ended ended' tallies (set (set (set tallies l (getD tallies l 0 + 1)) (nextPlace l) (h .last + 1)) (busyPlace l) 0) queue l c
+    core-off ended' added fs =
+        let last : h .last ≡ c .first + c .forks = ap (λ h. h .last) is in (
+          λ e. absurd (not-both (isRunning (c .ending)) e over),
+          λ _. record { history = h; history-is = rw (stamped 0) (kept-is fs); added = added; tallies-are = rw last refl },
+        )
+
+pub settled-of : {ended ended' tallies tallies' queue : List ℕ} {l : ℕ} (m : code.Manager) → CoreSettled ended ended' tallies tallies' queue l (m .core) → Settled ended ended' tallies tallies' queue l (managerOf m)
+unfolding managerOf
+settled-of m z = z _
+
+-- a manager's write stamp fits 16 bits
+pub held-fits : {s : List ℕ} {m : code.Manager} → Held s m → m .core .first + m .core .forks < 2 ^ 16
+held-fits h = omega (arith, h .forked, h .fits)
 
 -- the fork that starts, with the message that was read of it. That it starts leaves room for its history
 module _ (s index ended tallies queue : List ℕ) (l : ℕ) (message : Message) (r : StartReady s index ended tallies queue l) (is : (n : ℕ) → runningFork n tallies queue l .message ≡ message) where
@@ -132,16 +196,11 @@ module _ (s index ended tallies queue : List ℕ) (l : ℕ) (message : Message) 
   pub begun : (ended' tallies' : List ℕ) (m : Manager) → m ≡ started (programOf s) l (getD tallies (nextPlace l) 0) message → Settled ended ended' (begunTallies tallies l) tallies' queue l m → Started s ended ended' tallies tallies' queue l m
   begun ended' tallies' m made settled = record { manager = rw (is 0) made; settled = settled }
 
--- what was seen is what the definition reads
-sees-read : (s : List ℕ) (w : Words) (l : ℕ) (k : Ask) (seen : Value) → SeenIs s w l k seen → (ms : ℕ → Manager) (st : State) (x : Fork) (m : Manager) → Busy s w l ms st x m → Sees (readAt (programOf s) st l x) k seen
-sees-read s w l ask.Nothing seen h ms st x m b = tt
-sees-read s w l (ask.Field object k) seen h ms st x m b = h ms st x m b
-
 abbrev accepted : {s masks index : List ℕ} → Read s masks index → verdictOf s ≡ Accepted
 accepted a = a .indexed .accepted
 
 -- a step at level l, which may make one; m is the manager that runs there, if one does
-module _ (s masks index : List ℕ) (w : Words) (l : ℕ) (m : Manager) (a : Read s masks index) where
+module _ (s masks index : List ℕ) (w : Words) (l : ℕ) (m : code.Manager) (a : Read s masks index) where
   abbrev few : levelCount s ≤ maxLevels
   few = level-limit s (accepted a)
 
@@ -166,21 +225,23 @@ module _ (s masks index : List ℕ) (w : Words) (l : ℕ) (m : Manager) (a : Rea
     start-here (ms, (st, q)) =
         start-ready s (accepted a) few (object-limit s (accepted a)) w ms st (q .says .told) (says-live s (accepted a) w ms st (q .says)) l (placed-here ms st q) index (a .indexed) (rests-here ms st q) (has-here ms st q)
 
-    pub start-done : (ended' tallies' : List ℕ) (r : Manager) → Started s (w .ended) ended' (w .tallies) tallies' (w .queue) l r → StepDone s l m w (record { current = w .current; ended = ended'; tallies = tallies'; queue = w .queue; work = w .work }) r
-    start-done ended' tallies' r d =
+    pub start-done : (seen ended' tallies' : List ℕ) (r : code.Manager) → Blank seen → Started s (w .ended) ended' (w .tallies) tallies' (w .queue) l (managerOf r) × Held s r → StepDone s l m w (record { current = w .current; ended = ended'; tallies = tallies'; queue = w .queue; work = w .work }) seen r
+    start-done seen ended' tallies' r blank (d, held) =
         record {
-          says = λ ms st q. let (x, (xs, e)) = waits-some (levelAt st l) (has-here ms st q) (rests-here ms st q) in says-start s (accepted a) few w ms st (q .says) l (placed-here ms st q) (q .allowed) x xs (rests-here ms st q) e ended' tallies' r d;
-          manager = λ ms st q. rw (rests-here ms st q) (λ x xs e. manager-is s (accepted a) few w ms st (q .says) l (placed-here ms st q) (q .allowed) x xs (rests-here ms st q) e ended' tallies' r d);
+          says = λ ms st q. let (x, (xs, e)) = waits-some (levelAt st l) (has-here ms st q) (rests-here ms st q) in says-start s (accepted a) few w ms st (q .says) l (placed-here ms st q) (q .allowed) x xs (rests-here ms st q) e ended' tallies' (managerOf r) d;
+          manager = λ ms st q. rw (rests-here ms st q) (λ x xs e. manager-is s (accepted a) few w ms st (q .says) l (placed-here ms st q) (q .allowed) x xs (rests-here ms st q) e ended' tallies' (managerOf r) d);
+          held = held;
+          blank = blank;
           rest = refl;
         }
 
 -- m runs at level l, and makes a script step
-pub record Advancing (s masks index : List ℕ) (w : Words) (l : ℕ) (m : Manager) : Type 0 where
+pub record Advancing (s masks index : List ℕ) (w : Words) (l : ℕ) (m : code.Manager) : Type 0 where
   pub read : Read s masks index
   pub may : MayStep s w l m
   pub runs : getD (w .tallies) (busyPlace l) 0 ≡ 0 → ⊥
 
-module _ {s masks index : List ℕ} {w : Words} {l : ℕ} {m : Manager} (a : Advancing s masks index w l m) where
+module _ {s masks index : List ℕ} {w : Words} {l : ℕ} {m : code.Manager} (a : Advancing s masks index w l m) where
   abbrev ms₀ : ℕ → Manager
   ms₀ = a .may .0
 
@@ -188,7 +249,7 @@ module _ {s masks index : List ℕ} {w : Words} {l : ℕ} {m : Manager} (a : Adv
   st₀ = a .may .1 .0
 
   -- in any state that the words say it is m that runs there
-  runs-here : (ms : ℕ → Manager) (st : State) → Stepping s w l m ms st → (x : Fork) × Busy s w l ms st x m
+  runs-here : (ms : ℕ → Manager) (st : State) → Stepping s w l m ms st → (x : Fork) × Busy s w l ms st x (managerOf m)
   runs-here ms st q =
       let h = placed-here s masks index w l m (a .read) ms st q in
       let r = told-runs (levelCount s) w l (ms l) (levelAt st l) (q .says .told .level l h) (a .runs) in
@@ -197,72 +258,61 @@ module _ {s masks index : List ℕ} {w : Words} {l : ℕ} {m : Manager} (a : Adv
   x₀ : Fork
   x₀ = runs-here ms₀ st₀ (a .may .1 .1) .0
 
-  busy₀ : Busy s w l ms₀ st₀ x₀ m
+  busy₀ : Busy s w l ms₀ st₀ x₀ (managerOf m)
   unfolding x₀
   busy₀ = runs-here ms₀ st₀ (a .may .1 .1) .1
 
-  pub busy-here : IsBusy s w l
-  busy-here = (ms₀, (st₀, (x₀, (m, busy₀))))
+  pub busy-here : RunsAt s w l m
+  busy-here = record { running = ms₀; state = st₀; fork = x₀; busy = busy₀ }
 
   live₀ : Live s st₀
   live₀ = says-live s (accepted (a .read)) w ms₀ st₀ (busy₀ .says)
 
-  pub ready-here : Ready s masks index m
-  ready-here =
-      let r = live-runs s (accepted (a .read)) st₀ live₀ l (busy₀ .present) x₀ m (busy₀ .runs) in
-      record { indexed = a .read .indexed; leveled = a .read .leveled; valid = r .0; running = r .1 .1 }
-
-  -- its top frame is there, and what that asks is present
-  pub low-here : 0 < m .height
-  low-here = ready-low s masks index m ready-here
-
-  pub height-here : m .height - 1 < maxFrames
-  height-here = omega (arith, low-here, ready-height s masks index m ready-here)
-
-  pub known-here : Indexed s index × Known s (top m)
-  known-here = (a .read .indexed, ready-known s masks index m ready-here)
-
-  pub asks-here : (k : Ask) → k ≡ askedOf (programOf s) (top m) → AskedPresent s k
-  asks-here k is = rw is (asked-present s (accepted (a .read)) (top m) (known-here .1))
+  -- its write stamp is counted by its forks
+  stamped₀ : managerOf m .stamp ≡ managerOf m .first + managerOf m .forks
+  unfolding managerOf
+  stamped₀ = refl
 
   settles₀ : SettleReady (w .ended) (w .tallies) (w .queue) l
   settles₀ =
-      busy-settles s (accepted (a .read)) (level-limit s (accepted (a .read))) (object-limit s (accepted (a .read))) w ms₀ st₀ (busy₀ .says .told) live₀ l (busy₀ .present) x₀ m (busy₀ .runs)
-
--- the script step gave n, whatever state the words say
-pub record Made (s masks index : List ℕ) (w : Words) (l : ℕ) (m : Manager) (n : Stepped) : Type 0 where
-  pub advancing : Advancing s masks index w l m
-  pub is : (ms : ℕ → Manager) (st : State) (x : Fork) → Busy s w l ms st x m → stepped (programOf s) (readAt (programOf s) st l x) m ≡ n
-
-pub made-here : {s masks index : List ℕ} {w : Words} {l : ℕ} {m : Manager} → Advancing s masks index w l m → (k : Ask) (seen : Value) (n : Stepped) → k ≡ askedOf (programOf s) (top m) → SeenIs s w l k seen → ((read : ℕ → ℕ → Value) → Sees read (askedOf (programOf s) (top m)) seen → n ≡ stepped (programOf s) read m) → Made s masks index w l m n
-made-here {s} {masks} {index} {w} {l} {m} a k seen n is sees made =
-    let h : SeenIs s w l (askedOf (programOf s) (top m)) seen = rw is at sees in
-    record {
-      advancing = a;
-      is = λ ms st x b. sym (made (readAt (programOf s) st l x) (sees-read s w l (askedOf (programOf s) (top m)) seen h ms st x m b));
-    }
+      busy-settles s (accepted (a .read)) (level-limit s (accepted (a .read))) (object-limit s (accepted (a .read))) w ms₀ st₀ (busy₀ .says .told) live₀ l (busy₀ .present) x₀ (managerOf m) (busy₀ .runs)
 
 abbrev pub partsOf : Words → Parts
 partsOf w = record { current = w .current; tallies = w .tallies; queue = w .queue; work = w .work }
 
--- so its effect can be made, then its history kept; the words then say the state after the step
-module _ {s masks index : List ℕ} {w : Words} {l : ℕ} {m : Manager} {n : Stepped} (a : Made s masks index w l m n) where
-  pub effect-here : EffectReady (w .current) (w .tallies) (w .queue) (w .work) l (m .forks) (n .effect)
-  effect-here =
-      let v = a .advancing in
+-- the script step gave r: so its effect can be made, then its history kept; the words then say the state after the step
+module _ {s masks index : List ℕ} {w : Words} {l : ℕ} {seen' : List ℕ} {m r : code.Manager} (v : Advancing s masks index w l m) (made : ScriptStep s w l seen' m r) where
+  abbrev n : Stepped
+  n = steppedOf r
+
+  step₀ : stepped (programOf s) (readAt (programOf s) (st₀ v) l (x₀ v)) (managerOf m) ≡ n
+  step₀ = made .is (ms₀ v) (st₀ v) (x₀ v) (busy₀ v)
+
+  pub perform-here : PerformReady (w .current) (w .tallies) (w .queue) (w .work) l (r .core .first) (r .core .forks) (effectOf (r .core .effect))
+  perform-here =
       let yes = accepted (v .read) in
-      effect-ready s yes (level-limit s yes) (object-limit s yes) w (ms₀ v) (st₀ v) (busy₀ v .says .told) (live₀ v) l (busy₀ v .present) (x₀ v) m (busy₀ v .runs) (readAt (programOf s) (st₀ v) l (x₀ v)) (n .effect) (ap (λ n. n .effect) (a .is (ms₀ v) (st₀ v) (x₀ v) (busy₀ v)))
+      performs (programOf s) (readAt (programOf s) (st₀ v) l (x₀ v)) (managerOf m) r step₀ (w .current) (w .tallies) (w .queue) (w .work) l
+      (effect-ready s yes (level-limit s yes) (object-limit s yes) w (ms₀ v) (st₀ v) (busy₀ v .says .told) (live₀ v) l (busy₀ v .present) (x₀ v) (managerOf m) (busy₀ v .runs) (readAt (programOf s) (st₀ v) l (x₀ v)) (n .effect) (ap (λ n. n .effect) step₀))
+      (held-fits (made .held))
 
-  module _ (p : Parts) (d : EffectDone (partsOf w) p l (m .stamp) (m .forks) (n .effect)) where
-    pub settle-here : SettleReady (w .ended) (p .tallies) (p .queue) l
-    settle-here =
-        settle-after (partsOf w) p (w .ended) l (m .stamp) (m .forks) (n .effect) d (settles₀ (a .advancing))
+  module _ (p : Parts) (d : Performed (partsOf w) p l (r .core .first) (r .core .forks) (effectOf (r .core .effect))) where
+    done : EffectDone (partsOf w) p l (managerOf m .stamp) (managerOf m .forks) (n .effect)
+    done =
+        performed (programOf s) (readAt (programOf s) (st₀ v) l (x₀ v)) (managerOf m) r step₀ (partsOf w) p l (stamped₀ v) d
 
-    pub advance-done : (ended' tallies' : List ℕ) → Settled (w .ended) ended' (p .tallies) tallies' (p .queue) l (n .manager) → StepDone s l m w (record { current = p .current; ended = ended'; tallies = tallies'; queue = p .queue; work = p .work }) (n .manager)
+    pub settle-here : SettleReady (w .ended) (p .tallies) (p .queue) l × (r .core .first + r .core .forks < 2 ^ 16)
+    settle-here = (
+      settle-after (partsOf w) p (w .ended) l (managerOf m .stamp) (managerOf m .forks) (n .effect) done (settles₀ v),
+      held-fits (made .held),
+    )
+
+    pub advance-done : (ended' tallies' : List ℕ) → CoreSettled (w .ended) ended' (p .tallies) tallies' (p .queue) l (r .core) → StepDone s l m w (record { current = p .current; ended = ended'; tallies = tallies'; queue = p .queue; work = p .work }) seen' r
     advance-done ended' tallies' settled =
-        let yes = accepted (a .advancing .read) in
+        let yes = accepted (v .read) in
         record {
-          says = λ ms st q. let (x, b) = runs-here (a .advancing) ms st q in says-advance s yes (level-limit s yes) w ms st (q .says) l (b .present) (q .allowed) x m (b .runs) n (a .is ms st x b) p ended' tallies' d settled;
-          manager = λ ms st q. let (x, b) = runs-here (a .advancing) ms st q in rw (b .runs) (sym (ap (λ n. n .manager) (a .is ms st x b)));
-          rest = rest-effect (partsOf w) p l (m .stamp) (m .forks) (n .effect) d;
+          says = λ ms st q. let (x, b) = runs-here v ms st q in says-advance s yes (level-limit s yes) w ms st (q .says) l (b .present) (q .allowed) x (managerOf m) (b .runs) n (made .is ms st x b) p ended' tallies' done (settled-of r settled);
+          manager = λ ms st q. let (x, b) = runs-here v ms st q in rw (b .runs) (sym (ap (λ n. n .manager) (made .is ms st x b)));
+          held = made .held;
+          blank = made .blank;
+          rest = rest-effect (partsOf w) p l (managerOf m .stamp) (managerOf m .forks) (n .effect) done;
         }

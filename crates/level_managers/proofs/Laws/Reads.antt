@@ -15,8 +15,9 @@ use Rattle.session.specs.Program.{programOf}
 use Rattle.session.specs.declared.Value.{Value}
 use Rattle.session.proofs.Laws.Accepted.{level-present}
 use Rattle.session.proofs.Laws.Contents.{level-limit, object-limit}
-use Rattle.managers.specs.Valid.{Leveled}
-use Rattle.managers.specs.declared.Manager.{Manager}
+use Rattle.scripts.specs.Valid.{Leveled}
+use Rattle.scripts.specs.State.{Manager}
+use Rattle.words.specs.Fields.{fieldAt, FieldThere}
 use Rattle.model.specs.Fork.{Fork}
 use Rattle.model.specs.History.{History, endBefore}
 use Rattle.model.specs.Level.{Version, newestTo}
@@ -24,7 +25,6 @@ use Rattle.model.specs.Step.{State, levelAt, readBound, readAt}
 use Rattle.model.proofs.Laws.Safe.Reads.{read-own, read-below}
 use Rattle.model.proofs.Laws.Code.Live.{Live}
 use Rattle.model.proofs.Laws.Code.Needs.{live-ends, live-versions, live-falling}
-use Rattle.records.specs.Fields.{fieldAt, FieldThere}
 use Rattle.records.specs.Histories.{historiesAt}
 use Rattle.versions.specs.Log.{maxVersions, logStart, logOf, Within}
 use Rattle.versions.specs.Order.{StampsRise}
@@ -108,6 +108,11 @@ module _ {s masks : List ℕ} (a : Leveled s masks) {w : Words} {l : ℕ} {ms : 
       let h = level-present s (a .accepted) o there in
       versions-there a b h 0 (omega arith) .fits
 
+-- at its level a manager reads the current fields
+pub read-here : {s : List ℕ} {w : Words} {l : ℕ} {ms : ℕ → Manager} {st : State} {x : Fork} {m : Manager} → Busy s w l ms st x m → (o k : ℕ) → o < objectCount s → k < fields → levelOf s o ≡ l → readAt (programOf s) st l x o k ≡ fieldAt (w .current) o k
+unfolding programOf
+read-here {s} {w} {l} {ms} {st} {x} b o k ho hk e = read-own (programOf s) st l x o k e ∙ sym (b .says .told .field o k ho hk)
+
 -- a read of field k of object o, which lies at level j
 module _ {s masks : List ℕ} (a : Leveled s masks) {w : Words} {l : ℕ} (q : IsBusy s w l) {o k : ℕ} (here : (o < objectCount s) × (k < fields)) {j : ℕ} (lies : j ≡ levelOf s o) where
   placed : j < levelCount s
@@ -131,9 +136,7 @@ module _ {s masks : List ℕ} (a : Leveled s masks) {w : Words} {l : ℕ} (q : I
 
   -- at the manager's level it is the current field
   pub read-current : {r : Value} → j ≡ l → r ≡ fieldAt (w .current) o k → ReadIs s w l o k r
-  unfolding programOf
-  read-current e is ms st x m b =
-      read-own (programOf s) st l x o k (sym lies ∙ e) ∙ sym (b .says .told .field o k (here .0) (here .1)) ∙ sym is
+  read-current e is ms st x m b = read-here b o k (here .0) (here .1) (sym lies ∙ e) ∙ sym is
 
   -- below, the newest version up to the bound
   pub read-version : {bound : ℕ} {initial r : Value} → (j ≡ l → ⊥) → ((n : ℕ) → j < n → boundIn n (w .ended) (w .tallies) (w .queue) l j ≡ bound) → initial ≡ fieldOf s o k → r ≡ newestTo bound initial o k (logOf (w .work) (logStart j) (getD (w .tallies) (versionsPlace j) 0)) → ReadIs s w l o k r

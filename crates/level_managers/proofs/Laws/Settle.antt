@@ -12,8 +12,9 @@ use Rattle.session.specs.Limits.{maxLevels, fields}
 use Rattle.session.specs.Parts.{levelCount, objectCount}
 use Rattle.session.specs.Program.{programOf}
 use Rattle.session.proofs.Laws.Lists.{holds, fails, truth}
-use Rattle.managers.specs.Manager.{isRunning}
-use Rattle.managers.specs.declared.Manager.{Manager}
+use Rattle.scripts.specs.Ending.{isRunning}
+use Rattle.scripts.specs.State.{Manager}
+use Rattle.words.specs.Fields.{fieldAt}
 use Rattle.model.specs.Limits.{maxManagers}
 use Rattle.model.specs.Lists.{inserted, modify}
 use Rattle.model.specs.Fork.{Fork}
@@ -21,7 +22,6 @@ use Rattle.model.specs.History as history
 use Rattle.model.specs.Level.{Activity, idle, busy, Level, isBusy, startedCount, after, newest}
 use Rattle.model.specs.Step.{State, levelAt}
 use Rattle.model.proofs.Laws.Invariant.Measure.{inserted-length}
-use Rattle.records.specs.Fields.{fieldAt}
 use Rattle.records.specs.Histories.{historiesAt, InOrder, historyOf}
 use Rattle.queues.specs.Queue.{forkOfRow, forkAt, forksAt}
 use Rattle.level_managers.specs.Kept.{Words, nextPlace, waitingPlace, versionsPlace, busyPlace, tallyNumbers, Runs, LevelTold, Told, placed}

@@ -10,14 +10,14 @@ use Rattle.lattice.proofs.Laws.Range.{not-both}
 use Rattle.session.specs.Limits.{maxLevels, fields}
 use Rattle.session.specs.Parts.{levelCount, objectCount}
 use Rattle.session.specs.Program.{programOf}
-use Rattle.managers.specs.declared.Manager.{Manager}
+use Rattle.scripts.specs.State.{Manager}
+use Rattle.words.specs.Fields.{fieldAt}
 use Rattle.model.specs.Limits.{maxManagers}
 use Rattle.model.specs.Lists.{modify}
 use Rattle.model.specs.Fork.{Fork}
 use Rattle.model.specs.Level.{Activity, idle, busy, Level, newLevel, isBusy, startedCount, newest}
 use Rattle.model.specs.Step.{State, levelAt}
 use Rattle.model.proofs.Laws.Lists.{modify-length, modify-at, modify-other}
-use Rattle.records.specs.Fields.{fieldAt}
 use Rattle.records.specs.Histories.{historiesAt}
 use Rattle.rows.specs.Rows.{rowsAt}
 use Rattle.queues.specs.Queue.{forkWords, forkPlace, forkAt, ForksRise}

@@ -11,11 +11,11 @@ use Rattle.session.specs.Limits.{maxLevels, fields}
 use Rattle.session.specs.Parts.{levelCount, objectCount}
 use Rattle.session.specs.Program.{programOf}
 use Rattle.session.specs.declared.Value.{Value}
-use Rattle.managers.specs.declared.Manager.{Manager}
+use Rattle.scripts.specs.State.{Manager}
+use Rattle.words.specs.Fields.{fieldAt}
 use Rattle.model.specs.Lists.{modify}
 use Rattle.model.specs.Level.{Version, Activity, idle, busy, Level, newest}
 use Rattle.model.specs.Step.{State, levelAt}
-use Rattle.records.specs.Fields.{fieldAt}
 use Rattle.versions.specs.Log.{logStart, logOf}
 use Rattle.level_managers.specs.Kept.{Words, nextPlace, waitingPlace, versionsPlace, busyPlace, Runs, LevelTold, Told}
 use Rattle.level_managers.specs.Steps.{Wrote}

@@ -15,8 +15,8 @@ use Rattle.session.specs.declared.Message.{Message}
 use Rattle.session.proofs.Laws.Lists.{length-tab, getD-tab}
 use Rattle.session.proofs.Laws.Fill.{tab-ext}
 use Rattle.session.proofs.Laws.Rising.{less, same, more, order}
+use Rattle.words.proofs.Laws.Fields.{value-back}
 use Rattle.rows.specs.Rows.{rowAt, keyOf}
-use Rattle.records.proofs.Laws.Fields.{value-back}
 use Rattle.queues.specs.Queue.{forkWords, forkPlace, forkOfRow, rowOf, forkAt, RootRow, ChildRow}
 use Rattle.queues.proofs.Laws.Queue.{word-is}
 

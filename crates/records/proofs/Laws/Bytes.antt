@@ -6,8 +6,9 @@ use native.Mathlib.Nat.{add-zero}
 use lib.ListN.{getD}
 use Rattle.session.specs.Lists.{tab}
 use Rattle.session.specs.declared.Value.{Value}
-use Rattle.managers.specs.Manager.{numberOfEnding}
-use Rattle.model.specs.Result.{bytes2, bytes4, tag, numberIn, objectRecord, historyRecord, replyRecord}
+use Rattle.scripts.specs.Ending.{numberOfEnding}
+use Rattle.scripts.specs.Value.{tag, numberIn}
+use Rattle.model.specs.Result.{bytes2, bytes4, objectRecord, historyRecord, replyRecord}
 use Rattle.rows.specs.Rows.{rowAt}
 use Rattle.records.specs.Limits.{rowWords}
 use Rattle.records.specs.Histories.{endingOf, historyOfRow}

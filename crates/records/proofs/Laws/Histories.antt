@@ -10,22 +10,23 @@ use lib.ListN.{length, getD, length-map}
 use lib.Seq.{take-all}
 use Rattle.session.specs.Limits.{maxLevels}
 use Rattle.session.specs.Lists.{tab, risingFrom}
-use Rattle.managers.specs.Manager.{numberOfEnding, isRunning}
-use Rattle.managers.specs.declared.Ending.{Ending}
-use Rattle.managers.specs.declared.Ending.the-variants.{Running, Finished, OutOfSteps, OutOfWrites}
+use Rattle.scripts.specs.Ending.{numberOfEnding, isRunning}
+use Rattle.scripts.specs.declared.Ending.{Ending}
+use Rattle.scripts.specs.declared.Ending.the-variants.{Running, Finished, OutOfSteps, OutOfWrites}
+use Rattle.scripts.specs.Value.{tag, numberIn}
+use Rattle.scripts.specs.declared.Ended.{Ended}
+use Rattle.words.specs.Outside.{Outside}
+use Rattle.words.proofs.Laws.Fields.{value-back}
 use Rattle.model.specs.Limits.{maxManagers}
 use Rattle.model.specs.Lists.{inserted}
 use Rattle.model.specs.History.{History}
-use Rattle.model.specs.Result.{tag, numberIn}
 use Rattle.rows.specs.Rows.{rowAt, rowsAt, keyOf}
-use Rattle.rows.specs.Change.{Outside, Inserted}
+use Rattle.rows.specs.Change.{Inserted}
 use Rattle.rows.proofs.Laws.Outside.{before, behind, rows-apart}
 use Rattle.rows.proofs.Laws.Rows.{rows-length, decoded, decoded-rises}
 use Rattle.rows.proofs.Laws.Insert.{inserted-length}
 use Rattle.records.specs.Limits.{rowWords}
 use Rattle.records.specs.Histories.{endingOf, historyOfRow, levelPlace, historiesAt, endedIn, historyOf, HistoriesReady, HistoryRoom, Added}
-use Rattle.records.specs.declared.Ended.{Ended}
-use Rattle.records.proofs.Laws.Fields.{value-back}
 
 -- an ending is read back from its number
 pub ending-back : (x : Ending) → isRunning x ≡ false → endingOf (numberOfEnding x) ≡ x

@@ -15,11 +15,11 @@ use Rattle.session.specs.Program.{Program, programOf}
 use Rattle.session.specs.declared.Value.{Value}
 use Rattle.session.specs.declared.Value.the-variants.{Nil}
 use Rattle.session.proofs.Laws.Lists.{holds, fails, truth}
+use Rattle.words.specs.Fields.{valueOf}
 use Rattle.model.specs.Limits.{maxManagers}
 use Rattle.model.specs.History.{History}
 use Rattle.model.specs.Result.{objectRecord, historyRecord, replyRecord, replyOf}
 use Rattle.rows.specs.Rows.{rowAt, rowsAt}
-use Rattle.records.specs.Fields.{valueOf}
 use Rattle.records.specs.Histories.{historyOfRow, levelPlace, historiesAt}
 use Rattle.records.specs.Writing.{shownObject, shownLevel, shownReply, Placed}
 use Rattle.records.proofs.Laws.Histories.{map-tab, historyAt, histories-tab}

@@ -12,9 +12,9 @@ use Rattle.session.specs.Parts.{levelCount, objectCount, masksOf}
 use Rattle.session.specs.Program.{Program, programOf}
 use Rattle.session.proofs.Laws.Lists.{holds, fails, truth}
 use Rattle.session.proofs.Laws.Contents.{masks-length, level-limit, object-limit}
+use Rattle.words.specs.Fields.{fieldAt, FieldsReady}
 use Rattle.model.specs.Limits.{maxManagers, resultBytes}
 use Rattle.model.specs.Result.{Result, objectRecord, historyRecord, replyRecord, replyOf, objectsShown, historiesShown, replyShown, bytesOf, byNumber}
-use Rattle.records.specs.Fields.{fieldAt, FieldsReady}
 use Rattle.records.specs.Histories.{endedIn, HistoriesReady}
 use Rattle.records.specs.Writing.{resultIn, bytesIn, shownObject, shownLevel, shownReply, Placed, Written}
 use Rattle.records.proofs.Laws.Histories.{ended-few}

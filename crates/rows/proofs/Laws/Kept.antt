@@ -8,12 +8,12 @@ use native.Mathlib.Omega.{arith}
 use lib.ListN.{length, getD, take}
 use lib.Seq.{take-all}
 use Rattle.session.specs.Lists.{tab, risingFrom}
+use Rattle.words.proofs.Laws.Outside.{outside-none, outside-wider, outside-then}
 use Rattle.model.specs.Lists.{inserted}
 use Rattle.rows.specs.Rows.{rowAt, rowsAt, keyOf}
 use Rattle.rows.specs.Change.{Shifted, Stored, Room, Place, Put, Inserted}
 use Rattle.rows.proofs.Laws.Product.{row-within}
 use Rattle.rows.proofs.Laws.Insert.{inserted-length, full-last, full-before, rising-inserted}
-use Rattle.rows.proofs.Laws.Outside.{outside-none, outside-wider, outside-then}
 use Rattle.rows.proofs.Laws.Rows.{row-key, rows-length, rows-key, rows-more, rising-fewer, rising-keys, put-rows}
 
 module _ (ws ws' : List ℕ) (base : ℕ) (row : List ℕ) where

@@ -7,18 +7,10 @@ use lib.ListN.{length, getD, set, length-set}
 use lib.Seq.{getD-set-same, getD-set-other, ext-getD}
 use Rattle.session.proofs.Laws.Lists.{length-tab, getD-tab}
 use Rattle.session.proofs.Laws.Rising.{less, same, more, order}
+use Rattle.words.specs.Outside.{Outside}
+use Rattle.words.proofs.Laws.Outside.{outside-none, outside-set}
 use Rattle.rows.specs.Rows.{rowAt}
-use Rattle.rows.specs.Change.{Outside, Shifted, Stored}
-use Rattle.rows.proofs.Laws.Outside.{outside-none}
-
--- a store within the range
-pub outside-set : (ws ws' : List ℕ) (a e k v : ℕ) → a ≤ k → k < e → Outside ws ws' a e → Outside ws (set ws' k v) a e
-outside-set ws ws' a e k v l m o =
-    record {
-      length-same = length-set ws' k v ∙ o .length-same;
-      below = λ j h. getD-set-other ws' k j v 0 (omega arith) ∙ o .below j h;
-      above = λ j h. getD-set-other ws' k j v 0 (omega arith) ∙ o .above j h;
-    }
+use Rattle.rows.specs.Change.{Shifted, Stored}
 
 -- words moved up from the last down: none yet, and one more
 pub shift-none : (ws : List ℕ) (e by : ℕ) → Shifted ws ws e e by

@@ -1,32 +1,13 @@
--- Changes within a range of words: none, one after the other, within a wider range, and what stands outside. Assumes nothing.
+-- What stands outside a change within a range of words. Assumes nothing.
 use Prim.Native.Nat.{ℕ, _+_, _*_, _≤_, _<_}
-use mathlib.Core.Path.{_≡_, refl, _∙_}
+use mathlib.Core.Path.{_≡_}
 use mathlib.Core.List.{List}
 use native.Mathlib.Omega.{arith}
 use lib.ListN.{getD}
 use Rattle.session.proofs.Laws.Fill.{tab-ext}
+use Rattle.words.specs.Outside.{Outside}
 use Rattle.rows.specs.Rows.{rowAt, rowsAt}
-use Rattle.rows.specs.Change.{Outside}
 use Rattle.rows.proofs.Laws.Product.{row-within}
-
-pub outside-none : (ws : List ℕ) (a e : ℕ) → Outside ws ws a e
-outside-none ws a e = record { length-same = refl; below = λ k h. refl; above = λ k h. refl }
-
-pub outside-wider : (ws ws' : List ℕ) (a e a' e' : ℕ) → a' ≤ a → e ≤ e' → Outside ws ws' a e → Outside ws ws' a' e'
-outside-wider ws ws' a e a' e' l m o =
-    record {
-      length-same = o .length-same;
-      below = λ k h. o .below k (omega arith);
-      above = λ k h. o .above k (omega arith);
-    }
-
-pub outside-then : (ws ws' ws'' : List ℕ) (a e : ℕ) → Outside ws ws' a e → Outside ws' ws'' a e → Outside ws ws'' a e
-outside-then ws ws' ws'' a e o p =
-    record {
-      length-same = p .length-same ∙ o .length-same;
-      below = λ k h. p .below k h ∙ o .below k h;
-      above = λ k h. p .above k h ∙ o .above k h;
-    }
 
 -- a range that another does not meet
 pub data Apart (a e b f : ℕ) : Type 0 where

@@ -13,8 +13,8 @@ use Rattle.session.specs.Questions.{verdictOf}
 use Rattle.session.specs.declared.Verdict.the-variants.{Accepted}
 use Rattle.session.proofs.Laws.Accepted.{level-present, root-present}
 use Rattle.session.proofs.Laws.Contents.{level-limit, masks-length}
-use Rattle.managers.specs.Valid.{Leveled}
-use Rattle.managers.specs.declared.Manager.{Manager}
+use Rattle.scripts.specs.Valid.{Leveled}
+use Rattle.scripts.specs.State.{Manager}
 use Rattle.model.specs.Limits.{workNumbers, resultBytes}
 use Rattle.model.specs.Step.{State, levelAt}
 use Rattle.model.specs.Schedule.{Outcome, finished, refused, runOf, plainOrder}

@@ -1,5 +1,5 @@
--- The manager of a level makes its steps in a row; that it has ended is seen late. Assumes nothing.
-use Prim.Native.Nat.{ℕ, zero, suc, _+_, _-_, _≤_, _<_}
+-- The manager of a level makes script steps that concern nobody else; where one ends it, its history is kept late. Assumes nothing.
+use Prim.Native.Nat.{ℕ, zero, suc, _≤_, _<_}
 use mathlib.Core.Path.{_≡_, refl, sym, _∙_, ap, subst}
 use mathlib.Core.Bool.{true, false}
 use mathlib.Core.List.{List}
@@ -16,18 +16,15 @@ use Rattle.session.specs.Program.{Program, programOf}
 use Rattle.session.specs.Questions.{verdictOf}
 use Rattle.session.specs.declared.Verdict.the-variants.{Accepted}
 use Rattle.session.specs.declared.Value.{Value}
-use Rattle.session.specs.declared.Step.{Step}
-use Rattle.session.specs.declared.Step.the-variants as op
 use Rattle.session.proofs.Laws.Lists.{holds, fails, truth}
 use Rattle.session.proofs.Laws.Contents.{level-limit, object-limit}
-use Rattle.managers.specs.Valid.{Leveled}
-use Rattle.managers.specs.Frame.{atStep}
-use Rattle.managers.specs.Manager.{isRunning, top, nextStep, operated, stepped, counted}
-use Rattle.managers.specs.declared.Frame.{Frame}
-use Rattle.managers.specs.declared.Manager.{Manager}
-use Rattle.managers.specs.declared.Stepped.{Stepped}
-use Rattle.managers.specs.declared.Effect.{Effect}
-use Rattle.managers.specs.declared.Effect.the-variants as effect
+use Rattle.scripts.specs.Valid.{Leveled}
+use Rattle.scripts.specs.Ending.{isRunning}
+use Rattle.scripts.specs.Manager.{stepped}
+use Rattle.scripts.specs.State.{Manager, Stepped}
+use Rattle.scripts.specs.Effect.{Effect}
+use Rattle.scripts.specs.Effect as effect
+use Rattle.scripts.proofs.Laws.Reads.{stepped-reads}
 use Rattle.model.specs.Fork.{Fork}
 use Rattle.model.specs.Lists.{modify}
 use Rattle.model.specs.Level.{Activity, busy, newLevel, after}
@@ -36,13 +33,13 @@ use Rattle.model.proofs.Laws.Lists.{modify-at, modify-other}
 use Rattle.model.proofs.Laws.Order.Accepted.{sound}
 use Rattle.model.proofs.Laws.Code.Live.{Live, present}
 use Rattle.model.proofs.Laws.Code.Direct.{step-advance}
-use Rattle.records.specs.Fields.{fieldAt, knownAt}
-use Rattle.stacks.specs.Pauses.{Quietly}
-use Rattle.stacks.specs.Moves.{Sees}
+use Rattle.words.specs.Fields.{fieldAt, knownAt}
+use Rattle.words.specs.Reads.{Sees}
+use Rattle.managers.specs.Steps.{Quietly}
 use Rattle.level_managers.specs.Kept.{Words, busyPlace, Runs, LevelTold, Says, placed}
 use Rattle.level_managers.specs.Permits.{managed}
 use Rattle.level_managers.specs.Steps.{Busy, Parts, EffectReady, EffectDone, Settled}
-use Rattle.scheduler.specs.Running.{Draining, Lagging, Recalls}
+use Rattle.scheduler.specs.Running.{Draining, Recalls}
 use Rattle.level_managers.proofs.Laws.Reads.{found-in}
 use Rattle.level_managers.proofs.Laws.Made.{partsOf, settled-on}
 use Rattle.level_managers.proofs.Laws.Ready.{told-runs, effect-ready}
@@ -50,22 +47,12 @@ use Rattle.level_managers.proofs.Laws.Settle.{placed-own}
 use Rattle.level_managers.proofs.Laws.Step.{says-live, says-advance}
 use Rattle.scheduler.proofs.Laws.Level.{drain-on, drain-on-state, drain-allowed}
 
--- a step depends on what is read only
-operated-reads : (p : Program) (read read' : ℕ → ℕ → Value) → ((o k : ℕ) → read o k ≡ read' o k) → (m : Manager) (f : Frame) (i : Step) → operated p read m f i ≡ operated p read' m f i
-unfolding operated
-operated-reads p read read' e m f op.End = refl
-operated-reads p read read' e m f (op.Set a n) = refl
-operated-reads p read read' e m f (op.Add a b) = refl
-operated-reads p read read' e m f (op.Jump a b) = refl
-operated-reads p read read' e m f (op.Read a b) = rw (e (f .object) b) refl
-operated-reads p read read' e m f (op.Write a b) = refl
-operated-reads p read read' e m f (op.Send a b c) = refl
-operated-reads p read read' e m f (op.Quit a) = refl
-
-pub stepped-reads : (p : Program) (read read' : ℕ → ℕ → Value) → ((o k : ℕ) → read o k ≡ read' o k) → (m : Manager) → stepped p read m ≡ stepped p read' m
-unfolding stepped
-stepped-reads p read read' e m =
-    ap (λ d. record { manager = counted p (d .manager); effect = d .effect }) (operated-reads p read read' e m (atStep (top m) (top m .next + 1)) (nextStep p (top m)))
+-- the level is being run, but that the history of m, if m has ended, is not kept yet
+abbrev pub Lagging : List ℕ → State → Words → ℕ → Manager → Type 0
+Lagging s from w l m =
+    (ended' tallies' : List ℕ)
+    → Settled (w .ended) ended' (w .tallies) tallies' (w .queue) l m
+    → Draining s from (record { current = w .current; ended = ended'; tallies = tallies'; queue = w .queue; work = w .work }) l m
 
 -- one of which a manager that runs is made ran
 pub quiet-runs : (p : Program) (read : ℕ → ℕ → Value) (k : ℕ) (m b : Manager) → Quietly p read k m b → isRunning (b .ending) ≡ true → isRunning (m .ending) ≡ true
@@ -200,8 +187,8 @@ module _ (s : List ℕ) (a : verdictOf s ≡ Accepted) (l : ℕ) (h : l < levelC
       q
 
   -- the words of a manager that runs do not lag
-  pub lag-running : (w : Words) (m : Manager) → Lagging s from w l m → isRunning (m .ending) ≡ true → Draining s from w l m
-  lag-running w m lag r = lag (w .ended) (w .tallies) (settled-on (w .ended) (w .tallies) (w .queue) l m r)
+  pub lag-none : (w : Words) (m : Manager) → Draining s from w l m → isRunning (m .ending) ≡ true → Lagging s from w l m
+  lag-none w m g r ended' tallies' z = rw (z .0 r .0, z .0 r .1) g
 
   -- one runs where the words say so
   pub running-start : (w : Words) (m : Manager) (g : Draining s from w l m) → getD (w .tallies) (busyPlace l) 0 ≡ 1 → (x : Fork) × Running w m x (readAt p (g .state) l x)

@@ -10,7 +10,7 @@ use Rattle.session.specs.Parts.{levelCount}
 use Rattle.session.specs.Program.{programOf}
 use Rattle.session.specs.Questions.{verdictOf}
 use Rattle.session.specs.declared.Verdict.the-variants.{Accepted}
-use Rattle.managers.specs.declared.Manager.{Manager}
+use Rattle.scripts.specs.State.{Manager}
 use Rattle.model.specs.Level.{idle, Level, hasManager}
 use Rattle.model.specs.Step.{State, levelAt, stepAt}
 use Rattle.model.specs.Schedule.{stepRefusal}
@@ -19,7 +19,6 @@ use Rattle.model.proofs.Laws.Code.Live.{Live, present}
 use Rattle.model.proofs.Laws.Code.Progress.{allowed, refusal-none, unmanaged-idle, activity-stays, clear-stays, leads-none, leads-more}
 use Rattle.level_managers.specs.Kept.{Words, LevelTold, Says, placed}
 use Rattle.level_managers.specs.Permits.{managed}
-use Rattle.level_managers.specs.Steps.{Stepping, MayStep, StepDone}
 use Rattle.scheduler.specs.Runs.{Rests, SameRest, LevelReady, LevelRun, LevelDone}
 use Rattle.scheduler.specs.Running.{Draining}
 use Rattle.level_managers.proofs.Laws.Told.{told-idle}
@@ -47,27 +46,21 @@ module _ (s : List ℕ) (a : verdictOf s ≡ Accepted) (l : ℕ) (h : l < levelC
     abbrev st : State
     st = g .state
 
-    told : LevelTold (levelCount s) w l m (levelAt st l)
-    told =
+    pub drain-told : LevelTold (levelCount s) w l m (levelAt st l)
+    drain-told =
         told-placed (levelCount s) w l m (placed l m (λ _. m) l) (levelAt st l) (placed-own l m (λ _. m)) (g .says (λ _. m) .told .level l h)
 
-    has : managed (w .tallies) l ≡ hasManager (levelAt st l)
-    has = told-managed (levelCount s) w l m (levelAt st l) told
+    pub drain-has : managed (w .tallies) l ≡ hasManager (levelAt st l)
+    drain-has = told-managed (levelCount s) w l m (levelAt st l) drain-told
 
-    live : Live s st
-    live = says-live s a w (placed l m (λ _. m)) st (g .says (λ _. m))
+    pub drain-live : Live s st
+    drain-live = says-live s a w (placed l m (λ _. m)) st (g .says (λ _. m))
 
     -- there is a manager: the level may step
     module _ (e : managed (w .tallies) l ≡ true) where
       pub drain-allowed : stepRefusal (programOf s) st l ≡ 0
       drain-allowed =
-          refusal-none (programOf s) st l (lt-ltb l (programOf s .levels) (present s l h)) (sym has ∙ e) (g .clear)
-
-      pub drain-stepping : (ms : ℕ → Manager) → Stepping s w l m (placed l m ms) st
-      drain-stepping ms = record { says = g .says ms; allowed = drain-allowed; held = placed-own l m ms }
-
-      pub drain-may : MayStep s w l m
-      drain-may = (placed l m (λ _. m), (st, drain-stepping (λ _. m)))
+          refusal-none (programOf s) st l (lt-ltb l (programOf s .levels) (present s l h)) (sym drain-has ∙ e) (g .clear)
 
       twice : (r : Manager) (ms : ℕ → Manager) (k : ℕ) → placed l r ms k ≡ placed l r (placed l m ms) k
       twice r ms k = elim (ℕ-discrete k l) [
@@ -83,16 +76,13 @@ module _ (s : List ℕ) (a : verdictOf s ≡ Accepted) (l : ℕ) (h : l < levelC
             list = g .list ++ (l ∷ []);
             leads = leads-more (programOf s) from (g .list) st l (g .leads) drain-allowed;
             says = λ ms. says-held s w' (placed l r (placed l m ms)) (placed l r ms) (stepAt (programOf s) l st) (twice r ms) (says ms);
-            others = λ k hk z. activity-stays (programOf s) (sound s a) st (live .reachable .steady .orderly) l k (present s l h) z ∙ g .others k hk z;
-            clear = clear-stays (programOf s) (sound s a) st (live .reachable .steady .orderly) l l (present s l h) (g .clear) drain-allowed;
+            others = λ k hk z. activity-stays (programOf s) (sound s a) st (drain-live .reachable .steady .orderly) l k (present s l h) z ∙ g .others k hk z;
+            clear = clear-stays (programOf s) (sound s a) st (drain-live .reachable .steady .orderly) l l (present s l h) (g .clear) drain-allowed;
           }
 
       pub drain-on-state : (w' : Words) (r : Manager) (says : (ms : ℕ → Manager) → Says s w' (placed l r (placed l m ms)) (stepAt (programOf s) l st)) → drain-on w' r says .state ≡ stepAt (programOf s) l st
       unfolding drain-on
       drain-on-state w' r says = refl
-
-      pub drain-step : (w' : Words) (r : Manager) → StepDone s l m w w' r → Draining s from w' l r
-      drain-step w' r d = drain-on w' r (λ ms. d .says (placed l m ms) st (drain-stepping ms))
 
     -- there is none any more
     pub drain-end : managed (w .tallies) l ≡ false → LevelRun s w l from
@@ -106,7 +96,7 @@ module _ (s : List ℕ) (a : verdictOf s ≡ Accepted) (l : ℕ) (h : l < levelC
         }
       where
         none : hasManager (levelAt st l) ≡ false
-        none = sym has ∙ e
+        none = sym drain-has ∙ e
 
         rests-own : levelAt st l .activity ≡ idle
         rests-own = unmanaged-idle (levelAt st l) none

@@ -2,20 +2,29 @@
 use Prim.Native.Nat.{ℕ, suc, _+_, _≤_, _<_, _^_}
 use mathlib.Core.Path.{_≡_, refl, sym, _∙_, ap}
 use mathlib.Core.Bool.{true, false}
-use mathlib.Core.List.{List, _∷_}
-use native.Mathlib.Decide.{ℕ-discrete}
+use mathlib.Core.List.{List, [], _∷_}
+use native.Mathlib.Decide.{ℕ-discrete, decLt}
 use native.Mathlib.Omega.{arith}
-use lib.ListN.{length, getD, set, drop, length-set}
+use lib.ListN.{length, getD, set, drop, replicate, length-set, length-replicate, getD-replicate, List·getD-eq-default}
 use lib.Seq.{drop-cons, drop-length, getD-set-same, getD-set-other}
+use Rattle.lattice.proofs.Laws.Range.{not-both}
 use Rattle.session.specs.Limits.{maxLevels}
 use Rattle.session.specs.Parts.{levelCount, masksOf}
 use Rattle.session.specs.Meaning.{rootOf}
 use Rattle.session.specs.Program.{programOf}
 use Rattle.session.specs.Questions.{verdictOf}
 use Rattle.session.specs.declared.Verdict.the-variants.{Accepted}
+use Rattle.session.specs.declared.Value.the-variants.{Nil}
 use Rattle.session.proofs.Laws.Contents.{level-limit, masks-length}
-use Rattle.managers.specs.Valid.{Leveled}
-use Rattle.managers.specs.declared.Manager.{Manager}
+use Rattle.scripts.specs.Valid.{Leveled}
+use Rattle.scripts.specs.Ending.{isRunning}
+use Rattle.scripts.specs.State.{Manager}
+use Rattle.scripts.specs.declared.Ending.the-variants.{Finished}
+use Rattle.words.specs.Limits.{fieldWords}
+use Rattle.words.specs.Fields.{fieldPlace}
+use Rattle.managers.specs.Core.{managerOf}
+use Rattle.managers.specs.Steps.{Held}
+use Rattle.managers.specs.declared.Manager as code
 use Rattle.model.specs.Limits.{maxSchedule}
 use Rattle.model.specs.Step.{State, stepAt}
 use Rattle.model.specs.Schedule.{finished, stepRefusal, runFrom, runOf}
@@ -25,7 +34,7 @@ use Rattle.model.proofs.Laws.Invariant.Tame.{total, step-less}
 use Rattle.model.proofs.Laws.Code.Progress.{allowed, run-made, run-stops, run-ends, run-unended}
 use Rattle.level_managers.specs.Kept.{Words, Says, placed}
 use Rattle.level_managers.specs.Permits.{numberOfPermit, endedOf, permitOf, noted, Countable}
-use Rattle.level_managers.specs.Steps.{Stepping, MayStep, StepDone}
+use Rattle.level_managers.specs.Steps.{Blank, Fresh, Stepping, MayStep, StepDone}
 use Rattle.scheduler.specs.Runs.{startOf, Rests, SameRest, Ends}
 use Rattle.scheduler.specs.declared.Outcome.{Outcome}
 use Rattle.scheduler.specs.declared.Outcome.the-variants as outcome
@@ -40,14 +49,56 @@ pub says-held : (s : List ℕ) (w : Words) (ms ms' : ℕ → Manager) (st : Stat
 says-held s w ms ms' st e y =
     record { told = told-held s w ms ms' st e (y .told); reached = y .reached; clear = y .clear }
 
+-- a manager, where it does not matter which: none runs
+pub anyManager : Manager
+anyManager =
+    record {
+      level = 0;
+      first = 0;
+      stamp = 0;
+      steps = 0;
+      writes = 0;
+      forks = 0;
+      ending = Finished;
+      reply = Nil;
+      frames = [];
+    }
+
+-- the managers that an array of the code's holds
+abbrev pub heldIn : List code.Manager → code.Manager → ℕ → Manager
+heldIn managers d k = managerOf (getD managers k d)
+
 -- an array in which the manager of level l was stored
-pub held-set : (managers : List Manager) (d : Manager) (l : ℕ) (r : Manager) → l < length managers → (k : ℕ) → getD (set managers l r) k d ≡ placed l r (λ j. getD managers j d) k
+held-set : (managers : List code.Manager) (d : code.Manager) (l : ℕ) (r : code.Manager) → l < length managers → (k : ℕ) → heldIn (set managers l r) d k ≡ placed l (managerOf r) (heldIn managers d) k
 held-set managers d l r h k = elim (ℕ-discrete k l) [
   | yes e ↦
-      rw e (getD-set-same managers l r d h ∙ sym (placed-own l r (λ j. getD managers j d)))
+      rw e (ap managerOf (getD-set-same managers l r d h) ∙ sym (placed-own l (managerOf r) (heldIn managers d)))
   | no e ↦
-      getD-set-other managers l k r d e ∙ sym (placed-other l r (λ j. getD managers j d) k e)
+      ap managerOf (getD-set-other managers l k r d e) ∙ sym (placed-other l (managerOf r) (heldIn managers d) k e)
 ]
+
+-- those that run are as start and their steps leave them
+abbrev pub HeldAll : List ℕ → List code.Manager → code.Manager → Type 0
+HeldAll s managers d = (k : ℕ) → k < length managers → isRunning (getD managers k d .core .ending) ≡ true → Held s (getD managers k d)
+
+held-all : (s : List ℕ) (managers : List code.Manager) (d : code.Manager) (l : ℕ) (r : code.Manager) → Held s r → HeldAll s managers d → HeldAll s (set managers l r) d
+held-all s managers d l r now all k h run = elim (ℕ-discrete k l) [
+  | yes e ↦ rw (e, getD-set-same managers l r d (rw (length-set managers l r, e) at h)) now
+  | no e ↦
+      let same = getD-set-other managers l k r d e in
+      rw same (all k (rw (length-set managers l r) at h) (rw same at run))
+]
+
+-- words that hold 0 say 0 at every place
+pub zeros : (n i : ℕ) → getD {A = ℕ} (replicate n 0) i 0 ≡ 0
+zeros n i = elim (decLt i n) [
+  | yes h ↦ getD-replicate n i 0 0 h
+  | no h ↦ List·getD-eq-default (replicate n 0) 0 (rw (length-replicate {A = ℕ} n 0) (omega (arith, h)))
+]
+
+-- so nothing is kept in them of what was read
+pub blank-zeros : (n : ℕ) → Blank (replicate n 0)
+blank-zeros n o k h = rw (zeros n (fieldPlace o k)) refl
 
 -- the first i steps of a timetable are made: the words say a state from which the rest ends as the whole does
 pub record Going (s ls : List ℕ) (i : ℕ) (w : Words) (ms : ℕ → Manager) : Type 0 where
@@ -126,30 +177,29 @@ module _ (s : List ℕ) (a : verdictOf s ≡ Accepted) (few : levelCount s ≤ m
           unfolding programOf
           going-present = allowed (programOf s) (g .state) l going-allowed .0
 
-          pub going-may : Stepping s (wordsNoted w l) l (ms l) ms (g .state)
-          going-may =
-              record { says = noted-says s w ms (g .state) l few (g .says) going-allowed; allowed = going-allowed; held = refl }
+          pub going-may : (m : code.Manager) → ms l ≡ managerOf m → Stepping s (wordsNoted w l) l m ms (g .state)
+          going-may m is =
+              record { says = noted-says s w ms (g .state) l few (g .says) going-allowed; allowed = going-allowed; held = is }
 
-          pub going-step : (w' : Words) (r : Manager) → StepDone s l (ms l) (wordsNoted w l) w' r → Going s ls (suc i) w' (placed l r ms)
-          going-step w' r d =
+          pub going-step : (m : code.Manager) → ms l ≡ managerOf m → (w' : Words) (seen' : List ℕ) (r : code.Manager) → StepDone s l m (wordsNoted w l) w' seen' r → Going s ls (suc i) w' (placed l (managerOf r) ms)
+          going-step m is w' seen' r d =
               let live = says-live s a w ms (g .state) (g .says) in
               let yes = allowed (programOf s) (g .state) l going-allowed in
               record {
                 state = stepAt (programOf s) l (g .state);
-                says = d .says ms (g .state) going-may;
+                says = d .says ms (g .state) (going-may m is);
                 run = sym (next ∙ run-made i (programOf s) l (drop (suc i) ls) (g .state) going-allowed);
                 pace = omega (arith, g .pace, step-less (programOf s) (sound s a) (g .state) (live .reachable .steady .orderly) (live .reachable .steady .tame) l (yes .0) (yes .1 .0));
               }
 
--- the managers that an array holds
-abbrev pub heldIn : List Manager → Manager → ℕ → Manager
-heldIn managers d k = getD managers k d
-
 -- the loop over a timetable
-pub record ListLoop (s ls : List ℕ) (d : Manager) (w₀ w : Words) (managers : List Manager) (i : ℕ) : Type 0 where
+pub record ListLoop (s ls : List ℕ) (d : code.Manager) (w₀ w : Words) (managers : List code.Manager) (seen : List ℕ) (i : ℕ) : Type 0 where
   pub going : Going s ls i w (heldIn managers d)
   pub low : i ≤ length ls
   pub managers-long : length managers ≡ maxLevels
+  pub held : HeldAll s managers d
+  pub blank : Blank seen
+  pub seen-long : length seen ≡ fieldWords
   pub rest : SameRest (w₀ .work) (w .work)
   pub current-long : length (w .current) ≡ length (w₀ .current)
   pub ended-long : length (w .ended) ≡ length (w₀ .ended)
@@ -157,12 +207,15 @@ pub record ListLoop (s ls : List ℕ) (d : Manager) (w₀ w : Words) (managers :
   pub queue-long : length (w .queue) ≡ length (w₀ .queue)
   pub work-long : length (w .work) ≡ length (w₀ .work)
 
-pub list-start : (s masks ls : List ℕ) (d : Manager) (w : Words) (managers : List Manager) → Leveled s masks → length managers ≡ maxLevels → Rests s w (startOf s) → ListLoop s ls d w w managers 0
-list-start s masks ls d w managers y n r =
+pub list-start : {s masks : List ℕ} (ls : List ℕ) (d : code.Manager) {none : code.Manager} {w : Words} → Leveled s masks → isRunning (none .core .ending) ≡ false → Rests s w (startOf s) → ListLoop s ls d w w (replicate maxLevels none) (replicate fieldWords 0) 0
+list-start {s} ls d {none} {w} y over r =
     record {
-      going = going-start s (y .accepted) (level-limit s (y .accepted)) ls w (heldIn managers d) r;
+      going = going-start s (y .accepted) (level-limit s (y .accepted)) ls w (heldIn (replicate maxLevels none) d) r;
       low = omega arith;
-      managers-long = n;
+      managers-long = length-replicate maxLevels none;
+      held = λ k h run. absurd (not-both (isRunning (none .core .ending)) (rw (getD-replicate maxLevels k none d (rw (length-replicate maxLevels none) at h)) at run) over);
+      blank = blank-zeros fieldWords;
+      seen-long = length-replicate {A = ℕ} fieldWords 0;
       rest = refl;
       current-long = refl;
       ended-long = refl;
@@ -178,7 +231,7 @@ noted-refused Absent l t e = refl
 noted-refused Idle l t e = refl
 noted-refused Blocked l t e = refl
 
-module _ (s masks : List ℕ) (y : Leveled s masks) (ls : List ℕ) (d : Manager) (w₀ w : Words) (managers : List Manager) (i : ℕ) (g : ListLoop s ls d w₀ w managers i) where
+module _ {s masks : List ℕ} (y : Leveled s masks) {ls : List ℕ} {d : code.Manager} {w₀ w : Words} {managers : List code.Manager} {seen : List ℕ} {i : ℕ} (g : ListLoop s ls d w₀ w managers seen i) where
   few : levelCount s ≤ maxLevels
   few = level-limit s (y .accepted)
 
@@ -199,7 +252,7 @@ module _ (s masks : List ℕ) (y : Leveled s masks) (ls : List ℕ) (d : Manager
   list-unended h e =
       going-unended s (y .accepted) few ls i w (heldIn managers d) (g .going) masks (y .masks-are) long (omega (arith, h, g .low)) e
 
-  module _ (h : i < length ls) (p : Permit) (e : p ≡ permitOf masks (w .tallies) (getD ls i 0)) (t : List ℕ) (n : t ≡ noted p (getD ls i 0) (w .tallies)) where
+  module _ (h : i < length ls) {p : Permit} (e : p ≡ permitOf masks (w .tallies) (getD ls i 0)) {t : List ℕ} (n : t ≡ noted p (getD ls i 0) (w .tallies)) where
     abbrev level : ℕ
     level = getD ls i 0
 
@@ -207,8 +260,8 @@ module _ (s masks : List ℕ) (y : Leveled s masks) (ls : List ℕ) (d : Manager
     noting = record { current = w .current; ended = w .ended; tallies = t; queue = w .queue; work = w .work }
 
     -- the step is not permitted
-    pub list-refused : (p ≡ Given → ⊥) → (w' : Words) (r : Outcome) → r ≡ outcome.Refused (numberOfPermit p) i → Ends s ls w' r
-    list-refused z w' r q =
+    pub list-refused : (p ≡ Given → ⊥) → (w' : Words) {r : Outcome} → r ≡ outcome.Refused (numberOfPermit p) i → Ends s ls w' r
+    list-refused z w' q =
         rw q (going-stops s (y .accepted) few ls i w (heldIn managers d) (g .going) masks (y .masks-are) long h p e z)
 
     -- it is
@@ -224,24 +277,33 @@ module _ (s masks : List ℕ) (y : Leveled s masks) (ls : List ℕ) (d : Manager
       same =
           ap (λ t. record { current = w .current; ended = w .ended; tallies = t; queue = w .queue; work = w .work }) (n ∙ ap (λ p. noted p level (w .tallies)) z)
 
-      stepping-at : {u : Words} → u ≡ wordsNoted w level → Stepping s u level (heldIn managers d level) (heldIn managers d) (g .going .state)
-      stepping-at q =
-          rw q (going-may s (y .accepted) few ls i w (heldIn managers d) (g .going) masks (y .masks-are) long h given)
+      there : level < length managers
+      there = omega (arith, g .managers-long, list-present)
 
-      pub list-may : MayStep s noting level (heldIn managers d level)
+      stepping-at : {u : Words} → u ≡ wordsNoted w level → Stepping s u level (getD managers level d) (heldIn managers d) (g .going .state)
+      stepping-at q =
+          rw q (going-may s (y .accepted) few ls i w (heldIn managers d) (g .going) masks (y .masks-are) long h given (getD managers level d) refl)
+
+      pub list-may : MayStep s noting level (getD managers level d)
       list-may = (heldIn managers d, (g .going .state, stepping-at same))
 
-      done-at : {u w' : Words} {m r : Manager} → u ≡ wordsNoted w level → StepDone s level m u w' r → StepDone s level m (wordsNoted w level) w' r
+      pub list-fresh : Fresh s seen (getD managers level d)
+      list-fresh =
+          record { held = g .held level there; blank = g .blank; there = rw (g .seen-long) (omega arith) }
+
+      done-at : {u w' : Words} {m r : code.Manager} {seen' : List ℕ} → u ≡ wordsNoted w level → StepDone s level m u w' seen' r → StepDone s level m (wordsNoted w level) w' seen' r
       done-at q x = rw (sym q) x
 
-      pub list-again : (w' : Words) (r : Manager) → StepDone s level (heldIn managers d level) noting w' r → length (w' .current) ≡ length (w .current) → length (w' .ended) ≡ length (w .ended) → length (w' .tallies) ≡ length t → length t ≡ length (w .tallies) → length (w' .queue) ≡ length (w .queue) → length (w' .work) ≡ length (w .work) → ListLoop s ls d w₀ w' (set managers level r) (i + 1)
-      list-again w' r x c1 c2 c3 c4 c5 c6 =
-          let next = going-step s (y .accepted) few ls i w (heldIn managers d) (g .going) masks (y .masks-are) long h given w' r (done-at same x) in
-          let there : level < length managers = omega (arith, g .managers-long, list-present) in
+      pub list-again : {w' : Words} {seen' : List ℕ} {r : code.Manager} → StepDone s level (getD managers level d) noting w' seen' r → length seen' ≡ length seen → length (w' .current) ≡ length (w .current) → length (w' .ended) ≡ length (w .ended) → length (w' .tallies) ≡ length t → length t ≡ length (w .tallies) → length (w' .queue) ≡ length (w .queue) → length (w' .work) ≡ length (w .work) → ListLoop s ls d w₀ w' (set managers level r) seen' (i + 1)
+      list-again {w'} {seen'} {r} x c0 c1 c2 c3 c4 c5 c6 =
+          let next = going-step s (y .accepted) few ls i w (heldIn managers d) (g .going) masks (y .masks-are) long h given (getD managers level d) refl w' seen' r (done-at same x) in
           record {
             going = held next (heldIn (set managers level r) d) (held-set managers d level r there);
             low = omega (arith, h);
             managers-long = length-set managers level r ∙ g .managers-long;
+            held = held-all s managers d level r (x .held) (g .held);
+            blank = x .blank;
+            seen-long = c0 ∙ g .seen-long;
             rest = x .rest ∙ g .rest;
             current-long = c1 ∙ g .current-long;
             ended-long = c2 ∙ g .ended-long;

@@ -1,87 +1,98 @@
 -- The managers of a level run one after the other, each from its start to its end. Assumes nothing.
 use Prim.Native.Nat.{ℕ, _+_, _-_, _^_, _≤_, _<_}
-use mathlib.Core.Path.{_≡_, refl, _∙_, ap, subst}
+use mathlib.Core.Path.{_≡_, refl, sym, _∙_, ap, subst}
 use mathlib.Core.Bool.{true, false, cond}
 use mathlib.Core.List.{List, []}
-use native.Mathlib.Decide.{decLt}
 use native.Mathlib.Omega.{arith}
 use borrow.Author.Tests.{lt-ltb, le-ltb}
-use lib.ListN.{length, getD, set, replicate, length-set, length-replicate, getD-replicate, List·getD-eq-default}
+use lib.ListN.{length, getD, set, replicate, length-set, length-replicate}
 use lib.Seq.{getD-set-same, getD-set-other}
 use Rattle.lattice.proofs.Laws.Range.{not-both}
 use Rattle.session.specs.Limits.{maxLevels}
 use Rattle.session.specs.Parts.{levelCount}
-use Rattle.session.specs.Program.{Program, programOf}
+use Rattle.session.specs.Program.{programOf}
 use Rattle.session.specs.Questions.{verdictOf}
 use Rattle.session.specs.declared.Verdict.the-variants.{Accepted}
-use Rattle.session.specs.declared.Value.the-variants.{Nil}
-use Rattle.session.specs.declared.Message.{Message}
-use Rattle.session.proofs.Laws.Contents.{level-limit}
+use Rattle.session.proofs.Laws.Contents.{level-limit, object-limit}
 use Rattle.session.proofs.Laws.Lists.{holds, fails, truth}
-use Rattle.managers.specs.Limits.{maxForks, maxScriptSteps}
-use Rattle.managers.specs.Frame.{frameFor}
-use Rattle.managers.specs.Manager.{isRunning, concluded, started}
-use Rattle.managers.specs.Valid.{Known, Stack, Startable}
-use Rattle.managers.specs.declared.Manager.{Manager}
-use Rattle.managers.specs.declared.Ending.the-variants.{Running}
-use Rattle.managers.proofs.Laws.Stack.{first-stack}
+use Rattle.scripts.specs.Limits.{maxScriptSteps}
+use Rattle.scripts.specs.Ending.{isRunning}
+use Rattle.scripts.specs.State.{Manager}
+use Rattle.scripts.proofs.Laws.Counts.{started-counts}
+use Rattle.words.specs.Limits.{fieldWords}
+use Rattle.managers.specs.Core.{managerOf}
+use Rattle.managers.specs.Steps.{Held, Advanced}
+use Rattle.managers.specs.declared.Manager as code
 use Rattle.model.specs.Limits.{maxManagers}
+use Rattle.model.specs.Level.{idle, hasManager}
 use Rattle.model.specs.Step.{State, levelAt}
 use Rattle.model.proofs.Laws.Code.Progress.{allowed}
-use Rattle.records.specs.Limits.{fieldWords}
-use Rattle.records.specs.Fields.{fieldPlace}
-use Rattle.stacks.specs.Stack.{stackWords, framesOf}
-use Rattle.stacks.specs.Course.{managerOf, begun}
-use Rattle.stacks.specs.declared.Course.{Course}
-use Rattle.level_managers.specs.Kept.{Words, nextPlace, waitingPlace, busyPlace, Roomy, Runs}
+use Rattle.level_managers.specs.Kept.{Words, nextPlace, waitingPlace, busyPlace, tallyNumbers, Roomy, Runs, placed}
 use Rattle.level_managers.specs.Permits.{managed}
-use Rattle.level_managers.specs.Steps.{Read, runningFork, SettleReady, begunTallies, StartReady}
+use Rattle.level_managers.specs.Steps.{Read, Parts, SettleReady, Closed, Settled, CoreSettled, begunTallies, StartReady, Started}
 use Rattle.scheduler.specs.Runs.{SameRest, LevelReady, LevelDone}
-use Rattle.scheduler.specs.Running.{Draining, Lagging, courseIn, Goes, Recalls, Lags, Gone, CloseReady, Closes, NextReady, NextDone}
-use Rattle.level_managers.proofs.Laws.Made as made
-use Rattle.scheduler.proofs.Laws.Level.{LevelLoop, drain-may, drain-step, level-start, level-done}
+use Rattle.scheduler.specs.Running.{Draining, Recalls, OutsideReady, OutsideDone, NextReady, NextDone}
+use Rattle.level_managers.proofs.Laws.Ready.{told-rests, waits-some, start-ready}
+use Rattle.level_managers.proofs.Laws.Step.{says-start}
+use Rattle.level_managers.proofs.Laws.Made.{settled-of, held-fits}
+use Rattle.scheduler.proofs.Laws.Listed.{anyManager, blank-zeros}
+use Rattle.scheduler.proofs.Laws.Level.{LevelLoop, drain-told, drain-has, drain-live, drain-allowed, drain-on, level-start, level-done}
+use Rattle.scheduler.proofs.Laws.Going.{Goes, stepsLeft, outside-ready, outside-settles, outside-drains, outside-recalls, outside-count, outside-busy, outside-rest, steps-less}
 
--- words that hold 0 say 0 at every place
-zeros : (n i : ℕ) → getD {A = ℕ} (replicate n 0) i 0 ≡ 0
-zeros n i = elim (decLt i n) [
-  | yes h ↦ getD-replicate n i 0 0 h
-  | no h ↦ List·getD-eq-default (replicate n 0) 0 (rw (length-replicate {A = ℕ} n 0) (omega (arith, h)))
+-- a manager has ended: none runs at its level then, and one more has ended there
+closed-counts : (ended ended' tallies tallies' queue : List ℕ) (l : ℕ) (m : Manager) → l < maxLevels → tallyNumbers ≤ length tallies → Closed ended ended' tallies tallies' queue l m → (getD tallies' (busyPlace l) 0 ≡ 0) × (getD tallies' l 0 ≡ getD tallies l 0 + 1)
+closed-counts ended ended' tallies tallies' queue l m small room d =
+    let n = getD tallies l 0 + 1 in
+    let x = m .stamp + 1 in
+    let one = set tallies l n in
+    let two = set one (nextPlace l) x in
+    let long : length two ≡ length tallies = length-set one (nextPlace l) x ∙ length-set tallies l n in (
+      ap (λ t. getD t (busyPlace l) 0) (d .tallies-are) ∙ getD-set-same two (busyPlace l) 0 0 (rw long (omega (arith, small, room))),
+      ap (λ t. getD t l 0) (d .tallies-are)
+          ∙ getD-set-other two (busyPlace l) l 0 0 (λ q. omega (arith, q, small))
+          ∙ getD-set-other one (nextPlace l) l x 0 (λ q. omega (arith, q, small))
+          ∙ getD-set-same tallies l n 0 (omega (arith, small, room)),
+    )
+
+-- 1 while it runs
+abbrev bit : code.Manager → ℕ
+bit m = cond (isRunning (m .core .ending)) 1 0
+
+-- what holds each time round while the manager of level l runs, and after, from its start on
+pub record NextLoop (s : List ℕ) (w₁ w : Words) (l : ℕ) (m₁ m : code.Manager) (seen : List ℕ) : Type 0 where
+  pub drains : (from : State) → Draining s from w₁ l (managerOf m₁) → Draining s from w l (managerOf m)
+  pub goes : isRunning (m .core .ending) ≡ true → Goes s w l m seen
+  pub busy : getD (w .tallies) (busyPlace l) 0 ≡ bit m
+  pub count : getD (w .tallies) l 0 + bit m ≡ getD (w₁ .tallies) l 0 + bit m₁
+  pub rest : SameRest (w₁ .work) (w .work)
+  pub seen-long : length seen ≡ fieldWords
+  pub current-long : length (w .current) ≡ length (w₁ .current)
+  pub ended-long : length (w .ended) ≡ length (w₁ .ended)
+  pub tallies-long : length (w .tallies) ≡ length (w₁ .tallies)
+  pub queue-long : length (w .queue) ≡ length (w₁ .queue)
+  pub work-long : length (w .work) ≡ length (w₁ .work)
+
+-- what is counted once a manager that ran has made its steps, and its history is kept where it has ended
+settled-counts : {ended ended' tallies tallies' queue : List ℕ} {l : ℕ} (m : code.Manager) → l < maxLevels → tallyNumbers ≤ length tallies → getD tallies (busyPlace l) 0 ≡ 1 → Settled ended ended' tallies tallies' queue l (managerOf m) → (getD tallies' (busyPlace l) 0 ≡ bit m) × (getD tallies' l 0 + bit m ≡ getD tallies l 0 + 1)
+unfolding managerOf
+settled-counts {ended} {ended'} {tallies} {tallies'} {queue} {l} m small room busy d = elim (truth (isRunning (m .core .ending))) [
+  | holds run ↦
+      let same = d .0 run .1 in
+      rw (run, same) (busy, refl)
+  | fails over ↦
+      let c = closed-counts ended ended' tallies tallies' queue l (managerOf m) small room (d .1 over) in
+      rw over (c .0, omega (arith, c .1))
 ]
 
--- so nothing is known in them
-none-known : (s : List ℕ) (w : Words) (l : ℕ) → Recalls s w l (replicate fieldWords 0)
-none-known s w l o k ho hk apart known = absurd (not-both false (rw (zeros fieldWords (fieldPlace o k)) at known) refl)
-
--- what holds each time round while the manager runs, from its course c₀ on
-pub record NextLoop (s : List ℕ) (w₀ w : Words) (l : ℕ) (c₀ : Course) (k₀ : List ℕ) (c : Course) (k seen : List ℕ) : Type 0 where
-  pub lags : (from : State) → Lagging s from w₀ l (courseIn s c₀ k₀) → Lagging s from w l (courseIn s c k)
-  pub still : isRunning (c .ending) ≡ true → Goes s l c k
-  pub recalls : isRunning (c .ending) ≡ true → Recalls s w l seen
-  pub seen-long : length seen ≡ fieldWords
-  pub forked : c .forks ≤ maxForks
-  pub fits : c .first + maxForks + 1 < 2 ^ 16
-  pub busy-there : getD (w .tallies) (busyPlace l) 0 ≡ 1
-  pub settles : SettleReady (w .ended) (w .tallies) (w .queue) l
-  pub count : getD (w .tallies) l 0 ≡ getD (w₀ .tallies) l 0
-  pub rest : SameRest (w₀ .work) (w .work)
-  pub current-long : length (w .current) ≡ length (w₀ .current)
-  pub ended-long : length (w .ended) ≡ length (w₀ .ended)
-  pub tallies-long : length (w .tallies) ≡ length (w₀ .tallies)
-  pub queue-long : length (w .queue) ≡ length (w₀ .queue)
-  pub work-long : length (w .work) ≡ length (w₀ .work)
-
-module _ (s masks index : List ℕ) (rd : Read s masks index) (w₀ : Words) (l : ℕ) (z : NextReady s w₀ l) where
+module _ {s masks index : List ℕ} (rd : Read s masks index) {w₀ : Words} {l : ℕ} (z : NextReady s w₀ l) where
   abbrev a : verdictOf s ≡ Accepted
   a = rd .indexed .accepted
 
-  abbrev p : Program
-  p = programOf s
-
-  abbrev h : l < levelCount s
-  h = z .placed-there
+  abbrev few : levelCount s ≤ maxLevels
+  few = level-limit s (rd .indexed .accepted)
 
   pub small : l < maxLevels
-  small = omega (arith, z .placed-there, level-limit s a)
+  small = omega (arith, z .placed-there, few)
 
   waits : managed (w₀ .tallies) l ≡ true
   waits = rw (z .rests, lt-ltb 0 (getD (w₀ .tallies) (waitingPlace l) 0) (z .waits)) refl
@@ -89,84 +100,79 @@ module _ (s masks index : List ℕ) (rd : Read s masks index) (w₀ : Words) (l 
   pub roomy : Roomy w₀
   roomy = z .drains .says (λ _. z .held) .told .roomy
 
+  -- in any state that the words say a fork waits there, and no manager runs
+  module _ {from : State} {held : Manager} (g : Draining s from w₀ l held) where
+    rests : levelAt (g .state) l .activity ≡ idle
+    rests =
+        told-rests (levelCount s) w₀ l held (levelAt (g .state) l) (drain-told s a l (z .placed-there) from w₀ held g) (z .rests)
+
+    has : hasManager (levelAt (g .state) l) ≡ true
+    has = sym (drain-has s a l (z .placed-there) from w₀ held g) ∙ waits
+
+    -- it starts
+    began : (ended' tallies' : List ℕ) (m : Manager) → Started s (w₀ .ended) ended' (w₀ .tallies) tallies' (w₀ .queue) l m → Draining s from (record { current = w₀ .current; ended = ended'; tallies = tallies'; queue = w₀ .queue; work = w₀ .work }) l m
+    began ended' tallies' m d =
+        let (x, (xs, e)) = waits-some (levelAt (g .state) l) has rests in
+        drain-on s a l (z .placed-there) from w₀ held g waits (record { current = w₀ .current; ended = ended'; tallies = tallies'; queue = w₀ .queue; work = w₀ .work }) m
+        (λ ms. says-start s a few w₀ (placed l held ms) (g .state) (g .says ms) l (z .placed-there) (drain-allowed s a l (z .placed-there) from w₀ held g waits) x xs rests e ended' tallies' m d)
+
   pub starts : StartReady s index (w₀ .ended) (w₀ .tallies) (w₀ .queue) l
   starts =
-      made.start-here s masks index w₀ l (z .held) rd (z .rests) (drain-may s a l (z .placed-there) (z .from) w₀ (z .held) (z .drains) waits)
+      let g = z .drains in
+      start-ready s a few (object-limit s a) w₀ (placed l (z .held) (λ _. z .held)) (g .state) (g .says (λ _. z .held) .told) (drain-live s a l (z .placed-there) (z .from) w₀ (z .held) g) l (z .placed-there) index (rd .indexed) (rests g) (has g)
 
-  -- the words once the fork has started
-  abbrev pub begunWords : Words
-  begunWords =
-      record { current = w₀ .current; ended = w₀ .ended; tallies = begunTallies (w₀ .tallies) l; queue = w₀ .queue; work = w₀ .work }
+  -- what is counted once it has started
+  begun-busy : getD (begunTallies (w₀ .tallies) l) (busyPlace l) 0 ≡ 1
+  begun-busy =
+      let t = w₀ .tallies in
+      let less = getD t (waitingPlace l) 0 - 1 in
+      getD-set-same (set t (waitingPlace l) less) (busyPlace l) 1 0 (rw (length-set t (waitingPlace l) less) (omega (arith, small, roomy .tallies)))
 
-  module _ (message : Message) (is : (n : ℕ) → runningFork n (w₀ .tallies) (w₀ .queue) l .message ≡ message) (c : Course) (k : List ℕ) (e : managerOf c (framesOf k) ≡ begun l (getD (w₀ .tallies) (nextPlace l) 0) message) (long : length k ≡ stackWords) where
-    next : ℕ
-    next = getD (w₀ .tallies) (nextPlace l) 0
+  begun-count : getD (begunTallies (w₀ .tallies) l) l 0 ≡ getD (w₀ .tallies) l 0
+  begun-count =
+      let t = w₀ .tallies in
+      let less = getD t (waitingPlace l) 0 - 1 in
+      getD-set-other (set t (waitingPlace l) less) (busyPlace l) l 1 0 (λ q. omega (arith, q, small))
+      ∙ getD-set-other t (waitingPlace l) l less 0 (λ q. omega (arith, q, small))
 
-    able : Startable s l (getD (w₀ .tallies) (nextPlace l) 0) message
-    able = made.start-asks s index (w₀ .ended) (w₀ .tallies) (w₀ .queue) l message starts is .1
+  begun-long : length (begunTallies (w₀ .tallies) l) ≡ length (w₀ .tallies)
+  begun-long =
+      let t = w₀ .tallies in
+      let less = getD t (waitingPlace l) 0 - 1 in
+      length-set (set t (waitingPlace l) less) (busyPlace l) 1 ∙ length-set t (waitingPlace l) less
 
-    runs : isRunning (c .ending) ≡ true
-    runs = ap (λ m. isRunning (m .ending)) e
+  module _ {ended' tallies' : List ℕ} {m : code.Manager} (d : Started s (w₀ .ended) ended' (w₀ .tallies) tallies' (w₀ .queue) l (managerOf m)) (held : Held s m) where
+    abbrev begunWords : Words
+    begunWords =
+        record { current = w₀ .current; ended = ended'; tallies = tallies'; queue = w₀ .queue; work = w₀ .work }
 
-    manager-is : courseIn s c k ≡ started p l (getD (w₀ .tallies) (nextPlace l) 0) message
-    unfolding started
-    manager-is = rw runs (ap (concluded p) e)
+    level-is : m .core .level ≡ l
+    unfolding managerOf
+    level-is = ap (λ n. n .level) (d .manager) ∙ ap (λ c. c .level) (started-counts (programOf s) l _ _)
 
-    lagging : (from : State) (held : Manager) → Draining s from w₀ l held → Lagging s from (record { current = w₀ .current; ended = w₀ .ended; tallies = begunTallies (w₀ .tallies) l; queue = w₀ .queue; work = w₀ .work }) l (courseIn s c k)
-    lagging from held g ended' tallies' settled =
-        drain-step s a l (z .placed-there) from w₀ held g waits (record { current = w₀ .current; ended = ended'; tallies = tallies'; queue = w₀ .queue; work = w₀ .work }) (courseIn s c k)
-        (made.start-done s masks index w₀ l held rd (z .rests) ended' tallies' (courseIn s c k) (made.begun s index (w₀ .ended) (w₀ .tallies) (w₀ .queue) l message starts is ended' tallies' (courseIn s c k) manager-is settled))
+    nothing-known : Recalls s begunWords l (replicate fieldWords 0)
+    nothing-known o k ho hk apart known = absurd (not-both _ known (blank-zeros fieldWords o k hk))
 
-    first-known : Known s (frameFor (message .object) (message .name) 0 true (message .parameter))
-    first-known = record { present = able .present; named = able .named; near = omega arith }
+    begun-counts : (getD tallies' (busyPlace l) 0 ≡ bit m) × (getD tallies' l 0 + bit m ≡ getD (begunTallies (w₀ .tallies) l) l 0 + 1)
+    begun-counts = settled-counts m small (rw begun-long (roomy .tallies)) begun-busy (d .settled)
 
-    stack : Stack (Known s) 1 (framesOf k)
-    stack = rw (ap (λ m. m .frames) e) (first-stack (Known s) (frameFor (message .object) (message .name) 0 true (message .parameter)) first-known)
-
-    goes : Goes s l c k
-    goes =
-        record {
-          running = runs;
-          level = ap (λ m. m .level) e;
-          placed-there = z .placed-there;
-          stack = rw (ap (λ m. m .height) e) stack;
-          live = rw (ap (λ m. m .height) e) (omega arith);
-          room = rw long (omega arith);
-          made = rw (ap (λ m. m .steps) e) (omega arith);
-          wrote = rw (ap (λ m. m .writes) e) (omega arith);
-          forked = rw (ap (λ m. m .forks) e) (omega arith);
-          fits = rw (ap (λ m. m .first) e) (able .fits);
-        }
-
-    same-count : getD (begunTallies (w₀ .tallies) l) l 0 ≡ getD (w₀ .tallies) l 0
-    same-count =
-        let t = w₀ .tallies in
-        let less = getD t (waitingPlace l) 0 - 1 in
-        getD-set-other (set t (waitingPlace l) less) (busyPlace l) l 1 0 (λ q. omega (arith, q, small))
-        ∙ getD-set-other t (waitingPlace l) l less 0 (λ q. omega (arith, q, small))
-
-    pub long-same : length (begunTallies (w₀ .tallies) l) ≡ length (w₀ .tallies)
-    long-same =
-        let t = w₀ .tallies in
-        let less = getD t (waitingPlace l) 0 - 1 in
-        length-set (set t (waitingPlace l) less) (busyPlace l) 1 ∙ length-set t (waitingPlace l) less
-
-    pub next-start : NextLoop s begunWords begunWords l c k c k (replicate fieldWords 0)
+    pub next-start : NextLoop s begunWords begunWords l m m (replicate fieldWords 0)
     next-start =
-        let t = w₀ .tallies in
-        let less = getD t (waitingPlace l) 0 - 1 in
-        let there : busyPlace l < length (set t (waitingPlace l) less) = rw (length-set t (waitingPlace l) less) (omega (arith, small, roomy .tallies)) in
         record {
-          lags = λ from lag. lag;
-          still = λ _. goes;
-          recalls = λ _. none-known s begunWords l;
-          seen-long = length-replicate {A = ℕ} fieldWords 0;
-          forked = goes .forked;
-          fits = goes .fits;
-          busy-there = getD-set-same (set t (waitingPlace l) less) (busyPlace l) 1 0 there;
-          settles = made.begun-settles s index (w₀ .ended) (w₀ .tallies) (w₀ .queue) l message starts is;
+          drains = λ from g. g;
+          goes = λ run. record {
+            held = held;
+            running = run;
+            level = level-is;
+            busy-there = begun-counts .0 ∙ rw run refl;
+            recalls = nothing-known;
+            fields-there = roomy .current;
+            seen-there = rw (length-replicate {A = ℕ} fieldWords 0) (omega arith);
+          };
+          busy = begun-counts .0;
           count = refl;
           rest = refl;
+          seen-long = length-replicate {A = ℕ} fieldWords 0;
           current-long = refl;
           ended-long = refl;
           tallies-long = refl;
@@ -174,105 +180,80 @@ module _ (s masks index : List ℕ) (rd : Read s masks index) (w₀ : Words) (l 
           work-long = refl;
         }
 
-    module _ (w : Words) (c' : Course) (k' seen : List ℕ) (i : NextLoop s begunWords w l c k c' k' seen) where
-      roomy-now : Roomy w
-      roomy-now =
+    module _ {w : Words} {m' : code.Manager} {seen : List ℕ} (i : NextLoop s begunWords w l m m' seen) where
+      -- at the end
+      pub next-done : isRunning (m' .core .ending) ≡ false → NextDone s w₀ w l
+      next-done over =
+          let busy : getD (w .tallies) (busyPlace l) 0 ≡ 0 = i .busy ∙ rw over refl in
+          let count : getD (w .tallies) l 0 + 0 ≡ getD tallies' l 0 + bit m = rw over at (i .count) in
           record {
-            current = rw (i .current-long) (roomy .current);
-            ended = rw (i .ended-long) (roomy .ended);
-            tallies = rw (i .tallies-long ∙ long-same) (roomy .tallies);
-            queue = rw (i .queue-long) (roomy .queue);
-            work = rw (i .work-long) (roomy .work);
-          }
-
-      pub next-goes : isRunning (c' .ending) ≡ true → Goes s l c' k' × Lags s w l c' k' seen
-      next-goes run = (
-        i .still run,
-        record {
-          from = z .from;
-          lagging = i .lags (z .from) (lagging (z .from) (z .held) (z .drains));
-          busy-there = i .busy-there;
-          roomy = roomy-now;
-          recalls = i .recalls run;
-          seen-there = rw (i .seen-long) (omega arith);
-        },
-      )
-
-      pub next-closes : isRunning (c' .ending) ≡ false → CloseReady (w .ended) (w .tallies) (w .queue) l c'
-      next-closes over =
-          record { settles = i .settles; over = over; fits = omega (arith, i .fits, i .forked) }
-
-      pub next-done : isRunning (c' .ending) ≡ false → (ended' tallies' : List ℕ) → Closes (w .ended) ended' (w .tallies) tallies' (w .queue) l c' → NextDone s w₀ (record { current = w .current; ended = ended'; tallies = tallies'; queue = w .queue; work = w .work }) l
-      next-done over ended' tallies' d =
-          let t = w .tallies in
-          let n = getD t l 0 + 1 in
-          let x = c' .first + c' .forks + 1 in
-          let long : length (set (set t l n) (nextPlace l) x) ≡ length t = length-set (set t l n) (nextPlace l) x ∙ length-set t l n in
-          let m : courseIn s c' k' ≡ managerOf c' (framesOf k') = rw over refl in
-          let are : tallies' ≡ set (set (set t l n) (nextPlace l) x) (busyPlace l) 0 = d (framesOf k') .tallies-are in
-          record {
-            last = courseIn s c' k';
-            drains = λ from held g. i .lags from (lagging from held g) ended' tallies' (rw m (λ e. absurd (not-both (isRunning (c' .ending)) e over), λ _. d (framesOf k')));
-            rests = ap (λ t. getD t (busyPlace l) 0) are ∙ getD-set-same (set (set t l n) (nextPlace l) x) (busyPlace l) 0 0 (rw long (omega (arith, small, roomy-now .tallies)));
-            count = ap (λ t. getD t l 0) are
-                ∙ getD-set-other (set (set t l n) (nextPlace l) x) (busyPlace l) l 0 0 (λ q. omega (arith, q, small))
-                ∙ getD-set-other (set t l n) (nextPlace l) l x 0 (λ q. omega (arith, q, small))
-                ∙ getD-set-same t l n 0 (omega (arith, small, roomy-now .tallies))
-                ∙ ap (λ y. y + 1) (i .count ∙ same-count);
+            last = managerOf m';
+            drains = λ from held g. i .drains from (began g ended' tallies' (managerOf m) d);
+            rests = busy;
+            count = omega (arith, count, begun-counts .1, begun-count);
             rest = i .rest;
           }
 
--- the manager has gone on
-pub next-again : (s : List ℕ) (w₀ w : Words) (l : ℕ) (c₀ : Course) (k₀ : List ℕ) (c : Course) (k seen : List ℕ) → NextLoop s w₀ w l c₀ k₀ c k seen → (w' : Words) (r : Course) (k' seen' : List ℕ) → Gone s l c k k' seen seen' w w' r → length (w' .current) ≡ length (w .current) → length (w' .ended) ≡ length (w .ended) → length (w' .tallies) ≡ length (w .tallies) → length (w' .queue) ≡ length (w .queue) → length (w' .work) ≡ length (w .work) → NextLoop s w₀ w' l c₀ k₀ r k' seen'
-next-again s w₀ w l c₀ k₀ c k seen i w' r k' seen' g c1 c2 c3 c4 c5 =
-    record {
-      lags = λ from d. g .lags from (i .lags from d);
-      still = g .still;
-      recalls = g .recalls;
-      seen-long = g .seen-long ∙ i .seen-long;
-      forked = g .forked;
-      fits = rw (g .first) (i .fits);
-      busy-there = g .busy-still ∙ i .busy-there;
-      settles = g .settles (i .settles);
-      count = g .count ∙ i .count;
-      rest = g .rest ∙ i .rest;
-      current-long = c1 ∙ i .current-long;
-      ended-long = c2 ∙ i .ended-long;
-      tallies-long = c3 ∙ i .tallies-long;
-      queue-long = c4 ∙ i .queue-long;
-      work-long = c5 ∙ i .work-long;
-    }
+      pub next-drains : Draining s (z .from) w l (managerOf m')
+      next-drains = i .drains (z .from) (began (z .drains) ended' tallies' (managerOf m) d)
 
--- what is left to do: more steps than it has left
-abbrev pub stepsLeft : Course → ℕ
-stepsLeft c = cond (isRunning (c .ending)) (1 + maxScriptSteps - c .steps) 0
+      -- it runs on
+      module _ (run : isRunning (m' .core .ending) ≡ true) {r : code.Manager} (ad : Advanced s (w .current) seen false maxScriptSteps m' r) where
+        pub next-outside : OutsideReady s w seen l (r .core)
+        next-outside = outside-ready rd (i .goes run) ad next-drains
 
-pub next-less : (s : List ℕ) (l : ℕ) (c : Course) (k k' seen seen' : List ℕ) (w w' : Words) (r : Course) → Goes s l c k → Gone s l c k k' seen seen' w w' r → stepsLeft r < stepsLeft c
-next-less s l c k k' seen seen' w w' r go g = elim (truth (isRunning (r .ending))) [
-  | holds e ↦ rw (go .running, e) (omega (arith, g .more e, g .still e .made))
-  | fails e ↦ rw (go .running, e) (omega (arith, go .made))
-]
+        module _ {q : Parts} {seen' : List ℕ} (out : OutsideDone s w q seen seen' l (r .core)) where
+          pub next-settles : SettleReady (w .ended) (q .tallies) (q .queue) l × (r .core .first + r .core .forks < 2 ^ 16)
+          next-settles = (outside-settles rd (i .goes run) ad next-drains out, held-fits (ad .held))
+
+          pub next-less : stepsLeft s seen' r < stepsLeft s seen m'
+          next-less = steps-less rd (i .goes run) ad out
+
+          module _ {ended'' tallies'' : List ℕ} (e : CoreSettled (w .ended) ended'' (q .tallies) tallies'' (q .queue) l (r .core)) where
+            abbrev then : Words
+            then =
+                record { current = q .current; ended = ended''; tallies = tallies''; queue = q .queue; work = q .work }
+
+            counts-then : (getD tallies'' (busyPlace l) 0 ≡ bit r) × (getD tallies'' l 0 + bit r ≡ getD (q .tallies) l 0 + 1)
+            counts-then =
+                settled-counts r small (next-settles .0 .counted) (outside-busy rd (i .goes run) ad next-drains out) (settled-of r e)
+
+            recalls-then : isRunning (r .core .ending) ≡ true → Recalls s then l seen'
+            recalls-then on =
+                let same = e [] .0 on in
+                rw (same .0, same .1) (outside-recalls rd (i .goes run) ad next-drains out)
+
+            pub next-again : length seen' ≡ length seen → length (q .current) ≡ length (w .current) → length ended'' ≡ length (w .ended) → length tallies'' ≡ length (q .tallies) → length (q .tallies) ≡ length (w .tallies) → length (q .queue) ≡ length (w .queue) → length (q .work) ≡ length (w .work) → NextLoop s begunWords then l m r seen'
+            next-again c0 c1 c2 c3 c4 c5 c6 =
+                let go = i .goes run in
+                let before : getD (w .tallies) l 0 + 1 ≡ getD tallies' l 0 + bit m = rw run at (i .count) in
+                record {
+                  drains = λ from g. outside-drains rd go ad (i .drains from g) out ended'' tallies'' (settled-of r e);
+                  goes = λ on. record {
+                    held = ad .held;
+                    running = on;
+                    level = ad .level-is ∙ go .level;
+                    busy-there = counts-then .0 ∙ rw on refl;
+                    recalls = recalls-then on;
+                    fields-there = rw c1 (go .fields-there);
+                    seen-there = rw c0 (go .seen-there);
+                  };
+                  busy = counts-then .0;
+                  count = counts-then .1 ∙ ap (λ n. n + 1) (outside-count rd go ad next-drains out) ∙ before;
+                  rest = outside-rest rd go ad next-drains out ∙ i .rest;
+                  seen-long = c0 ∙ i .seen-long;
+                  current-long = c1 ∙ i .current-long;
+                  ended-long = c2 ∙ i .ended-long;
+                  tallies-long = c3 ∙ c4 ∙ i .tallies-long;
+                  queue-long = c5 ∙ i .queue-long;
+                  work-long = c6 ∙ i .work-long;
+                }
 
 -- the managers in turn
 pub record Turns (s : List ℕ) (w₀ w : Words) (l : ℕ) : Type 0 where
   pub held : Manager
   pub loop : LevelLoop s w₀ w l held
   pub rests : getD (w .tallies) (busyPlace l) 0 ≡ 0
-
-none : Manager
-none =
-    record {
-      level = 0;
-      first = 0;
-      stamp = 0;
-      steps = 0;
-      writes = 0;
-      forks = 0;
-      ending = Running;
-      reply = Nil;
-      height = 0;
-      frames = [];
-    }
 
 module _ (s : List ℕ) (a : verdictOf s ≡ Accepted) (w₀ : Words) (l : ℕ) (q : LevelReady s w₀ l) where
   there : l < levelCount s
@@ -284,17 +265,17 @@ module _ (s : List ℕ) (a : verdictOf s ≡ Accepted) (w₀ : Words) (l : ℕ) 
 
   resting : getD (w₀ .tallies) (busyPlace l) 0 ≡ 0
   resting =
-      subst (Runs (levelCount s) w₀ l none (length (levelAt (q .0) l .ended))) (q .1 .0 .idle-all l there) (q .1 .0 .says (λ _. none) .told .level l there .activity)
+      subst (Runs (levelCount s) w₀ l anyManager (length (levelAt (q .0) l .ended))) (q .1 .0 .idle-all l there) (q .1 .0 .says (λ _. anyManager) .told .level l there .activity)
 
   pub turns-start : Turns s w₀ w₀ l
-  turns-start = record { held = none; loop = level-start s a w₀ l q none; rests = resting }
+  turns-start = record { held = anyManager; loop = level-start s a w₀ l q anyManager; rests = resting }
 
   module _ (w : Words) (i : Turns s w₀ w l) where
     drains : Draining s (q .0) w l (i .held)
     drains = i .loop .drains (q .0) (q .1 .0) (q .1 .1)
 
     pub turns-counted : waitingPlace l < length (w .tallies)
-    turns-counted = omega (arith, turns-small, drains .says (λ _. none) .told .roomy .tallies)
+    turns-counted = omega (arith, turns-small, drains .says (λ _. anyManager) .told .roomy .tallies)
 
     pub turns-next : 0 < getD (w .tallies) (waitingPlace l) 0 → NextReady s w l
     turns-next waits =
@@ -303,7 +284,7 @@ module _ (s : List ℕ) (a : verdictOf s ≡ Accepted) (w₀ : Words) (l : ℕ) 
     module _ (w' : Words) (d : NextDone s w w' l) where
       pub turns-less : maxManagers - getD (w' .tallies) l 0 < maxManagers - getD (w .tallies) l 0
       turns-less =
-          let few = d .drains (q .0) (i .held) drains .says (λ _. none) .told .counts-few l turns-small in
+          let few = d .drains (q .0) (i .held) drains .says (λ _. anyManager) .told .counts-few l turns-small in
           omega (arith, d .count, few)
 
       pub turns-again : length (w' .current) ≡ length (w .current) → length (w' .ended) ≡ length (w .ended) → length (w' .tallies) ≡ length (w .tallies) → length (w' .queue) ≡ length (w .queue) → length (w' .work) ≡ length (w .work) → Turns s w₀ w' l

@@ -14,9 +14,8 @@ use Rattle.session.specs.Program.{Program, programOf}
 use Rattle.session.specs.Questions.{verdictOf}
 use Rattle.session.specs.declared.Verdict.the-variants.{Accepted}
 use Rattle.session.proofs.Laws.Contents.{level-limit, masks-length}
-use Rattle.managers.specs.Limits.{maxScriptSteps}
-use Rattle.managers.specs.Valid.{Leveled}
-use Rattle.managers.specs.declared.Manager.{Manager}
+use Rattle.scripts.specs.Limits.{maxScriptSteps}
+use Rattle.scripts.specs.Valid.{Leveled}
 use Rattle.model.specs.Limits.{maxManagers}
 use Rattle.model.specs.Level.{idle, Level, isBusy, hasManager}
 use Rattle.model.specs.Step.{State, levelAt, stepAt}
@@ -33,6 +32,7 @@ use Rattle.level_managers.specs.declared.tallies.Permit.{Permit}
 use Rattle.level_managers.specs.declared.tallies.Permit.the-variants.{Given, Absent, Idle, Blocked}
 use Rattle.level_managers.proofs.Laws.Step.{says-live}
 use Rattle.level_managers.proofs.Laws.Asked.{asked-is, wordsNoted, noted-says}
+use Rattle.scheduler.proofs.Laws.Listed.{anyManager}
 
 -- the managers that the levels from i on, k of them, have room for still
 unfoldable pub roomFrom : List ℕ → ℕ → ℕ → ℕ
@@ -127,15 +127,15 @@ ran-start s w r =
       lower = λ j h _. absurd (omega (arith, h));
     }
 
-module _ (s masks : List ℕ) (a : verdictOf s ≡ Accepted) (few : levelCount s ≤ maxLevels) (table : masks ≡ masksOf s) (long : length masks ≡ levelCount s) (w : Words) (level : ℕ) (m : Manager) (g : Ran s w level) where
+module _ (s masks : List ℕ) (a : verdictOf s ≡ Accepted) (few : levelCount s ≤ maxLevels) (table : masks ≡ masksOf s) (long : length masks ≡ levelCount s) (w : Words) (level : ℕ) (g : Ran s w level) where
   abbrev st : State
   st = g .state
 
-  abbrev said : Says s w (λ _. m) st
-  said = g .rests .says (λ _. m)
+  abbrev said : Says s w (λ _. anyManager) st
+  said = g .rests .says (λ _. anyManager)
 
   refusal-is : (p : Permit) → p ≡ permitOf masks (w .tallies) level → numberOfPermit p ≡ stepRefusal (programOf s) st level
-  refusal-is p e = ap numberOfPermit e ∙ asked-is s masks table long w (λ _. m) st said level
+  refusal-is p e = ap numberOfPermit e ∙ asked-is s masks table long w (λ _. anyManager) st said level
 
   -- a level that may not step is passed
   pub ran-skip : (p : Permit) → p ≡ permitOf masks (w .tallies) level → isGiven p ≡ false → Ran s w (level + 1)
@@ -188,7 +188,7 @@ module _ (s masks : List ℕ) (a : verdictOf s ≡ Accepted) (few : levelCount s
 
     counted : (w : Words) (st : State) → Rests s w st → (1 + maxScriptSteps) * roomFrom (w .tallies) 0 (length masks) ≡ total st
     counted w st r =
-        let y = r .says (λ _. m) .told in
+        let y = r .says (λ _. anyManager) .told in
         ap (λ n. (1 + maxScriptSteps) * roomFrom (w .tallies) 0 n) (long ∙ sym (y .levels))
         ∙ room-is (w .tallies) st 0 (λ j h. let hj : j < levelCount s = rw (sym (y .levels)) h in (ap (λ k. getD (w .tallies) k 0) (zero-less j) ∙ y .level j hj .ended-count, r .idle-all j hj))
       where
@@ -199,13 +199,13 @@ module _ (s masks : List ℕ) (a : verdictOf s ≡ Accepted) (few : levelCount s
     pub ran-less : (w' : Words) → LevelDone s (wordsNoted w level) w' level → roomFrom (w' .tallies) 0 (length masks) < roomFrom (w .tallies) 0 (length masks)
     ran-less w' d =
         let r = d .ran st ran-rests ran-allowed in
-        let live = says-live s a w (λ _. m) st said in
+        let live = says-live s a w (λ _. anyManager) st said in
         let f = fewer s a (r .list) st (r .state) level live (r .leads) (allowed (programOf s) st level ran-allowed .1 .0) (r .dry) in
         omega (arith, f, counted w st (g .rests), counted w' (r .state) (r .rests))
 
   -- where none may step all managers have ended
   pub ran-end : length masks ≤ level → Done s w
-  ran-end h = (g .list, ((λ _. m), (st, (over, said .told))))
+  ran-end h = (g .list, ((λ _. anyManager), (st, (over, said .told))))
     where
       ended : question15 (programOf s) st ≡ true
       ended =
@@ -250,8 +250,8 @@ pub record PlainLoop (s masks : List ℕ) (w₀ w : Words) (level : ℕ) : Type 
 abbrev pub plainLeft : List ℕ → List ℕ → ℕ → ℕ
 plainLeft masks tallies level = 9 * roomFrom tallies 0 (length masks) + (length masks - level)
 
-pub plain-start : (s masks : List ℕ) (w : Words) → Rests s w (startOf s) → PlainLoop s masks w w 0
-plain-start s masks w r =
+pub plain-start : {s masks : List ℕ} {w : Words} → Rests s w (startOf s) → PlainLoop s masks w w 0
+plain-start {s} {masks} {w} r =
     record {
       ran = ran-start s w r;
       low = omega arith;
@@ -263,7 +263,7 @@ plain-start s masks w r =
       work-long = refl;
     }
 
-module _ (s masks : List ℕ) (y : Leveled s masks) (m : Manager) (w₀ w : Words) (level : ℕ) (i : PlainLoop s masks w₀ w level) where
+module _ {s masks : List ℕ} (y : Leveled s masks) {w₀ w : Words} {level : ℕ} (i : PlainLoop s masks w₀ w level) where
   a : verdictOf s ≡ Accepted
   a = y .accepted
 
@@ -275,12 +275,12 @@ module _ (s masks : List ℕ) (y : Leveled s masks) (m : Manager) (w₀ w : Word
 
   pub plain-counted : Countable masks (w .tallies)
   plain-counted =
-      record { few = omega (arith, long, few); room = i .ran .rests .says (λ _. m) .told .roomy .tallies }
+      record { few = omega (arith, long, few); room = i .ran .rests .says (λ _. anyManager) .told .roomy .tallies }
 
   pub plain-done : length masks ≤ level → Done s w
-  plain-done h = ran-end s masks a few (y .masks-are) long w level m (i .ran) h
+  plain-done h = ran-end s masks a few (y .masks-are) long w level (i .ran) h
 
-  module _ (h : level < length masks) (p : Permit) (e : p ≡ permitOf masks (w .tallies) level) (t : List ℕ) (n : t ≡ noted p level (w .tallies)) where
+  module _ (h : level < length masks) {p : Permit} (e : p ≡ permitOf masks (w .tallies) level) {t : List ℕ} (n : t ≡ noted p level (w .tallies)) where
     -- a level that may not step
     module _ (z : isGiven p ≡ false) where
       same : t ≡ w .tallies
@@ -292,7 +292,7 @@ module _ (s masks : List ℕ) (y : Leveled s masks) (m : Manager) (w₀ w : Word
           skipped : PlainLoop s masks w₀ w (level + 1)
           skipped =
               record {
-                ran = ran-skip s masks a few (y .masks-are) long w level m (i .ran) p e z;
+                ran = ran-skip s masks a few (y .masks-are) long w level (i .ran) p e z;
                 low = omega (arith, h);
                 rest = i .rest;
                 current-long = i .current-long;
@@ -314,7 +314,7 @@ module _ (s masks : List ℕ) (y : Leveled s masks) (m : Manager) (w₀ w : Word
       with-noted = ap (withTallies w) (n ∙ noted-given p level (w .tallies) z)
 
       ready-at : {u : Words} → u ≡ wordsNoted w level → LevelReady s u level
-      ready-at q = rw q (ran-ready s masks a few (y .masks-are) long w level m (i .ran) p e z)
+      ready-at q = rw q (ran-ready s masks a few (y .masks-are) long w level (i .ran) p e z)
 
       done-at : {u w' : Words} → u ≡ wordsNoted w level → LevelDone s u w' level → LevelDone s (wordsNoted w level) w' level
       done-at q d = rw (sym q) d
@@ -322,15 +322,15 @@ module _ (s masks : List ℕ) (y : Leveled s masks) (m : Manager) (w₀ w : Word
       pub plain-ready : LevelReady s (withTallies w t) level
       plain-ready = ready-at with-noted
 
-      module _ (w' : Words) (d : LevelDone s (withTallies w t) w' level) where
+      module _ {w' : Words} (d : LevelDone s (withTallies w t) w' level) where
         pub plain-less : plainLeft masks (w' .tallies) 0 < plainLeft masks (w .tallies) level
         plain-less =
-            omega (arith, h, long, few, ran-less s masks a few (y .masks-are) long w level m (i .ran) p e z w' (done-at with-noted d))
+            omega (arith, h, long, few, ran-less s masks a few (y .masks-are) long w level (i .ran) p e z w' (done-at with-noted d))
 
         pub plain-again : length (w' .current) ≡ length (w .current) → length (w' .ended) ≡ length (w .ended) → length (w' .tallies) ≡ length t → length t ≡ length (w .tallies) → length (w' .queue) ≡ length (w .queue) → length (w' .work) ≡ length (w .work) → PlainLoop s masks w₀ w' 0
         plain-again c1 c2 c3 c4 c5 c6 =
             record {
-              ran = ran-level s masks a few (y .masks-are) long w level m (i .ran) p e z w' (done-at with-noted d);
+              ran = ran-level s masks a few (y .masks-are) long w level (i .ran) p e z w' (done-at with-noted d);
               low = omega arith;
               rest = d .rest ∙ i .rest;
               current-long = c1 ∙ i .current-long;

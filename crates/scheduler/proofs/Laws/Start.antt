@@ -21,7 +21,7 @@ use Rattle.session.specs.declared.Message.{Message}
 use Rattle.session.specs.declared.Verdict.the-variants.{Accepted}
 use Rattle.session.proofs.Laws.Accepted.{level-present, root-present}
 use Rattle.session.proofs.Laws.Contents.{level-limit, index-made}
-use Rattle.managers.specs.declared.Manager.{Manager}
+use Rattle.scripts.specs.State.{Manager}
 use Rattle.model.specs.Lists.{modify}
 use Rattle.model.specs.Level.{idle, newLevel, arrived, newest}
 use Rattle.model.specs.Step.{State, levelAt}
@@ -29,7 +29,7 @@ use Rattle.model.specs.Schedule.{readIn}
 use Rattle.model.proofs.Laws.Order.Accepted.{sound}
 use Rattle.model.proofs.Laws.Deep.Root.{each-level}
 use Rattle.model.proofs.Laws.Code.Progress.{leads-none}
-use Rattle.records.specs.Fields.{fieldAt, Filled}
+use Rattle.words.specs.Fields.{fieldAt, Filled}
 use Rattle.records.specs.Histories.{InOrder}
 use Rattle.records.proofs.Laws.Histories.{histories-none}
 use Rattle.queues.specs.Queue.{forkOfRow, RootRow, Room, Arrived}

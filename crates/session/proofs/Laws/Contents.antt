@@ -2,12 +2,12 @@
 use Prim.Native.Nat.{ℕ, suc, _+_, _-_, _*_, _/_, _%_, _≤_, _<_}
 use mathlib.Core.Path.{_≡_, sym, _∙_, ap}
 use mathlib.Core.Bool.{true}
-use mathlib.Core.List.{List, [], map, _++_, append-nil}
+use mathlib.Core.List.{List, [], _++_, append-nil}
 use native.Mathlib.Decide.{decLt}
 use native.Mathlib.Omega.{arith}
 use borrow.Author.Tests.{ltb-true, lt-ltb, le-ltb}
 use lib.Dec.{ltb}
-use lib.ListN.{length, getD, drop, length-map, List·getD-map, List·getD-eq-default}
+use lib.ListN.{length, getD, drop, length-map, List·getD-map}
 use lib.Seq.{drop-length}
 use Rattle.lattice.proofs.Laws.Range.{and-left}
 use Rattle.session.specs.Limits.{names, maxMethods, maxObjects}
@@ -15,7 +15,7 @@ use Rattle.session.specs.Lists.{risingFrom}
 use Rattle.session.specs.Record.{recordAt, recordCount, numberOf, nameOf, maskOf, stepOf}
 use Rattle.session.specs.Parts.{levelRecords, objectRecords, stepRecords, levelCount, objectCount, stepCount, masksOf, key, keyOf, methodRecords, rootRecord}
 use Rattle.session.specs.Questions.{scriptValid, methodsValid, scriptsValid, kindsRise, verdictOf}
-use Rattle.session.specs.Meaning.{stepAt}
+use Rattle.session.specs.Meaning.{methodOf, stepAt}
 use Rattle.session.specs.Reading.{methodStart, indexOf, countBelow}
 use Rattle.session.specs.declared.Verdict.the-variants.{Accepted}
 use Rattle.session.specs.declared.Step.the-variants.{End}
@@ -125,6 +125,10 @@ module _ (s : List ℕ) (a : verdictOf s ≡ Accepted) where
     | no g ↦ omega arith
   ]
 
+  -- how many steps a method has, by its key
+  pub method-length : (o m : ℕ) → m < 256 → length (methodOf s o m) ≡ length (methodRecords s (key o m))
+  method-length o m h = ap length (method-is s yes-to-all o m h) ∙ length-map (methodRecords s (key o m)) stepOf
+
   -- the steps of a method: they stand from its start on
   pub method-step : (o m j : ℕ) → m < names → j < length (methodRecords s (key o m)) → stepOf (recordAt s (methodStart s (key o m) + j)) ≡ stepAt s o m j
   unfolding methodStart methodRecords stepOf
@@ -136,11 +140,6 @@ module _ (s : List ℕ) (a : verdictOf s ≡ Accepted) where
       let z : levelCount s + objectCount s + (below + j) ≡ levelCount s + objectCount s + below + j = omega arith in
       sym (List·getD-map stepOf (methodRecords s k) j []
       ∙ ap stepOf (among-at keyOf [] k 0 (stepRecords s) keys-rise j h ∙ step-is s rises (below + j) in-range ∙ ap (recordAt s) z))
-      ∙ ap (λ l. getD l j End) (sym (method-is s yes-to-all o m (omega arith)))
-
-  pub method-over : (o m j : ℕ) → m < names → length (methodRecords s (key o m)) ≤ j → End ≡ stepAt s o m j
-  method-over o m j hm h =
-      sym (List·getD-eq-default (map stepOf (methodRecords s (key o m))) End (omega (arith, length-map (methodRecords s (key o m)) stepOf)))
       ∙ ap (λ l. getD l j End) (sym (method-is s yes-to-all o m (omega arith)))
 
   -- the method index

@@ -7,14 +7,14 @@ use native.Mathlib.Numerals.{add-one}
 use native.Mathlib.Omega.{arith}
 use lib.ListN.{length, getD, set, length-set}
 use lib.Seq.{getD-set-same, getD-set-other}
+use Rattle.words.specs.Outside.{Outside}
+use Rattle.words.proofs.Laws.Outside.{outside-none, outside-set}
 use Rattle.model.specs.Limits.{workNumbers}
 use Rattle.model.specs.Level.{Version}
 use Rattle.versions.specs.Log.{maxVersions, logStart, firstOf, secondOf, versionOf, versionAt, logOf, Within}
-use Rattle.rows.specs.Change.{Outside}
-use Rattle.rows.proofs.Laws.Outside.{outside-wider, outside-then}
 use Rattle.versions.specs.Changes.{stored, Appended}
 use Rattle.versions.proofs.Laws.Packing.{version-back}
-use Rattle.versions.proofs.Laws.Outside.{outside-set, outside-rest}
+use Rattle.versions.proofs.Laws.Outside.{outside-rest}
 
 pub log-none : (w : List ℕ) (start : ℕ) → logOf w start 0 ≡ []
 unfolding logOf
@@ -58,8 +58,8 @@ appended w level n v p q h s f g =
     let there : at < length w = omega arith in
     let next : at + 1 < length one = rw length-set (omega arith) in
     let out : Outside w two at (at + 2) =
-    outside-then w one two at (at + 2) (outside-wider w one at (at + 1) at (at + 2) (omega arith) (omega arith) (outside-set w at p))
-    (outside-wider one two (at + 1) (at + 1 + 1) at (at + 2) (omega arith) (omega arith) (outside-set one (at + 1) q)) in
+    outside-set w one at (at + 2) (at + 1) q (omega arith) (omega arith)
+    (outside-set w w at (at + 2) at p (omega arith) (omega arith) (outside-none w at (at + 2))) in
     let first : getD two at 0 ≡ p = getD-set-other one (at + 1) at q 0 (λ z. omega arith) ∙ getD-set-same w at p 0 there in
     let second : getD two (at + 1) 0 ≡ q = getD-set-same one (at + 1) q 0 next in
     let back : versionOf p q ≡ v = ap₂ versionOf f g ∙ version-back v s (omega arith) in

@@ -3,7 +3,7 @@ use mathlib.Core.Path.{sym, _∙_}
 use native.Mathlib.Omega.{arith}
 use lib.ListN.{length-set}
 use borrow.Author.Needs.{needs}
-use Rattle.level_managers.proofs.Laws.Made.{settled-on, history-room, settled-off}
+use Rattle.level_managers.proofs.Laws.Made.{core-on, core-room, core-off}
 use Rattle.level_managers.proofs.steps.settle.Statement.{statement}
 use Rattle.level_managers.proofs.steps.settle.Tie as tie
 
@@ -13,7 +13,7 @@ is-running-requires c κs = search needs
 returns : tie.Need-returns
 returns c =
     let z = c .before .before .before .before .before in
-    settled-on (z .args .ended .now) (z .args .tallies .now) (z .args .queue .now) (z .args .level) (z .args .m) (sym (c .before .is-running .ensures) ∙ c .if1 .taken)
+    core-on (z .args .ended .now) (z .args .tallies .now) (z .args .queue .now) (z .args .level) (z .args .core) (sym (c .before .is-running .ensures) ∙ c .if1 .taken)
 
 mul-count : tie.Need-mul-count
 mul-count c = search needs
@@ -24,13 +24,15 @@ slice-read-count c = search needs
 stamp-at-requires : tie.Need-stamp-at-requires
 stamp-at-requires c κs = search needs
 
-ended-of-requires : tie.Need-ended-of-requires
-ended-of-requires c κs = search needs
+ended-requires : tie.Need-ended-requires
+ended-requires c κs = search needs
 
 add-requires : tie.Need-add-requires
 add-requires c κs =
-    let z = c .before .before .before .before .before .before .before .before .before in
-    history-room (z .args .ended .now) (z .args .tallies .now) (z .args .queue .now) (z .args .level) (z .args .m) (c .before .before .stamp-at .result) (c .ended-of .result) (sym (c .before .before .before .before .before .is-running .ensures) ∙ c .before .before .before .before .if1 .left) (c .before .before .stamp-at .ensures) (c .ended-of .ensures) (z .pre)
+    let at = c .before in
+    let z = at .before .before .before .before .before .before .before .before in
+    let stamp = at .before .stamp-at in
+    core-room (z .args .ended .now) (z .args .tallies .now) (z .args .queue .now) (z .args .level) (z .args .core) (stamp .result) (at .ended .result) (sym (at .before .before .before .before .is-running .ensures) ∙ at .before .before .before .if1 .left) (stamp .ensures) (at .ended .ensures) (z .pre .0)
 
 add-tallies : tie.Need-add-tallies
 add-tallies c = search needs
@@ -73,10 +75,11 @@ same-length-2 c = search needs
 
 returns-2 : tie.Need-returns-2
 returns-2 c =
-    let at = c .before .before .before .before in
-    let z = at .before .before .before .before .before .before .before .before .before in
+    let at = c .before .before .before .before .before in
+    let z = at .before .before .before .before .before .before .before .before in
+    let stamp = at .before .stamp-at in
     let called = c .before .before .before .add in
-    settled-off (z .args .ended .now) (z .args .tallies .now) (z .args .queue .now) (z .args .level) (z .args .m) (at .before .before .stamp-at .result) (at .ended-of .result) (sym (at .before .before .before .before .before .is-running .ensures) ∙ at .before .before .before .before .if1 .left) (at .before .before .stamp-at .ensures) (at .ended-of .ensures) (called .last .0) (called .ensures)
+    core-off (z .args .ended .now) (z .args .tallies .now) (z .args .queue .now) (z .args .level) (z .args .core) (stamp .result) (at .ended .result) (sym (at .before .before .before .before .is-running .ensures) ∙ at .before .before .before .if1 .left) (stamp .ensures) (at .ended .ensures) (called .last .0) (called .ensures)
 
 pub settle-spec : {M : Type 1} → statement M
 settle-spec =
@@ -87,7 +90,7 @@ settle-spec =
     mul-count
     slice-read-count
     stamp-at-requires
-    ended-of-requires
+    ended-requires
     add-requires
     add-tallies
     mul-tallies

@@ -3,7 +3,8 @@ use mathlib.Core.Path.{_∙_}
 use native.Mathlib.Omega.{arith}
 use lib.ListN.{length-set}
 use borrow.Author.Needs.{needs}
-use Rattle.level_managers.proofs.Laws.Made.{start-asks, begun-settles, begun}
+use Rattle.managers.specs.Core.{managerOf}
+use Rattle.level_managers.proofs.Laws.Made.{start-asks, begun-settles, begun, settled-of, held-fits}
 use Rattle.level_managers.proofs.steps.start.Statement.{statement}
 use Rattle.level_managers.proofs.steps.start.Tie as tie
 
@@ -68,9 +69,9 @@ slice-write-tallies-2 c = simp length-set (omega arith)
 
 settle-requires : tie.Need-settle-requires
 settle-requires c κs =
-    let at = c .before .before .before .before .before in
+    let at = c .before .before .before .before .before .before in
     let z = at .before .before .before .before .before .before .before in
-    begun-settles (z .args .session .now) (z .args .index .now) (z .args .ended .now) (z .args .tallies .now) (z .args .queue .now) (z .args .level) (at .message-at .result) (z .pre) (at .message-at .ensures)
+    (begun-settles (z .args .session .now) (z .args .index .now) (z .args .ended .now) (z .args .tallies .now) (z .args .queue .now) (z .args .level) (at .message-at .result) (z .pre) (at .message-at .ensures), held-fits (c .before .before .before .before .start .ensures .1))
 
 same-length : tie.Need-same-length
 same-length c = search needs
@@ -80,11 +81,13 @@ same-length-2 c = c .before .before .before .before .settle .kept .1 .0 ∙ simp
 
 returns : tie.Need-returns
 returns c =
-    let at = c .before .before .before .before .before .before .before .before .before .before in
-    let z = at .before .before .before .before .before .before .before in
-    let made = c .before .before .before .before .before .before .before .before .start in
     let called = c .before .before .before .before .settle in
-    begun (z .args .session .now) (z .args .index .now) (z .args .ended .now) (z .args .tallies .now) (z .args .queue .now) (z .args .level) (at .message-at .result) (z .pre) (at .message-at .ensures) (called .last .0) (called .last .1 .0) (made .result) (made .ensures) (called .ensures)
+    let made = c .before .before .before .before .before .before .before .before .before .start in
+    let at = c .before .before .before .before .before .before .before .before .before .before .before in
+    let z = at .before .before .before .before .before .before .before in (
+      begun (z .args .session .now) (z .args .index .now) (z .args .ended .now) (z .args .tallies .now) (z .args .queue .now) (z .args .level) (at .message-at .result) (z .pre) (at .message-at .ensures) (called .last .0) (called .last .1 .0) (managerOf (made .result)) (made .ensures .0) (settled-of (made .result) (called .ensures)),
+      made .ensures .1,
+    )
 
 pub start-spec : {M : Type 1} → statement M
 start-spec =

@@ -16,22 +16,21 @@ entry z =
 
 there : (z : tie.Start) → (z .args .level < maxLevels) × (tallyNumbers ≤ length (z .args .tallies .now))
 there z =
-    counted-here (z .args .session .now) (z .args .masks .now) (z .args .index .now) (entry z) (z .args .level) (z .args .m) (z .pre .0) (z .pre .1)
+    counted-here (z .args .session .now) (z .args .masks .now) (z .args .index .now) (entry z) (z .args .level) (z .args .m) (z .pre .0) (z .pre .1 .0)
 
 add-if1 : tie.Need-add-if1
-add-if1 c = omega (arith, there (c .before .before .before .before .before .before .before .before))
+add-if1 c = omega (arith, there (c .before .before .before .before .before .before .before .before .before))
 
 mul-if1 : tie.Need-mul-if1
-mul-if1 c = omega (arith, there (c .before .before .before .before .before .before .before .before))
+mul-if1 c = omega (arith, there (c .before .before .before .before .before .before .before .before .before))
 
 slice-read-if1 : tie.Need-slice-read-if1
-slice-read-if1 c =
-    omega (arith, there (c .before .before .before .before .before .before .before .before .before))
+slice-read-if1 c = omega (arith, there (c .before .before .before .before .before .before .before .before .before .before))
 
 start-requires : tie.Need-start-requires
 start-requires c κs =
-    let z = c .before .before .before .before .before .before .before .before .before .before .before .before .before in
-    start-here (z .args .session .now) (z .args .masks .now) (z .args .index .now) (entry z) (z .args .level) (z .args .m) (z .pre .0) (c .before .before .before .if1 .taken) (z .pre .1)
+    let z = c .before .before .before .before .before .before .before .before .before .before .before .before .before .before in
+    start-here (z .args .session .now) (z .args .masks .now) (z .args .index .now) (entry z) (z .args .level) (z .args .m) (z .pre .0) (c .before .before .before .if1 .taken) (z .pre .1 .0)
 
 same-length : tie.Need-same-length
 same-length c = search needs
@@ -46,14 +45,14 @@ returns : tie.Need-returns
 returns c =
     let called = c .before .before .before .before .start in
     let at = c .before .before .before .before .before .before .before .before in
-    let z = at .before .before .before .before .before .before .before .before .before .before in
-    start-done (z .args .session .now) (z .args .masks .now) (z .args .index .now) (entry z) (z .args .level) (z .args .m) (z .pre .0) (at .if1 .taken) (called .last .1 .1 .0) (called .last .1 .1 .1 .0) (called .result) (called .ensures)
+    let z = at .before .before .before .before .before .before .before .before .before .before .before in
+    start-done (z .args .session .now) (z .args .masks .now) (z .args .index .now) (entry z) (z .args .level) (z .args .m) (z .pre .0) (at .if1 .taken) (z .args .seen .now) (called .last .1 .1 .0) (called .last .1 .1 .1 .0) (called .result) (z .pre .1 .1 .blank) (called .ensures)
 
 advance-requires : tie.Need-advance-requires
 advance-requires c κs =
-    let at = c .before .before .before .before .before in
-    let z = at .before .before .before .before .before .before .before .before .before .before in
-    (z .pre .0, (z .pre .1, at .if1 .left))
+    let at = c .before .before .before .before .before .before in
+    let z = at .before .before .before .before .before .before .before .before .before .before .before in
+    (z .pre .0, (z .pre .1 .0, (z .pre .1 .1, at .if1 .left)))
 
 same-length-4 : tie.Need-same-length-4
 same-length-4 c = search needs
@@ -69,6 +68,9 @@ same-length-7 c = search needs
 
 same-length-8 : tie.Need-same-length-8
 same-length-8 c = search needs
+
+same-length-9 : tie.Need-same-length-9
+same-length-9 c = search needs
 
 returns-2 : tie.Need-returns-2
 returns-2 c = search needs
@@ -91,4 +93,5 @@ step-spec =
     same-length-6
     same-length-7
     same-length-8
+    same-length-9
     returns-2)

@@ -1,37 +1,144 @@
 -- `managers::Manager::start` meets its contract. Assumes nothing.
-use mathlib.Core.Path.{refl, _∙_}
-use mathlib.Core.Bool.{true}
+use Prim.Native.Nat.{ℕ, _+_}
+use mathlib.Core.Path.{_≡_, refl, sym, _∙_, ap, ap₂}
+use mathlib.Core.Bool.{true, false}
+use mathlib.Core.List.{List, [], _∷_}
 use native.Mathlib.Omega.{arith}
 use borrow.Author.Needs.{needs}
-use Rattle.managers.specs.Frame.{frameFor}
-use Rattle.managers.specs.Manager.{started}
-use Rattle.managers.specs.Valid.{Known}
-use Rattle.managers.proofs.Laws.Stack.{first-stack}
+use borrow.Author.Tests.{leb-false}
+use lib.Dec.{leb}
+use lib.ListN.{length}
+use Rattle.lattice.proofs.Laws.Range.{not-both}
+use Rattle.session.specs.Program.{programOf}
+use Rattle.session.specs.Questions.{verdictOf}
+use Rattle.session.specs.declared.Message.{Message}
+use Rattle.session.specs.declared.Value.the-variants.{Nil}
+use Rattle.session.specs.declared.Verdict.the-variants.{Accepted}
+use Rattle.session.proofs.Laws.Lists.{holds, fails, truth}
+use Rattle.scripts.specs.State as defined
+use Rattle.scripts.specs.Frame.{frameFor}
+use Rattle.scripts.specs.Manager.{isEnd, nextStep, started}
+use Rattle.scripts.specs.Valid.{Startable}
+use Rattle.scripts.specs.declared.Ending.the-variants.{Running, Finished}
+use Rattle.scripts.proofs.Laws.Settle.{concluded-last, concluded-not}
+use Rattle.managers.specs.Frames.{frameOf, below, Placed}
+use Rattle.managers.specs.Core.{managerOf}
+use Rattle.managers.specs.Moves.{stoodAs, closedAs}
+use Rattle.managers.specs.Steps.{waitingFrames, Held}
+use Rattle.managers.specs.declared.Core.{Core}
+use Rattle.managers.specs.declared.Effect.the-variants.{Nothing}
+use Rattle.managers.specs.declared.frames.Frame.{Frame}
+use Rattle.managers.specs.declared.frames.Waiting.{Waiting}
+use Rattle.managers.proofs.Laws.Frames.{at-end, not-end, closed-last, closed-goes}
 use Rattle.managers.proofs.Manager.start.Statement.{statement}
 use Rattle.managers.proofs.Manager.start.Tie as tie
+
+-- a manager with its first frame
+abbrev begun : ℕ → ℕ → Frame → Core
+begun level first f =
+    record {
+      level = level;
+      first = first;
+      steps = 0;
+      writes = 0;
+      forks = 0;
+      height = 1;
+      ending = Running;
+      reply = Nil;
+      top = f;
+      effect = Nothing;
+    }
+
+-- as the definitions have it, at a write stamp
+abbrev alone : ℕ → ℕ → ℕ → defined.Frame → defined.Manager
+alone level first stamp f =
+    record {
+      level = level;
+      first = first;
+      stamp = stamp;
+      steps = 0;
+      writes = 0;
+      forks = 0;
+      ending = Running;
+      reply = Nil;
+      frames = f ∷ [];
+    }
+
+module _ (s : List ℕ) (a : verdictOf s ≡ Accepted) (level stamp : ℕ) (m : Message) (h : Startable s level stamp m) (f : Frame) (is : frameOf f ≡ frameFor (m .object) (m .name) 0 true (m .parameter)) (p : Placed s f) (ws : List Waiting) (room : length ws ≡ waitingFrames) where
+  -- no fork made adds nothing to the write stamp
+  none : stamp + 0 ≡ stamp
+  none = omega arith
+
+  -- an empty method ends at once
+  ends : leb (f .count) (f .next) ≡ true → managerOf (record { core = stoodAs (begun level stamp f) 0 Finished Nil; waiting = ws }) ≡ started (programOf s) level stamp m
+  unfolding managerOf started
+  ends q =
+      let g = frameFor (m .object) (m .name) 0 true (m .parameter) in
+      rw none (sym (concluded-last (programOf s) (alone level stamp stamp g) g (ap (λ x. isEnd (nextStep (programOf s) x)) (sym is) ∙ at-end s a f p q)))
+
+  ends-held : Held s (record { core = stoodAs (begun level stamp f) 0 Finished Nil; waiting = ws })
+  ends-held =
+      record {
+        level = h .placed;
+        low = omega arith;
+        made = omega arith;
+        wrote = omega arith;
+        forked = omega arith;
+        fits = h .fits;
+        top = p;
+        room = room;
+        each = λ k l. absurd (omega arith);
+        live = λ r. absurd (not-both false r refl);
+        few = λ r. absurd (not-both false r refl);
+        goes = λ r. absurd (not-both false r refl);
+      }
+
+  -- another runs
+  goes : leb (f .count) (f .next) ≡ false → managerOf (record { core = begun level stamp f; waiting = ws }) ≡ started (programOf s) level stamp m
+  unfolding managerOf started below
+  goes q =
+      let g = frameFor (m .object) (m .name) 0 true (m .parameter) in
+      ap₂ (alone level stamp) none is
+      ∙ sym (concluded-not (programOf s) (alone level stamp stamp g) g [] refl refl (omega arith)
+      (ap (λ x. isEnd (nextStep (programOf s) x)) (sym is) ∙ not-end s a f p (leb-false (f .count) (f .next) q)))
+
+  goes-held : leb (f .count) (f .next) ≡ false → Held s (record { core = begun level stamp f; waiting = ws })
+  goes-held q =
+      record {
+        level = h .placed;
+        low = omega arith;
+        made = omega arith;
+        wrote = omega arith;
+        forked = omega arith;
+        fits = h .fits;
+        top = p;
+        room = room;
+        each = λ k l. absurd (omega arith);
+        live = λ r. omega arith;
+        few = λ r. omega arith;
+        goes = λ r. leb-false (f .count) (f .next) q;
+      }
+
+  starts : (c : Core) → c ≡ closedAs (begun level stamp f) → (managerOf (record { core = c; waiting = ws }) ≡ started (programOf s) level stamp m) × Held s (record { core = c; waiting = ws })
+  starts c e = elim (truth (leb (f .count) (f .next))) [
+    | holds q ↦ rw (e ∙ closed-last (begun level stamp f) refl q) (ends q, ends-held)
+    | fails q ↦ rw (e ∙ closed-goes (begun level stamp f) refl q (omega arith)) (goes q, goes-held q)
+  ]
 
 new-requires : tie.Need-new-requires
 new-requires c κs = search needs
 
-new-requires-2 : tie.Need-new-requires-2
-new-requires-2 c κs = search needs
+closed-requires : tie.Need-closed-requires
+closed-requires c κs = search needs
 
-array-set-from-frames : tie.Need-array-set-from-frames
-array-set-from-frames c = search needs
-
-conclude-requires : tie.Need-conclude-requires
-conclude-requires c κs =
-    let s = c .before .before .before .before in
-    let m = s .args .message in
-    let f = frameFor (m .object) (m .name) 0 true (m .parameter) in
-    let k : Known (s .args .session .now) f = record { present = s .pre .1 .present; named = s .pre .1 .named; near = omega arith } in
-    (s .pre .0, rw (c .before .new .ensures, c .new2 .ensures) (first-stack (Known (s .args .session .now)) f k))
+no-frame-requires : tie.Need-no-frame-requires
+no-frame-requires c κs = search needs
 
 returns : tie.Need-returns
-unfolding started
-returns c = c .conclude .ensures ∙ rw (c .before .before .new .ensures, c .before .new2 .ensures) refl
+returns c =
+    let s = c .before .before .before .before .before in
+    let n = c .before .before .new in
+    starts (s .args .session .now) (s .pre .0 .accepted) (s .args .level) (s .args .stamp) (s .args .message) (s .pre .1) (n .result) (n .ensures .0) (n .ensures .1) _ refl (c .before .closed .result) (c .before .closed .ensures)
 
 pub start-spec : {M : Type 1} → statement M
-start-spec =
-    tie.close
-    (tie.spec new-requires new-requires-2 array-set-from-frames conclude-requires returns)
+start-spec = tie.close (tie.spec new-requires closed-requires no-frame-requires returns)

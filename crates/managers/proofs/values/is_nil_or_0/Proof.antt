@@ -1,6 +1,6 @@
 -- `managers::values::is_nil_or_0` meets its contract. Assumes nothing.
 use mathlib.Core.Path.{sym, ap}
-use Rattle.managers.specs.Value.{isNilOr0}
+use Rattle.scripts.specs.Value.{isNilOr0}
 use borrow.Author.Needs.{needs}
 use Rattle.managers.proofs.values.is_nil_or_0.Statement.{statement}
 use Rattle.managers.proofs.values.is_nil_or_0.Tie as tie

@@ -1,7 +1,7 @@
 -- `managers::values::sum` meets its contract. Assumes nothing.
 use mathlib.Core.Path.{ap}
 use Rattle.session.specs.declared.Value.the-variants.{Number}
-use Rattle.managers.specs.Value.{sum}
+use Rattle.scripts.specs.Value.{sum}
 use borrow.Author.Needs.{needs}
 use Rattle.managers.proofs.values.sum.Statement.{statement}
 use Rattle.managers.proofs.values.sum.Tie as tie

@@ -7,13 +7,14 @@ use native.Mathlib.Omega.{arith}
 use lib.ListN.{length}
 use Rattle.session.specs.Program.{Program, seenBy}
 use Rattle.session.proofs.Laws.Lists.{holds, fails, truth}
-use Rattle.managers.specs.Limits.{maxForks, maxWrites}
-use Rattle.managers.specs.Manager.{isRunning, started, stepped}
-use Rattle.managers.specs.declared.Manager.{Manager}
-use Rattle.managers.specs.declared.Effect.{Effect}
-use Rattle.managers.specs.declared.Effect.the-variants as effect
-use Rattle.managers.proofs.Laws.Counts.{counts, grown, oneMore, started-counts, stepped-counts}
-use Rattle.managers.proofs.Laws.Effects.{Sound, Fits, stepped-fits}
+use Rattle.scripts.specs.Limits.{maxForks, maxWrites}
+use Rattle.scripts.specs.Ending.{isRunning}
+use Rattle.scripts.specs.Manager.{started, stepped}
+use Rattle.scripts.specs.State.{Manager}
+use Rattle.scripts.specs.Effect.{Effect}
+use Rattle.scripts.specs.Effect as effect
+use Rattle.scripts.proofs.Laws.Counts.{counts, grown, oneMore, started-counts, stepped-counts}
+use Rattle.scripts.proofs.Laws.Effects.{Sound, Fits, stepped-fits}
 use Rattle.model.specs.Fork.{Fork, childOf}
 use Rattle.model.specs.History.{historyOf}
 use Rattle.model.specs.Level.{Version, Activity, idle, busy, Level, arrived, after}

@@ -7,13 +7,13 @@ use mathlib.Core.List.{List, [], _∷_}
 use native.Mathlib.Decide.{ℕ-discrete}
 use Rattle.session.specs.Program.{Program, seenBy}
 use Rattle.session.proofs.Laws.Lists.{holds, fails, truth}
-use Rattle.managers.specs.Manager.{isRunning, started, stepped}
-use Rattle.managers.specs.declared.Manager.{Manager}
-use Rattle.managers.specs.declared.Effect.{Effect}
-use Rattle.managers.specs.declared.Effect.the-variants as effect
-use Rattle.managers.specs.declared.Stepped.{Stepped}
-use Rattle.managers.proofs.Laws.Effects.{Sound}
-use Rattle.managers.proofs.Laws.Within.{Within, started-within, started-seen, stepped-within, stepped-seen, Reaches, stepped-reaches}
+use Rattle.scripts.specs.Ending.{isRunning}
+use Rattle.scripts.specs.Manager.{started, stepped}
+use Rattle.scripts.specs.State.{Manager, Stepped}
+use Rattle.scripts.specs.Effect.{Effect}
+use Rattle.scripts.specs.Effect as effect
+use Rattle.scripts.proofs.Laws.Effects.{Sound}
+use Rattle.scripts.proofs.Laws.Within.{Within, started-within, started-seen, stepped-within, stepped-seen, Reaches, stepped-reaches}
 use Rattle.model.specs.Limits.{maxManagers}
 use Rattle.model.specs.Lists.{inserted, modify}
 use Rattle.model.specs.Fork.{Fork, childOf}

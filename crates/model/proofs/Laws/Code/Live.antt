@@ -16,14 +16,15 @@ use Rattle.session.proofs.Laws.Lists.{holds, fails, truth}
 use Rattle.session.proofs.Laws.Verdict.{accepted}
 use Rattle.session.proofs.Laws.Numbering.{few-levels}
 use Rattle.session.proofs.Laws.Accepted.{root-present, root-named}
-use Rattle.managers.specs.Manager.{isRunning, stepped}
-use Rattle.managers.specs.Valid.{Valid, Startable}
-use Rattle.managers.specs.declared.Manager.{Manager}
-use Rattle.managers.specs.declared.Effect.{Effect}
-use Rattle.managers.specs.declared.Effect.the-variants as effect
-use Rattle.managers.proofs.Laws.Counts.{counts, started-counts, stepped-counts}
-use Rattle.managers.proofs.Laws.Accepted.{EffectPresent}
-use Rattle.managers.proofs.Laws.Valid.{started-valid, stepped-valid, stepped-present}
+use Rattle.scripts.specs.Ending.{isRunning}
+use Rattle.scripts.specs.Manager.{stepped}
+use Rattle.scripts.specs.Valid.{Valid, Startable}
+use Rattle.scripts.specs.State.{Manager}
+use Rattle.scripts.specs.Effect.{Effect}
+use Rattle.scripts.specs.Effect as effect
+use Rattle.scripts.proofs.Laws.Counts.{counts, started-counts, stepped-counts}
+use Rattle.scripts.proofs.Laws.Accepted.{EffectPresent}
+use Rattle.scripts.proofs.Laws.Valid.{started-valid, stepped-valid, stepped-present}
 use Rattle.model.specs.Limits.{maxManagers}
 use Rattle.model.specs.Lists.{inserted}
 use Rattle.model.specs.Fork.{Fork, childOf}

@@ -13,14 +13,15 @@ use Rattle.session.specs.Program.{programOf}
 use Rattle.session.specs.declared.Value.{Value}
 use Rattle.session.specs.declared.Message.{Message}
 use Rattle.session.specs.declared.Verdict.the-variants.{Accepted}
-use Rattle.managers.specs.Limits.{maxWrites, maxForks}
-use Rattle.managers.specs.Manager.{isRunning, stepped}
-use Rattle.managers.specs.Valid.{Valid, Startable}
-use Rattle.managers.specs.declared.Manager.{Manager}
-use Rattle.managers.specs.declared.Effect.the-variants as effect
-use Rattle.managers.proofs.Laws.Accepted.{EffectPresent}
-use Rattle.managers.proofs.Laws.Effects.{Fits, stepped-fits}
-use Rattle.managers.proofs.Laws.Valid.{stepped-present}
+use Rattle.scripts.specs.Limits.{maxWrites, maxForks}
+use Rattle.scripts.specs.Ending.{isRunning}
+use Rattle.scripts.specs.Manager.{stepped}
+use Rattle.scripts.specs.Valid.{Valid, Startable}
+use Rattle.scripts.specs.State.{Manager}
+use Rattle.scripts.specs.Effect as effect
+use Rattle.scripts.proofs.Laws.Accepted.{EffectPresent}
+use Rattle.scripts.proofs.Laws.Effects.{Fits, stepped-fits}
+use Rattle.scripts.proofs.Laws.Valid.{stepped-present}
 use Rattle.model.specs.Limits.{maxManagers, stampDigits}
 use Rattle.model.specs.Fork.{Fork}
 use Rattle.model.specs.History.{endBefore}

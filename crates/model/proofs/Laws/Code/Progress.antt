@@ -11,7 +11,7 @@ use Rattle.session.specs.Meaning.{rootOf}
 use Rattle.session.specs.Program.{Program, programOf}
 use Rattle.session.specs.declared.Verdict.the-variants.{Accepted}
 use Rattle.session.proofs.Laws.Lists.{holds, fails, truth}
-use Rattle.managers.proofs.Laws.Effects.{Sound}
+use Rattle.scripts.proofs.Laws.Effects.{Sound}
 use Rattle.model.specs.Fork.{Fork}
 use Rattle.model.specs.Level.{Activity, idle, busy, Level, isBusy, isEmpty, hasManager, arrived}
 use Rattle.model.specs.Step.{State, levelAt, stepAt}

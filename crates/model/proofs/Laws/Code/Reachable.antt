@@ -7,7 +7,7 @@ use native.Mathlib.Omega.{arith}
 use Rattle.session.specs.Program.{Program}
 use Rattle.session.specs.declared.Message.{Message}
 use Rattle.session.specs.Limits.{maxLevels}
-use Rattle.managers.proofs.Laws.Effects.{Sound}
+use Rattle.scripts.proofs.Laws.Effects.{Sound}
 use Rattle.model.specs.Level.{hasManager}
 use Rattle.model.specs.Step.{State, levelAt, stepAt}
 use Rattle.model.specs.Schedule.{readIn}

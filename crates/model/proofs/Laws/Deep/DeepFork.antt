@@ -14,14 +14,14 @@ use Rattle.lattice.proofs.Laws.Range.{and-left, and-both, not-both, refuted}
 use Rattle.session.specs.Program.{Program}
 use Rattle.session.specs.declared.Message.{Message}
 use Rattle.session.proofs.Laws.Lists.{Truth, holds, fails, truth}
-use Rattle.managers.specs.Manager.{isRunning, stepped}
-use Rattle.managers.specs.declared.Manager.{Manager}
-use Rattle.managers.specs.declared.Effect.{Effect}
-use Rattle.managers.specs.declared.Effect.the-variants as effect
-use Rattle.managers.specs.declared.Stepped.{Stepped}
-use Rattle.managers.proofs.Laws.Counts.{counts, grown, oneMore, stepped-counts}
-use Rattle.managers.proofs.Laws.Effects.{Sound, Fits, stepped-fits}
-use Rattle.managers.proofs.Laws.Within.{Reaches, stepped-reaches}
+use Rattle.scripts.specs.Ending.{isRunning}
+use Rattle.scripts.specs.Manager.{stepped}
+use Rattle.scripts.specs.State.{Manager, Stepped}
+use Rattle.scripts.specs.Effect.{Effect}
+use Rattle.scripts.specs.Effect as effect
+use Rattle.scripts.proofs.Laws.Counts.{counts, grown, oneMore, stepped-counts}
+use Rattle.scripts.proofs.Laws.Effects.{Sound, Fits, stepped-fits}
+use Rattle.scripts.proofs.Laws.Within.{Reaches, stepped-reaches}
 use Rattle.model.specs.Limits.{maxManagers, stampDigits}
 use Rattle.model.specs.Fork.{Fork, childStamp, childOf}
 use Rattle.model.specs.Level.{Version, Level, arrived, after}

@@ -10,12 +10,13 @@ use lib.ListN.{length}
 use Rattle.lattice.proofs.Laws.Range.{not-both, refuted}
 use Rattle.session.specs.Program.{Program}
 use Rattle.session.proofs.Laws.Lists.{holds, fails, truth}
-use Rattle.managers.specs.Limits.{maxScriptSteps}
-use Rattle.managers.specs.Manager.{isRunning, stepped}
-use Rattle.managers.specs.declared.Manager.{Manager}
-use Rattle.managers.specs.declared.Effect.{Effect}
-use Rattle.managers.specs.declared.Effect.the-variants as effect
-use Rattle.managers.proofs.Laws.Effects.{Sound}
+use Rattle.scripts.specs.Limits.{maxScriptSteps}
+use Rattle.scripts.specs.Ending.{isRunning}
+use Rattle.scripts.specs.Manager.{stepped}
+use Rattle.scripts.specs.State.{Manager}
+use Rattle.scripts.specs.Effect.{Effect}
+use Rattle.scripts.specs.Effect as effect
+use Rattle.scripts.proofs.Laws.Effects.{Sound}
 use Rattle.model.specs.Limits.{maxManagers}
 use Rattle.model.specs.Lists.{inserted}
 use Rattle.model.specs.Fork.{Fork, childOf}

@@ -12,15 +12,15 @@ use lib.ListN.{length, getD}
 use Rattle.lattice.proofs.Laws.Range.{not-both}
 use Rattle.session.specs.Program.{Program}
 use Rattle.session.specs.declared.Value.{Value}
-use Rattle.managers.specs.Manager.{isRunning, stepped}
-use Rattle.managers.specs.declared.Manager.{Manager}
-use Rattle.managers.specs.declared.Effect.{Effect}
-use Rattle.managers.specs.declared.Effect.the-variants as effect
-use Rattle.managers.specs.declared.Stepped.{Stepped}
-use Rattle.managers.proofs.Laws.Counts.{Counts, counts, grown, oneMore, stepped-counts}
-use Rattle.managers.proofs.Laws.Effects.{Sound, Fits, stepped-fits}
-use Rattle.managers.proofs.Laws.Endings.{running-few}
-use Rattle.managers.proofs.Laws.Within.{stepped-within}
+use Rattle.scripts.specs.Ending.{isRunning}
+use Rattle.scripts.specs.Manager.{stepped}
+use Rattle.scripts.specs.State.{Manager, Stepped}
+use Rattle.scripts.specs.Effect.{Effect}
+use Rattle.scripts.specs.Effect as effect
+use Rattle.scripts.proofs.Laws.Counts.{Counts, counts, grown, oneMore, stepped-counts}
+use Rattle.scripts.proofs.Laws.Effects.{Sound, Fits, stepped-fits}
+use Rattle.scripts.proofs.Laws.Endings.{running-few}
+use Rattle.scripts.proofs.Laws.Within.{stepped-within}
 use Rattle.model.specs.Fork.{Fork, childStamp}
 use Rattle.model.specs.Level.{Version, after, newest}
 use Rattle.model.specs.Step.{State, levelAt, none, at, versionsAfter, arrivalOf, moveAt, stepAt}

@@ -9,12 +9,12 @@ use lib.ListN.{length}
 use Rattle.lattice.specs.Order.{strictly}
 use Rattle.lattice.proofs.Laws.Range.{not-both, refuted}
 use Rattle.session.specs.Program.{Program, seenBy}
-use Rattle.managers.specs.Limits.{maxScriptSteps}
-use Rattle.managers.specs.Manager.{started}
-use Rattle.managers.specs.declared.Manager.{Manager}
-use Rattle.managers.proofs.Laws.Counts.{started-counts}
-use Rattle.managers.proofs.Laws.Effects.{Sound}
-use Rattle.managers.proofs.Laws.Within.{started-within, started-seen}
+use Rattle.scripts.specs.Limits.{maxScriptSteps}
+use Rattle.scripts.specs.Manager.{started}
+use Rattle.scripts.specs.State.{Manager}
+use Rattle.scripts.proofs.Laws.Counts.{started-counts}
+use Rattle.scripts.proofs.Laws.Effects.{Sound}
+use Rattle.scripts.proofs.Laws.Within.{started-within, started-seen}
 use Rattle.model.specs.Fork.{Fork, childStamp}
 use Rattle.model.specs.Level.{Version, idle, after, newest}
 use Rattle.model.specs.Step.{State, levelAt, viewOf, none, begun, moved, moveAt, stepAt}

@@ -13,7 +13,7 @@ use Rattle.session.specs.Program.{Program}
 use Rattle.session.specs.declared.Message.{Message}
 use Rattle.session.proofs.Laws.Lists.{Truth, holds, fails, truth}
 use Rattle.session.specs.Limits.{maxLevels}
-use Rattle.managers.proofs.Laws.Effects.{Sound}
+use Rattle.scripts.proofs.Laws.Effects.{Sound}
 use Rattle.model.specs.Lists.{inserted, lastOr}
 use Rattle.model.specs.Fork.{Fork, rootFork}
 use Rattle.model.specs.Level.{Level, newLevel, hasManager, arrived, newest}

@@ -12,12 +12,12 @@ use lib.ListN.{length, getD}
 use Rattle.lattice.specs.Order.{strictly}
 use Rattle.lattice.proofs.Laws.Range.{and-both}
 use Rattle.session.specs.Program.{Program, seenBy}
-use Rattle.managers.specs.Limits.{maxScriptSteps}
-use Rattle.managers.specs.Manager.{isRunning, stepped}
-use Rattle.managers.specs.declared.Manager.{Manager}
-use Rattle.managers.specs.declared.Stepped.{Stepped}
-use Rattle.managers.proofs.Laws.Effects.{Sound}
-use Rattle.managers.proofs.Laws.Within.{Within, stepped-seen}
+use Rattle.scripts.specs.Limits.{maxScriptSteps}
+use Rattle.scripts.specs.Ending.{isRunning}
+use Rattle.scripts.specs.Manager.{stepped}
+use Rattle.scripts.specs.State.{Manager, Stepped}
+use Rattle.scripts.proofs.Laws.Effects.{Sound}
+use Rattle.scripts.proofs.Laws.Within.{Within, stepped-seen}
 use Rattle.model.specs.Fork.{Fork, childStamp}
 use Rattle.model.specs.Level.{Version, busy, Level, after, newest, newestTo}
 use Rattle.model.specs.Step.{State, levelAt, viewOf, readAt, versionsAfter, arrivalOf, advanced, moved, moveAt}

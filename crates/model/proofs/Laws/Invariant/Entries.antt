@@ -6,7 +6,7 @@ use native.Mathlib.Nat.{one-mul}
 use native.Mathlib.Omega.{arith}
 use lib.ListN.{take}
 use Rattle.session.specs.declared.Message.{Message}
-use Rattle.managers.specs.declared.Manager.{Manager}
+use Rattle.scripts.specs.State.{Manager}
 use Rattle.model.specs.Limits.{maxManagers}
 use Rattle.model.specs.Lists.{inserted}
 use Rattle.model.specs.Fork.{Fork, childStamp, childOf}

@@ -10,13 +10,14 @@ use lib.ListN.{length, take, length-take}
 use Rattle.lattice.proofs.Laws.Range.{not-both}
 use Rattle.session.specs.Program.{Program}
 use Rattle.session.proofs.Laws.Lists.{holds, fails, truth}
-use Rattle.managers.specs.Limits.{maxScriptSteps}
-use Rattle.managers.specs.Manager.{isRunning, started, stepped}
-use Rattle.managers.specs.declared.Manager.{Manager}
-use Rattle.managers.specs.declared.Effect.{Effect}
-use Rattle.managers.specs.declared.Effect.the-variants as effect
-use Rattle.managers.proofs.Laws.Counts.{Counts, counts, grown, oneMore, started-counts, stepped-counts}
-use Rattle.managers.proofs.Laws.Endings.{running-few}
+use Rattle.scripts.specs.Limits.{maxScriptSteps}
+use Rattle.scripts.specs.Ending.{isRunning}
+use Rattle.scripts.specs.Manager.{started, stepped}
+use Rattle.scripts.specs.State.{Manager}
+use Rattle.scripts.specs.Effect.{Effect}
+use Rattle.scripts.specs.Effect as effect
+use Rattle.scripts.proofs.Laws.Counts.{Counts, counts, grown, oneMore, started-counts, stepped-counts}
+use Rattle.scripts.proofs.Laws.Endings.{running-few}
 use Rattle.model.specs.Limits.{maxManagers}
 use Rattle.model.specs.Lists.{inserted}
 use Rattle.model.specs.Fork.{Fork}

@@ -7,7 +7,7 @@ use mathlib.Core.List.{List, [], _∷_}
 use native.Mathlib.Omega.{arith}
 use lib.ListN.{getD, set}
 use Rattle.session.specs.Program.{Program}
-use Rattle.managers.proofs.Laws.Effects.{Sound}
+use Rattle.scripts.proofs.Laws.Effects.{Sound}
 use Rattle.model.specs.Limits.{maxManagers}
 use Rattle.model.specs.Lists.{inserted}
 use Rattle.model.specs.Fork.{Fork}

@@ -3,7 +3,7 @@ use Prim.Native.Nat.{ℕ, suc, _+_, _*_, _-_, _^_, _≤_, _<_}
 use mathlib.Core.Path.{_≡_, _∙_, ap}
 use native.Mathlib.Nat.{pow-succ', suc-mul, one-le-pow, mul-le-mul-right}
 use native.Mathlib.Omega.{arith}
-use Rattle.managers.specs.Limits.{maxForks}
+use Rattle.scripts.specs.Limits.{maxForks}
 use Rattle.model.specs.Limits.{stampDigits}
 use Rattle.model.specs.Fork.{childStamp}
 

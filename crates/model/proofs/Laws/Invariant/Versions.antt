@@ -4,10 +4,10 @@ use mathlib.Core.Path.{_≡_, refl, sym, ap}
 use mathlib.Core.List.{List, [], _∷_}
 use native.Mathlib.Omega.{arith}
 use Rattle.session.specs.Program.{Program, seenBy}
-use Rattle.managers.specs.Manager.{stepped}
-use Rattle.managers.specs.declared.Effect.{Effect}
-use Rattle.managers.specs.declared.Effect.the-variants as effect
-use Rattle.managers.proofs.Laws.Effects.{Sound}
+use Rattle.scripts.specs.Manager.{stepped}
+use Rattle.scripts.specs.Effect.{Effect}
+use Rattle.scripts.specs.Effect as effect
+use Rattle.scripts.proofs.Laws.Effects.{Sound}
 use Rattle.model.specs.Fork.{Fork}
 use Rattle.model.specs.Level.{Version, Activity, idle, busy, Level, arrived}
 use Rattle.model.specs.Step.{State, levelAt, viewOf, readAt, versionsAfter, begun, advanced, moved, moveAt, stepAt}

@@ -6,11 +6,12 @@ use native.Mathlib.Omega.{arith}
 use lib.ListN.{set}
 use Rattle.session.specs.Program.{Program}
 use Rattle.session.proofs.Laws.Lists.{holds, fails, truth}
-use Rattle.managers.specs.Manager.{isRunning, started, stepped}
-use Rattle.managers.specs.declared.Manager.{Manager}
-use Rattle.managers.specs.declared.Effect.{Effect}
-use Rattle.managers.specs.declared.Effect.the-variants as effect
-use Rattle.managers.proofs.Laws.Counts.{counts, grown, oneMore, started-counts, stepped-counts}
+use Rattle.scripts.specs.Ending.{isRunning}
+use Rattle.scripts.specs.Manager.{started, stepped}
+use Rattle.scripts.specs.State.{Manager}
+use Rattle.scripts.specs.Effect.{Effect}
+use Rattle.scripts.specs.Effect as effect
+use Rattle.scripts.proofs.Laws.Counts.{counts, grown, oneMore, started-counts, stepped-counts}
 use Rattle.model.specs.Lists.{inserted}
 use Rattle.model.specs.Fork.{Fork, childOf}
 use Rattle.model.specs.History.{History, historyOf}

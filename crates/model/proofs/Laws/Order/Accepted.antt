@@ -8,8 +8,8 @@ use Rattle.session.specs.Program.{programOf}
 use Rattle.session.specs.declared.Verdict.the-variants.{Accepted}
 use Rattle.session.proofs.Laws.Numbering.{few-levels}
 use Rattle.session.proofs.Laws.Verdict.{accepted}
-use Rattle.managers.proofs.Laws.Effects.{Sound}
-use Rattle.managers.proofs.Laws.Accepted.{program-sound}
+use Rattle.scripts.proofs.Laws.Effects.{Sound}
+use Rattle.scripts.proofs.Laws.Accepted.{program-sound}
 use Rattle.model.specs.Step.{State}
 use Rattle.model.specs.Schedule.{finished, runOf}
 use Rattle.model.proofs.Laws.Order.ReadIn.{one-result}

@@ -3,7 +3,7 @@ use Prim.Native.Nat.{ℕ, _+_, _≤_, _<_}
 use mathlib.Core.Path.{_≡_, sym}
 use mathlib.Core.List.{List, _∷_}
 use Rattle.session.specs.Program.{Program}
-use Rattle.managers.proofs.Laws.Effects.{Sound}
+use Rattle.scripts.proofs.Laws.Effects.{Sound}
 use Rattle.model.specs.Fork.{childOf}
 use Rattle.model.specs.Step.{State, Arrival, none, at, moveAt, stepAt}
 use Rattle.model.specs.Limits.{stampDigits}

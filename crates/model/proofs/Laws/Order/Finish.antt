@@ -8,7 +8,7 @@ use lib.Dec.{eqb}
 use Rattle.lattice.proofs.Laws.Range.{all-each, not-both}
 use Rattle.session.specs.Program.{Program}
 use Rattle.session.proofs.Laws.Lists.{holds, fails, truth}
-use Rattle.managers.proofs.Laws.Effects.{Sound}
+use Rattle.scripts.proofs.Laws.Effects.{Sound}
 use Rattle.model.specs.Level.{hasManager}
 use Rattle.model.specs.Step.{State, levelAt, stepAt}
 use Rattle.model.specs.Schedule.{question15, stepRefusal, Outcome, finished, refused, runFrom}

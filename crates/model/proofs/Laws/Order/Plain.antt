@@ -9,7 +9,7 @@ use lib.Dec.{eqb, ltb}
 use Rattle.lattice.proofs.Laws.Range.{first-passes}
 use Rattle.session.specs.Program.{Program}
 use Rattle.session.proofs.Laws.Lists.{holds, fails, truth}
-use Rattle.managers.proofs.Laws.Effects.{Sound}
+use Rattle.scripts.proofs.Laws.Effects.{Sound}
 use Rattle.model.specs.Step.{State, stepAt}
 use Rattle.model.specs.Schedule.{question15, stepRefusal, finished, runFrom, lowest, plainFrom}
 use Rattle.model.proofs.Laws.Steps.Diamond.{MayStep, may-step, step-may}

@@ -13,7 +13,7 @@ use Rattle.session.specs.declared.Verdict.the-variants.{Accepted}
 use Rattle.session.proofs.Laws.Verdict.{accepted}
 use Rattle.session.proofs.Laws.Numbering.{few-levels}
 use Rattle.session.specs.Limits.{maxLevels}
-use Rattle.managers.proofs.Laws.Effects.{Sound}
+use Rattle.scripts.proofs.Laws.Effects.{Sound}
 use Rattle.model.specs.Limits.{maxSchedule}
 use Rattle.model.specs.Fork.{rootFork}
 use Rattle.model.specs.Level.{newLevel}

@@ -8,7 +8,7 @@ use lib.ListN.{replicate, length-replicate}
 use Rattle.session.specs.Program.{Program}
 use Rattle.session.specs.declared.Message.{Message}
 use Rattle.session.specs.Limits.{maxLevels}
-use Rattle.managers.proofs.Laws.Effects.{Sound}
+use Rattle.scripts.proofs.Laws.Effects.{Sound}
 use Rattle.model.specs.Lists.{inserted}
 use Rattle.model.specs.Fork.{Fork, rootFork}
 use Rattle.model.specs.Level.{newLevel, arrived}

@@ -25,7 +25,7 @@ use Rattle.session.proofs.Laws.Verdict.{accepted}
 use Rattle.session.proofs.Laws.Emptied.{emptied-message}
 use Rattle.session.proofs.Laws.Program.{emptied-program}
 use Rattle.session.specs.Limits.{maxLevels}
-use Rattle.managers.proofs.Laws.Effects.{Sound}
+use Rattle.scripts.proofs.Laws.Effects.{Sound}
 use Rattle.model.specs.Lists.{modify}
 use Rattle.model.specs.Level.{newLevel, hasManager, arrived}
 use Rattle.model.specs.Step.{State, levelAt, viewOf, Arrival, none, at, Moved, moved, moveAt, applied, delivered, stepAt}

@@ -9,7 +9,7 @@ use Rattle.session.specs.Program.{Program, seenBy}
 use Rattle.session.specs.declared.Message.{Message}
 use Rattle.session.proofs.Laws.Lists.{holds, fails, truth, select-yes, select-no}
 use Rattle.session.specs.Limits.{maxLevels}
-use Rattle.managers.proofs.Laws.Effects.{Sound}
+use Rattle.scripts.proofs.Laws.Effects.{Sound}
 use Rattle.model.specs.Level.{newest}
 use Rattle.model.specs.Step.{State}
 use Rattle.model.specs.Schedule.{finished, runOf}

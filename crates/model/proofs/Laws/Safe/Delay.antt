@@ -9,9 +9,10 @@ use lib.ListN.{length, getD, take}
 use Rattle.lattice.specs.Order.{strictly}
 use Rattle.session.specs.Program.{Program, seenBy}
 use Rattle.session.proofs.Laws.Lists.{holds, fails, truth, getD-tab}
-use Rattle.managers.specs.Manager.{isRunning, started, stepped}
-use Rattle.managers.specs.declared.Manager.{Manager}
-use Rattle.managers.proofs.Laws.Effects.{Sound}
+use Rattle.scripts.specs.Ending.{isRunning}
+use Rattle.scripts.specs.Manager.{started, stepped}
+use Rattle.scripts.specs.State.{Manager}
+use Rattle.scripts.proofs.Laws.Effects.{Sound}
 use Rattle.model.specs.Limits.{maxManagers}
 use Rattle.model.specs.Lists.{inserted}
 use Rattle.model.specs.Fork.{Fork}

@@ -9,7 +9,7 @@ use lib.ListN.{length, getD, take}
 use Rattle.lattice.specs.Order.{strictly}
 use Rattle.lattice.proofs.Laws.Range.{not-both}
 use Rattle.session.specs.Program.{Program}
-use Rattle.managers.proofs.Laws.Effects.{Sound}
+use Rattle.scripts.proofs.Laws.Effects.{Sound}
 use Rattle.model.specs.Limits.{maxManagers}
 use Rattle.model.specs.Lists.{inserted}
 use Rattle.model.specs.Fork.{Fork, childOf}

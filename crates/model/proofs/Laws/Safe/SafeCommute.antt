@@ -9,7 +9,7 @@ use Rattle.lattice.specs.Order.{strictly}
 use Rattle.lattice.proofs.Laws.Range.{and-both, refuted}
 use Rattle.session.specs.Program.{Program}
 use Rattle.session.proofs.Laws.Lists.{holds, fails, truth}
-use Rattle.managers.proofs.Laws.Effects.{Sound}
+use Rattle.scripts.proofs.Laws.Effects.{Sound}
 use Rattle.model.specs.Lists.{modify}
 use Rattle.model.specs.Fork.{Fork}
 use Rattle.model.specs.Level.{Level, arrived}

@@ -3,11 +3,11 @@ use Prim.Native.Nat.{ℕ, _<_}
 use mathlib.Core.Path.{_≡_, sym, ap}
 use mathlib.Core.List.{List, [], _∷_}
 use Rattle.session.specs.Program.{Program, seenBy}
-use Rattle.managers.specs.Manager.{stepped}
-use Rattle.managers.specs.declared.Manager.{Manager}
-use Rattle.managers.specs.declared.Effect.{Effect}
-use Rattle.managers.specs.declared.Effect.the-variants as effect
-use Rattle.managers.proofs.Laws.Effects.{Sound, Fits, stepped-fits}
+use Rattle.scripts.specs.Manager.{stepped}
+use Rattle.scripts.specs.State.{Manager}
+use Rattle.scripts.specs.Effect.{Effect}
+use Rattle.scripts.specs.Effect as effect
+use Rattle.scripts.proofs.Laws.Effects.{Sound, Fits, stepped-fits}
 use Rattle.model.specs.Fork.{Fork}
 use Rattle.model.specs.Level.{Activity, idle, busy, Level}
 use Rattle.model.specs.Step.{State, levelAt, viewOf, readAt, Arrival, none, at, arrivalOf, begun, advanced, moved, moveAt}

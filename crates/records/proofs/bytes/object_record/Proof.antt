@@ -1,7 +1,8 @@
 -- `records::bytes::object_record` meets its contract. Assumes nothing.
 use mathlib.Core.Path.{_∙_, ap}
-use Rattle.model.specs.Result.{tag, numberIn, bytes4}
-use Rattle.records.specs.Fields.{fieldAt}
+use Rattle.scripts.specs.Value.{tag, numberIn}
+use Rattle.words.specs.Fields.{fieldAt}
+use Rattle.model.specs.Result.{bytes4}
 use Rattle.records.proofs.Laws.Bytes.{object-bytes}
 use borrow.Author.Needs.{needs}
 use Rattle.records.proofs.bytes.object_record.Statement.{statement}

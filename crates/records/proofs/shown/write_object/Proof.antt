@@ -3,7 +3,7 @@ use mathlib.Core.Path.{sym, _∙_}
 use native.Mathlib.Omega.{arith}
 use Rattle.session.proofs.Laws.Accepted.{level-present}
 use Rattle.session.proofs.Laws.Contents.{level-limit, object-limit}
-use Rattle.records.specs.Fields.{fieldAt}
+use Rattle.words.specs.Fields.{fieldAt}
 use Rattle.records.proofs.Laws.Shown.{object-shown, object-hidden}
 use borrow.Author.Needs.{needs}
 use Rattle.records.proofs.shown.write_object.Statement.{statement}

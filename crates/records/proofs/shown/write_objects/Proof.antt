@@ -7,7 +7,7 @@ use Rattle.session.specs.Lists.{tab, joined}
 use Rattle.session.specs.Parts.{objectCount}
 use Rattle.session.specs.Program.{programOf}
 use Rattle.session.proofs.Laws.Contents.{object-limit}
-use Rattle.records.specs.Fields.{fieldAt}
+use Rattle.words.specs.Fields.{fieldAt}
 use Rattle.records.specs.Writing.{shownObject, Placed}
 use Rattle.records.proofs.Laws.Placed.{placed-length, groups-none, groups-more}
 use Rattle.records.proofs.Laws.Shown.{object-length}

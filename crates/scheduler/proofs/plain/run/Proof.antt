@@ -1,20 +1,11 @@
 -- `scheduler::plain::run` meets its contract. The invariant: allowed steps were made from the session as read in, no manager runs, and no
 -- level before this one may step. Assumes nothing.
 use mathlib.Core.Path.{sym, _∙_}
-use mathlib.Core.List.{[]}
 use native.Mathlib.Omega.{arith}
-use Rattle.session.specs.declared.Value.the-variants.{Nil}
-use Rattle.managers.specs.declared.Manager.{Manager}
-use Rattle.managers.specs.declared.Ending.the-variants.{Finished}
 use Rattle.scheduler.proofs.Laws.Plain.{PlainLoop, plainLeft, plain-start, plain-counted, plain-skip, plain-skip-less, plain-ready, plain-less, plain-again, plain-done}
 use borrow.Author.Needs.{needs}
 use Rattle.scheduler.proofs.plain.run.Statement.{statement}
 use Rattle.scheduler.proofs.plain.run.Tie as tie
-
--- any manager: none runs
-any : Manager
-any =
-    record { level = 0; first = 0; stamp = 0; steps = 0; writes = 0; forks = 0; ending = Finished; reply = Nil; height = 0; frames = [] }
 
 abbrev Inv-loop : tie.InvT-loop
 Inv-loop session masks index current₀ ended₀ tallies₀ queue₀ work₀ level₀ current ended tallies queue work level =
@@ -27,13 +18,13 @@ abbrev μ-loop : tie.MeasureT-loop
 loop-holds : tie.Need-loop-holds Inv-loop μ-loop
 loop-holds c =
     let z = c .before .before .before .before .before .before .before .before in
-    plain-start (z .args .session .now) (z .args .masks .now) (record { current = z .args .current .now; ended = z .args .ended .now; tallies = z .args .tallies .now; queue = z .args .queue .now; work = z .args .work .now }) (z .pre .1)
+    plain-start (z .pre .1)
 
 ask-requires : tie.Need-ask-requires Inv-loop μ-loop
 ask-requires c κs =
     let z = c .before .before .before .before .before .before .before .before .before .before .before in
     let l = c .before .before .loop in
-    plain-counted (z .args .session .now) (z .args .masks .now) (z .pre .0 .leveled) any (record { current = z .args .current .now; ended = z .args .ended .now; tallies = z .args .tallies .now; queue = z .args .queue .now; work = z .args .work .now }) (record { current = l .current; ended = l .ended; tallies = l .tallies; queue = l .queue; work = l .work }) (l .level) (l .inv)
+    plain-counted (z .pre .0 .leveled) (l .inv)
 
 is-given-requires : tie.Need-is-given-requires Inv-loop μ-loop
 is-given-requires c κs = search needs
@@ -42,21 +33,21 @@ run-level-requires : tie.Need-run-level-requires Inv-loop μ-loop
 run-level-requires c κs =
     let z = c .before .before .before .before .before .before .before .before .before .before .before .before .before .before .before .before .before .before .before .before .before in
     let l = c .before .before .before .before .before .before .before .before .before .before .before .before .loop in
-    (z .pre .0, plain-ready (z .args .session .now) (z .args .masks .now) (z .pre .0 .leveled) any (record { current = z .args .current .now; ended = z .args .ended .now; tallies = z .args .tallies .now; queue = z .args .queue .now; work = z .args .work .now }) (record { current = l .current; ended = l .ended; tallies = l .tallies; queue = l .queue; work = l .work }) (l .level) (l .inv) (c .before .before .before .before .before .before .before .before .before .before .before .loop-test .taken) (c .before .before .before .before .before .before .before .before .before .ask .result) (c .before .before .before .before .before .before .before .before .before .ask .ensures .0) (c .before .before .before .before .before .before .before .before .before .ask .last .1 .0) (c .before .before .before .before .before .before .before .before .before .ask .ensures .1) (sym (c .before .before .before .before .before .before .is-given .ensures) ∙ c .before .before .before .before .before .if1 .taken))
+    (z .pre .0, plain-ready (z .pre .0 .leveled) (l .inv) (c .before .before .before .before .before .before .before .before .before .before .before .loop-test .taken) (c .before .before .before .before .before .before .before .before .before .ask .ensures .0) (c .before .before .before .before .before .before .before .before .before .ask .ensures .1) (sym (c .before .before .before .before .before .before .is-given .ensures) ∙ c .before .before .before .before .before .if1 .taken))
 
 loop-less : tie.Need-loop-less Inv-loop μ-loop
 loop-less c =
     let z = c .before .before .before .before .before .before .before .before .before .before .before .before .before .before .before .before .before .before .before .before .before .before .before .before .before .before .before .before .before .before .before .before in
     let l = c .before .before .before .before .before .before .before .before .before .before .before .before .before .before .before .before .before .before .before .before .before .before .before .loop in
     let r = c .before .before .before .before .before .before .before .before .before .before .run-level in
-    plain-less (z .args .session .now) (z .args .masks .now) (z .pre .0 .leveled) any (record { current = z .args .current .now; ended = z .args .ended .now; tallies = z .args .tallies .now; queue = z .args .queue .now; work = z .args .work .now }) (record { current = l .current; ended = l .ended; tallies = l .tallies; queue = l .queue; work = l .work }) (l .level) (l .inv) (c .before .before .before .before .before .before .before .before .before .before .before .before .before .before .before .before .before .before .before .before .before .before .loop-test .taken) (c .before .before .before .before .before .before .before .before .before .before .before .before .before .before .before .before .before .before .before .before .ask .result) (c .before .before .before .before .before .before .before .before .before .before .before .before .before .before .before .before .before .before .before .before .ask .ensures .0) (c .before .before .before .before .before .before .before .before .before .before .before .before .before .before .before .before .before .before .before .before .ask .last .1 .0) (c .before .before .before .before .before .before .before .before .before .before .before .before .before .before .before .before .before .before .before .before .ask .ensures .1) (sym (c .before .before .before .before .before .before .before .before .before .before .before .before .before .before .before .before .before .is-given .ensures) ∙ c .before .before .before .before .before .before .before .before .before .before .before .before .before .before .before .before .if1 .taken) (record { current = r .last .1 .1 .1 .0; ended = r .last .1 .1 .1 .1 .0; tallies = r .last .1 .1 .1 .1 .1 .0; queue = r .last .1 .1 .1 .1 .1 .1 .0; work = r .last .1 .1 .1 .1 .1 .1 .1 .0 }) (r .ensures)
+    plain-less (z .pre .0 .leveled) (l .inv) (c .before .before .before .before .before .before .before .before .before .before .before .before .before .before .before .before .before .before .before .before .before .before .loop-test .taken) (c .before .before .before .before .before .before .before .before .before .before .before .before .before .before .before .before .before .before .before .before .ask .ensures .0) (c .before .before .before .before .before .before .before .before .before .before .before .before .before .before .before .before .before .before .before .before .ask .ensures .1) (sym (c .before .before .before .before .before .before .before .before .before .before .before .before .before .before .before .before .before .is-given .ensures) ∙ c .before .before .before .before .before .before .before .before .before .before .before .before .before .before .before .before .if1 .taken) (r .ensures)
 
 loop-again : tie.Need-loop-again Inv-loop μ-loop
 loop-again c =
     let z = c .before .before .before .before .before .before .before .before .before .before .before .before .before .before .before .before .before .before .before .before .before .before .before .before .before .before .before .before .before .before .before .before in
     let l = c .before .before .before .before .before .before .before .before .before .before .before .before .before .before .before .before .before .before .before .before .before .before .before .loop in
     let r = c .before .before .before .before .before .before .before .before .before .before .run-level in
-    plain-again (z .args .session .now) (z .args .masks .now) (z .pre .0 .leveled) any (record { current = z .args .current .now; ended = z .args .ended .now; tallies = z .args .tallies .now; queue = z .args .queue .now; work = z .args .work .now }) (record { current = l .current; ended = l .ended; tallies = l .tallies; queue = l .queue; work = l .work }) (l .level) (l .inv) (c .before .before .before .before .before .before .before .before .before .before .before .before .before .before .before .before .before .before .before .before .before .before .loop-test .taken) (c .before .before .before .before .before .before .before .before .before .before .before .before .before .before .before .before .before .before .before .before .ask .result) (c .before .before .before .before .before .before .before .before .before .before .before .before .before .before .before .before .before .before .before .before .ask .ensures .0) (c .before .before .before .before .before .before .before .before .before .before .before .before .before .before .before .before .before .before .before .before .ask .last .1 .0) (c .before .before .before .before .before .before .before .before .before .before .before .before .before .before .before .before .before .before .before .before .ask .ensures .1) (sym (c .before .before .before .before .before .before .before .before .before .before .before .before .before .before .before .before .before .is-given .ensures) ∙ c .before .before .before .before .before .before .before .before .before .before .before .before .before .before .before .before .if1 .taken) (record { current = r .last .1 .1 .1 .0; ended = r .last .1 .1 .1 .1 .0; tallies = r .last .1 .1 .1 .1 .1 .0; queue = r .last .1 .1 .1 .1 .1 .1 .0; work = r .last .1 .1 .1 .1 .1 .1 .1 .0 }) (r .ensures) (r .kept .1 .1 .1 .0) (r .kept .1 .1 .1 .1 .0) (r .kept .1 .1 .1 .1 .1 .0) (c .before .before .before .before .before .before .before .before .before .before .before .before .before .before .before .before .before .before .before .before .ask .kept .1 .0) (r .kept .1 .1 .1 .1 .1 .1 .0) (r .kept .1 .1 .1 .1 .1 .1 .1 .0)
+    plain-again (z .pre .0 .leveled) (l .inv) (c .before .before .before .before .before .before .before .before .before .before .before .before .before .before .before .before .before .before .before .before .before .before .loop-test .taken) (c .before .before .before .before .before .before .before .before .before .before .before .before .before .before .before .before .before .before .before .before .ask .ensures .0) (c .before .before .before .before .before .before .before .before .before .before .before .before .before .before .before .before .before .before .before .before .ask .ensures .1) (sym (c .before .before .before .before .before .before .before .before .before .before .before .before .before .before .before .before .before .is-given .ensures) ∙ c .before .before .before .before .before .before .before .before .before .before .before .before .before .before .before .before .if1 .taken) (r .ensures) (r .kept .1 .1 .1 .0) (r .kept .1 .1 .1 .1 .0) (r .kept .1 .1 .1 .1 .1 .0) (c .before .before .before .before .before .before .before .before .before .before .before .before .before .before .before .before .before .before .before .before .ask .kept .1 .0) (r .kept .1 .1 .1 .1 .1 .1 .0) (r .kept .1 .1 .1 .1 .1 .1 .1 .0)
 
 add-level : tie.Need-add-level Inv-loop μ-loop
 add-level c = omega (arith, c .before .before .before .before .before .before .loop-test .taken)
@@ -65,13 +56,13 @@ loop-less-2 : tie.Need-loop-less-2 Inv-loop μ-loop
 loop-less-2 c =
     let z = c .before .before .before .before .before .before .before .before .before .before .before .before .before .before .before .before in
     let l = c .before .before .before .before .before .before .before .loop in
-    plain-skip-less (z .args .session .now) (z .args .masks .now) (z .pre .0 .leveled) any (record { current = z .args .current .now; ended = z .args .ended .now; tallies = z .args .tallies .now; queue = z .args .queue .now; work = z .args .work .now }) (record { current = l .current; ended = l .ended; tallies = l .tallies; queue = l .queue; work = l .work }) (l .level) (l .inv) (c .before .before .before .before .before .before .loop-test .taken) (c .before .before .before .before .ask .result) (c .before .before .before .before .ask .ensures .0) (c .before .before .before .before .ask .last .1 .0) (c .before .before .before .before .ask .ensures .1) (sym (c .before .is-given .ensures) ∙ c .if1 .left)
+    plain-skip-less (z .pre .0 .leveled) (l .inv) (c .before .before .before .before .before .before .loop-test .taken) (c .before .before .before .before .ask .ensures .0) (c .before .before .before .before .ask .ensures .1) (sym (c .before .is-given .ensures) ∙ c .if1 .left)
 
 loop-again-2 : tie.Need-loop-again-2 Inv-loop μ-loop
 loop-again-2 c =
     let z = c .before .before .before .before .before .before .before .before .before .before .before .before .before .before .before .before in
     let l = c .before .before .before .before .before .before .before .loop in
-    plain-skip (z .args .session .now) (z .args .masks .now) (z .pre .0 .leveled) any (record { current = z .args .current .now; ended = z .args .ended .now; tallies = z .args .tallies .now; queue = z .args .queue .now; work = z .args .work .now }) (record { current = l .current; ended = l .ended; tallies = l .tallies; queue = l .queue; work = l .work }) (l .level) (l .inv) (c .before .before .before .before .before .before .loop-test .taken) (c .before .before .before .before .ask .result) (c .before .before .before .before .ask .ensures .0) (c .before .before .before .before .ask .last .1 .0) (c .before .before .before .before .ask .ensures .1) (sym (c .before .is-given .ensures) ∙ c .if1 .left)
+    plain-skip (z .pre .0 .leveled) (l .inv) (c .before .before .before .before .before .before .loop-test .taken) (c .before .before .before .before .ask .ensures .0) (c .before .before .before .before .ask .ensures .1) (sym (c .before .is-given .ensures) ∙ c .if1 .left)
 
 same-length : tie.Need-same-length Inv-loop μ-loop
 same-length c = c .before .loop .inv .current-long
@@ -92,7 +83,7 @@ returns : tie.Need-returns Inv-loop μ-loop
 returns c =
     let z = c .before .before .before .before .before .before .before .before .before .before in
     let l = c .before .loop in
-    (plain-done (z .args .session .now) (z .args .masks .now) (z .pre .0 .leveled) any (record { current = z .args .current .now; ended = z .args .ended .now; tallies = z .args .tallies .now; queue = z .args .queue .now; work = z .args .work .now }) (record { current = l .current; ended = l .ended; tallies = l .tallies; queue = l .queue; work = l .work }) (l .level) (l .inv) (c .loop-test .left), l .inv .rest)
+    (plain-done (z .pre .0 .leveled) (l .inv) (c .loop-test .left), l .inv .rest)
 
 pub run-spec : {M : Type 1} → statement M
 run-spec =

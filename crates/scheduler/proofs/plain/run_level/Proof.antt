@@ -3,7 +3,6 @@
 use Prim.Native.Nat.{_-_}
 use native.Mathlib.Omega.{arith}
 use lib.ListN.{getD}
-use borrow.Author.Needs.{needs}
 use Rattle.model.specs.Limits.{maxManagers}
 use Rattle.scheduler.proofs.Laws.Next.{Turns, turns-small, turns-start, turns-counted, turns-next, turns-less, turns-again, turns-done}
 use Rattle.scheduler.proofs.plain.run_level.Statement.{statement}

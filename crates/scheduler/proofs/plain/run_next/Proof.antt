@@ -1,191 +1,104 @@
--- `scheduler::plain::run_next` meets its contract. The invariant: the words lag behind the manager, which went on from its start. Assumes
--- nothing.
+-- `scheduler::plain::run_next` meets its contract. The invariant: the words say a state that the steps of the manager have led to since its
+-- start, and what is kept of its reads is what it reads. Assumes nothing.
 use mathlib.Core.Path.{_≡_, refl, sym, _∙_, ap}
-use native.Mathlib.Omega.{arith}
-use lib.ListN.{length, length-set}
 use borrow.Author.Needs.{needs}
-use Rattle.managers.specs.Manager.{isRunning}
-use Rattle.stacks.specs.Stack.{stackWords}
-use Rattle.stacks.proofs.Laws.Stack.{no-frames}
-use Rattle.scheduler.proofs.Laws.Next.{NextLoop, small, roomy, starts, next-start, long-same, next-goes, next-closes, next-done, next-again, stepsLeft, next-less}
+use Rattle.scripts.specs.Ending.{isRunning}
+use Rattle.scheduler.proofs.Laws.Going.{stepsLeft, able, able-more}
+use Rattle.scheduler.proofs.Laws.Next.{NextLoop, starts, next-start, next-outside, next-settles, next-less, next-again, next-done}
 use Rattle.scheduler.proofs.plain.run_next.Statement.{statement}
 use Rattle.scheduler.proofs.plain.run_next.Tie as tie
 
 abbrev Inv-loop : tie.InvT-loop
-Inv-loop session masks index current₀ ended tallies₀ queue₀ work₀ level next seen₀ stack₀ m₀ ending₀ current tallies queue work seen stack m ending =
-    NextLoop session (record { current = current₀; ended = ended; tallies = tallies₀; queue = queue₀; work = work₀ }) (record { current = current; ended = ended; tallies = tallies; queue = queue; work = work }) level m₀ stack₀ m stack seen × ((ending ≡ m .ending) × (length stack ≡ stackWords))
+Inv-loop session masks index current₀ ended₀ tallies₀ queue₀ work₀ level seen₀ m₀ ending₀ current ended tallies queue work seen m ending =
+    NextLoop session (record { current = current₀; ended = ended₀; tallies = tallies₀; queue = queue₀; work = work₀ }) (record { current = current; ended = ended; tallies = tallies; queue = queue; work = work }) level m₀ m seen × (ending ≡ m .core .ending)
 
 abbrev μ-loop : tie.MeasureT-loop
-μ-loop session masks index current₀ ended tallies₀ queue₀ work₀ level next seen₀ stack₀ m₀ ending₀ current tallies queue work seen stack m ending =
-    stepsLeft m
-
-mul-message-at : tie.Need-mul-message-at Inv-loop μ-loop
-mul-message-at c =
-    let s = c .before .before .before .before .before .before .before .before .before in
-    omega (arith, small (s .args .session .now) (s .args .masks .now) (s .args .index .now) (s .pre .0) (record { current = s .args .current .now; ended = s .args .ended .now; tallies = s .args .tallies .now; queue = s .args .queue .now; work = s .args .work .now }) (s .args .level) (s .pre .1), roomy (s .args .session .now) (s .args .masks .now) (s .args .index .now) (s .pre .0) (record { current = s .args .current .now; ended = s .args .ended .now; tallies = s .args .tallies .now; queue = s .args .queue .now; work = s .args .work .now }) (s .args .level) (s .pre .1) .tallies)
-
-slice-read-message-at : tie.Need-slice-read-message-at Inv-loop μ-loop
-slice-read-message-at c =
-    let s = c .before .before .before .before .before .before .before .before .before .before in
-    omega (arith, small (s .args .session .now) (s .args .masks .now) (s .args .index .now) (s .pre .0) (record { current = s .args .current .now; ended = s .args .ended .now; tallies = s .args .tallies .now; queue = s .args .queue .now; work = s .args .work .now }) (s .args .level) (s .pre .1), roomy (s .args .session .now) (s .args .masks .now) (s .args .index .now) (s .pre .0) (record { current = s .args .current .now; ended = s .args .ended .now; tallies = s .args .tallies .now; queue = s .args .queue .now; work = s .args .work .now }) (s .args .level) (s .pre .1) .tallies)
-
-message-at-requires : tie.Need-message-at-requires Inv-loop μ-loop
-message-at-requires c κs =
-    let s = c .before .before .before .before .before .before .before .before .before .before in
-    starts (s .args .session .now) (s .args .masks .now) (s .args .index .now) (s .pre .0) (record { current = s .args .current .now; ended = s .args .ended .now; tallies = s .args .tallies .now; queue = s .args .queue .now; work = s .args .work .now }) (s .args .level) (s .pre .1) .settles .there
-
-add-next : tie.Need-add-next Inv-loop μ-loop
-add-next c =
-    let s = c .before .before .before .before .before .before .before .before .before .before .before in
-    omega (arith, small (s .args .session .now) (s .args .masks .now) (s .args .index .now) (s .pre .0) (record { current = s .args .current .now; ended = s .args .ended .now; tallies = s .args .tallies .now; queue = s .args .queue .now; work = s .args .work .now }) (s .args .level) (s .pre .1), roomy (s .args .session .now) (s .args .masks .now) (s .args .index .now) (s .pre .0) (record { current = s .args .current .now; ended = s .args .ended .now; tallies = s .args .tallies .now; queue = s .args .queue .now; work = s .args .work .now }) (s .args .level) (s .pre .1) .tallies)
-
-mul-next : tie.Need-mul-next Inv-loop μ-loop
-mul-next c =
-    let s = c .before .before .before .before .before .before .before .before .before .before .before in
-    omega (arith, small (s .args .session .now) (s .args .masks .now) (s .args .index .now) (s .pre .0) (record { current = s .args .current .now; ended = s .args .ended .now; tallies = s .args .tallies .now; queue = s .args .queue .now; work = s .args .work .now }) (s .args .level) (s .pre .1), roomy (s .args .session .now) (s .args .masks .now) (s .args .index .now) (s .pre .0) (record { current = s .args .current .now; ended = s .args .ended .now; tallies = s .args .tallies .now; queue = s .args .queue .now; work = s .args .work .now }) (s .args .level) (s .pre .1) .tallies)
-
-slice-read-next : tie.Need-slice-read-next Inv-loop μ-loop
-slice-read-next c =
-    let s = c .before .before .before .before .before .before .before .before .before .before .before .before in
-    omega (arith, small (s .args .session .now) (s .args .masks .now) (s .args .index .now) (s .pre .0) (record { current = s .args .current .now; ended = s .args .ended .now; tallies = s .args .tallies .now; queue = s .args .queue .now; work = s .args .work .now }) (s .args .level) (s .pre .1), roomy (s .args .session .now) (s .args .masks .now) (s .args .index .now) (s .pre .0) (record { current = s .args .current .now; ended = s .args .ended .now; tallies = s .args .tallies .now; queue = s .args .queue .now; work = s .args .work .now }) (s .args .level) (s .pre .1) .tallies)
-
-cast-next : tie.Need-cast-next Inv-loop μ-loop
-cast-next c =
-    let s = c .before .before .before .before .before .before .before .before .before .before .before .before in
-    omega (arith, starts (s .args .session .now) (s .args .masks .now) (s .args .index .now) (s .pre .0) (record { current = s .args .current .now; ended = s .args .ended .now; tallies = s .args .tallies .now; queue = s .args .queue .now; work = s .args .work .now }) (s .args .level) (s .pre .1) .startable .fits)
-
-add-tallies : tie.Need-add-tallies Inv-loop μ-loop
-add-tallies c =
-    let s = c .before .before .before .before .before .before .before .before .before .before .before .before in
-    omega (arith, small (s .args .session .now) (s .args .masks .now) (s .args .index .now) (s .pre .0) (record { current = s .args .current .now; ended = s .args .ended .now; tallies = s .args .tallies .now; queue = s .args .queue .now; work = s .args .work .now }) (s .args .level) (s .pre .1), roomy (s .args .session .now) (s .args .masks .now) (s .args .index .now) (s .pre .0) (record { current = s .args .current .now; ended = s .args .ended .now; tallies = s .args .tallies .now; queue = s .args .queue .now; work = s .args .work .now }) (s .args .level) (s .pre .1) .tallies)
-
-mul-tallies : tie.Need-mul-tallies Inv-loop μ-loop
-mul-tallies c =
-    let s = c .before .before .before .before .before .before .before .before .before .before .before .before in
-    omega (arith, small (s .args .session .now) (s .args .masks .now) (s .args .index .now) (s .pre .0) (record { current = s .args .current .now; ended = s .args .ended .now; tallies = s .args .tallies .now; queue = s .args .queue .now; work = s .args .work .now }) (s .args .level) (s .pre .1), roomy (s .args .session .now) (s .args .masks .now) (s .args .index .now) (s .pre .0) (record { current = s .args .current .now; ended = s .args .ended .now; tallies = s .args .tallies .now; queue = s .args .queue .now; work = s .args .work .now }) (s .args .level) (s .pre .1) .tallies)
-
-slice-read-tallies : tie.Need-slice-read-tallies Inv-loop μ-loop
-slice-read-tallies c =
-    let s = c .before .before .before .before .before .before .before .before .before .before .before .before .before in
-    omega (arith, small (s .args .session .now) (s .args .masks .now) (s .args .index .now) (s .pre .0) (record { current = s .args .current .now; ended = s .args .ended .now; tallies = s .args .tallies .now; queue = s .args .queue .now; work = s .args .work .now }) (s .args .level) (s .pre .1), roomy (s .args .session .now) (s .args .masks .now) (s .args .index .now) (s .pre .0) (record { current = s .args .current .now; ended = s .args .ended .now; tallies = s .args .tallies .now; queue = s .args .queue .now; work = s .args .work .now }) (s .args .level) (s .pre .1) .tallies)
-
-sub-tallies : tie.Need-sub-tallies Inv-loop μ-loop
-sub-tallies c =
-    let s = c .before .before .before .before .before .before .before .before .before .before .before .before .before in
-    omega (arith, s .pre .1 .waits)
-
-add-tallies-2 : tie.Need-add-tallies-2 Inv-loop μ-loop
-add-tallies-2 c =
-    let s = c .before .before .before .before .before .before .before .before .before .before .before .before .before in
-    omega (arith, small (s .args .session .now) (s .args .masks .now) (s .args .index .now) (s .pre .0) (record { current = s .args .current .now; ended = s .args .ended .now; tallies = s .args .tallies .now; queue = s .args .queue .now; work = s .args .work .now }) (s .args .level) (s .pre .1), roomy (s .args .session .now) (s .args .masks .now) (s .args .index .now) (s .pre .0) (record { current = s .args .current .now; ended = s .args .ended .now; tallies = s .args .tallies .now; queue = s .args .queue .now; work = s .args .work .now }) (s .args .level) (s .pre .1) .tallies)
-
-mul-tallies-2 : tie.Need-mul-tallies-2 Inv-loop μ-loop
-mul-tallies-2 c =
-    let s = c .before .before .before .before .before .before .before .before .before .before .before .before .before in
-    omega (arith, small (s .args .session .now) (s .args .masks .now) (s .args .index .now) (s .pre .0) (record { current = s .args .current .now; ended = s .args .ended .now; tallies = s .args .tallies .now; queue = s .args .queue .now; work = s .args .work .now }) (s .args .level) (s .pre .1), roomy (s .args .session .now) (s .args .masks .now) (s .args .index .now) (s .pre .0) (record { current = s .args .current .now; ended = s .args .ended .now; tallies = s .args .tallies .now; queue = s .args .queue .now; work = s .args .work .now }) (s .args .level) (s .pre .1) .tallies)
-
-slice-write-tallies : tie.Need-slice-write-tallies Inv-loop μ-loop
-slice-write-tallies c =
-    let s = c .before .before .before .before .before .before .before .before .before .before .before .before .before in
-    omega (arith, small (s .args .session .now) (s .args .masks .now) (s .args .index .now) (s .pre .0) (record { current = s .args .current .now; ended = s .args .ended .now; tallies = s .args .tallies .now; queue = s .args .queue .now; work = s .args .work .now }) (s .args .level) (s .pre .1), roomy (s .args .session .now) (s .args .masks .now) (s .args .index .now) (s .pre .0) (record { current = s .args .current .now; ended = s .args .ended .now; tallies = s .args .tallies .now; queue = s .args .queue .now; work = s .args .work .now }) (s .args .level) (s .pre .1) .tallies)
-
-add-tallies-3 : tie.Need-add-tallies-3 Inv-loop μ-loop
-add-tallies-3 c =
-    let s = c .before .before .before .before .before .before .before .before .before .before .before .before .before in
-    omega (arith, small (s .args .session .now) (s .args .masks .now) (s .args .index .now) (s .pre .0) (record { current = s .args .current .now; ended = s .args .ended .now; tallies = s .args .tallies .now; queue = s .args .queue .now; work = s .args .work .now }) (s .args .level) (s .pre .1), roomy (s .args .session .now) (s .args .masks .now) (s .args .index .now) (s .pre .0) (record { current = s .args .current .now; ended = s .args .ended .now; tallies = s .args .tallies .now; queue = s .args .queue .now; work = s .args .work .now }) (s .args .level) (s .pre .1) .tallies)
-
-mul-tallies-3 : tie.Need-mul-tallies-3 Inv-loop μ-loop
-mul-tallies-3 c =
-    let s = c .before .before .before .before .before .before .before .before .before .before .before .before .before in
-    omega (arith, small (s .args .session .now) (s .args .masks .now) (s .args .index .now) (s .pre .0) (record { current = s .args .current .now; ended = s .args .ended .now; tallies = s .args .tallies .now; queue = s .args .queue .now; work = s .args .work .now }) (s .args .level) (s .pre .1), roomy (s .args .session .now) (s .args .masks .now) (s .args .index .now) (s .pre .0) (record { current = s .args .current .now; ended = s .args .ended .now; tallies = s .args .tallies .now; queue = s .args .queue .now; work = s .args .work .now }) (s .args .level) (s .pre .1) .tallies)
-
-slice-write-tallies-2 : tie.Need-slice-write-tallies-2 Inv-loop μ-loop
-slice-write-tallies-2 c =
-    let s = c .before .before .before .before .before .before .before .before .before .before .before .before .before in
-    let low = small (s .args .session .now) (s .args .masks .now) (s .args .index .now) (s .pre .0) (record { current = s .args .current .now; ended = s .args .ended .now; tallies = s .args .tallies .now; queue = s .args .queue .now; work = s .args .work .now }) (s .args .level) (s .pre .1) in
-    let room = roomy (s .args .session .now) (s .args .masks .now) (s .args .index .now) (s .pre .0) (record { current = s .args .current .now; ended = s .args .ended .now; tallies = s .args .tallies .now; queue = s .args .queue .now; work = s .args .work .now }) (s .args .level) (s .pre .1) .tallies in
-    simp length-set (omega (arith, low, room))
-
-slice-aggregate-start : tie.Need-slice-aggregate-start Inv-loop μ-loop
-slice-aggregate-start c =
-    search needs
-
-cast-start : tie.Need-cast-start Inv-loop μ-loop
-cast-start c =
-    let s = c .before .before .before .before .before .before .before .before .before .before .before .before .before .before in
-    omega (arith, small (s .args .session .now) (s .args .masks .now) (s .args .index .now) (s .pre .0) (record { current = s .args .current .now; ended = s .args .ended .now; tallies = s .args .tallies .now; queue = s .args .queue .now; work = s .args .work .now }) (s .args .level) (s .pre .1), roomy (s .args .session .now) (s .args .masks .now) (s .args .index .now) (s .pre .0) (record { current = s .args .current .now; ended = s .args .ended .now; tallies = s .args .tallies .now; queue = s .args .queue .now; work = s .args .work .now }) (s .args .level) (s .pre .1) .tallies)
+μ-loop session masks index current₀ ended₀ tallies₀ queue₀ work₀ level seen₀ m₀ ending₀ current ended tallies queue work seen m ending = stepsLeft session seen m
 
 start-requires : tie.Need-start-requires Inv-loop μ-loop
 start-requires c κs =
-    search (needs, no-frames)
+    let s = c .before .before .before .before .before .before .before .before .before .before .before in
+    starts (s .pre .0) (s .pre .1)
 
 loop-holds : tie.Need-loop-holds Inv-loop μ-loop
 loop-holds c =
-    let s = c .before .before .before .before .before .before .before .before .before .before .before .before .before .before .before .before in
-    (next-start (s .args .session .now) (s .args .masks .now) (s .args .index .now) (s .pre .0) (record { current = s .args .current .now; ended = s .args .ended .now; tallies = s .args .tallies .now; queue = s .args .queue .now; work = s .args .work .now }) (s .args .level) (s .pre .1) (c .before .before .before .before .before .message-at .result) (c .before .before .before .before .before .message-at .ensures) (c .before .start .result) _ (c .before .start .ensures .0) (c .before .start .ensures .1), (refl, c .before .start .ensures .1))
+    let s = c .before .before .before .before .before .before .before .before .before .before .before .before .before .before .before .before .before in
+    let r = c .before .before .before .before .before .start in
+    (next-start (s .pre .0) (s .pre .1) (r .ensures .0) (r .ensures .1), refl)
 
 is-running-requires : tie.Need-is-running-requires Inv-loop μ-loop
-is-running-requires c κs =
-    search needs
+is-running-requires c κs = search needs
 
-slice-aggregate-go-on : tie.Need-slice-aggregate-go-on Inv-loop μ-loop
-slice-aggregate-go-on c = search (needs, c .before .before .before .before .before .before .before .before .loop .inv .1 .1)
+slice-aggregate-advance : tie.Need-slice-aggregate-advance Inv-loop μ-loop
+slice-aggregate-advance c = search (needs, c .before .before .before .before .loop .inv .0 .seen-long)
 
-slice-aggregate-go-on-2 : tie.Need-slice-aggregate-go-on-2 Inv-loop μ-loop
-slice-aggregate-go-on-2 c = search (needs, c .before .before .before .before .before .before .before .before .before .loop .inv .0 .seen-long)
+advance-requires : tie.Need-advance-requires Inv-loop μ-loop
+advance-requires c κs =
+    let s = c .before .before .before .before .before .before .before .before .before .before .before .before .before .before .before .before .before .before .before .before .before .before in
+    let i = c .before .before .before .before .loop .inv in
+    let go = i .0 .goes (ap isRunning (sym (i .1)) ∙ sym (c .before .before .before .is-running .ensures) ∙ c .before .before .if1 .taken) in
+    (able (s .pre .0) go, able-more (s .pre .0) go)
 
-go-on-requires : tie.Need-go-on-requires Inv-loop μ-loop
-go-on-requires c κs =
-    let s = c .before .before .before .before .before .before .before .before .before .before .before .before .before .before .before .before .before .before .before .before .before .before .before .before .before .before in
-    let l = c .before .before .before .before .before .before .before .before .before .loop in
-    (s .pre .0, next-goes (s .args .session .now) (s .args .masks .now) (s .args .index .now) (s .pre .0) (record { current = s .args .current .now; ended = s .args .ended .now; tallies = s .args .tallies .now; queue = s .args .queue .now; work = s .args .work .now }) (s .args .level) (s .pre .1) (c .before .before .before .before .before .before .before .before .before .before .before .before .before .before .before .message-at .result) (c .before .before .before .before .before .before .before .before .before .before .before .before .before .before .before .message-at .ensures) (c .before .before .before .before .before .before .before .before .before .before .before .start .result) _ (c .before .before .before .before .before .before .before .before .before .before .before .start .ensures .0) (c .before .before .before .before .before .before .before .before .before .before .before .start .ensures .1) (record { current = l .current; ended = s .args .ended .now; tallies = l .tallies; queue = l .queue; work = l .work }) (l .m) (l .stack) (l .seen) (l .inv .0) (ap isRunning (sym (c .before .before .before .before .before .before .before .before .before .loop .inv .1 .0)) ∙ sym (c .before .before .before .before .before .before .before .before .is-running .ensures) ∙ c .before .before .before .before .before .before .before .if1 .taken))
+slice-aggregate-perform-or-tell : tie.Need-slice-aggregate-perform-or-tell Inv-loop μ-loop
+slice-aggregate-perform-or-tell c = search (needs, c .before .before .before .before .before .before .before .before .before .before .before .before .loop .inv .0 .seen-long)
+
+perform-or-tell-requires : tie.Need-perform-or-tell-requires Inv-loop μ-loop
+perform-or-tell-requires c κs =
+    let s = c .before .before .before .before .before .before .before .before .before .before .before .before .before .before .before .before .before .before .before .before .before .before .before .before .before .before .before .before .before .before in
+    let r = c .before .before .before .before .before .before .before .before .before .before .before .before .before .before .before .before .before .before .start in
+    let i = c .before .before .before .before .before .before .before .before .before .before .before .before .loop .inv in
+    let run = ap isRunning (sym (i .1)) ∙ sym (c .before .before .before .before .before .before .before .before .before .before .before .is-running .ensures) ∙ c .before .before .before .before .before .before .before .before .before .before .if1 .taken in
+    (s .pre .0 .leveled, next-outside (s .pre .0) (s .pre .1) (r .ensures .0) (r .ensures .1) (i .0) run (c .before .before .before .before .before .before .before .advance .ensures))
+
+settle-requires : tie.Need-settle-requires Inv-loop μ-loop
+settle-requires c κs =
+    let s = c .before .before .before .before .before .before .before .before .before .before .before .before .before .before .before .before .before .before .before .before .before .before .before .before .before .before .before .before .before .before .before .before .before .before .before .before .before .before .before .before .before .before .before in
+    let r = c .before .before .before .before .before .before .before .before .before .before .before .before .before .before .before .before .before .before .before .before .before .before .before .before .before .before .before .before .before .before .before .start in
+    let i = c .before .before .before .before .before .before .before .before .before .before .before .before .before .before .before .before .before .before .before .before .before .before .before .before .before .loop .inv in
+    let run = ap isRunning (sym (i .1)) ∙ sym (c .before .before .before .before .before .before .before .before .before .before .before .before .before .before .before .before .before .before .before .before .before .before .before .before .is-running .ensures) ∙ c .before .before .before .before .before .before .before .before .before .before .before .before .before .before .before .before .before .before .before .before .before .before .before .if1 .taken in
+    next-settles (s .pre .0) (s .pre .1) (r .ensures .0) (r .ensures .1) (i .0) run (c .before .before .before .before .before .before .before .before .before .before .before .before .before .before .before .before .before .before .before .before .advance .ensures) (c .before .before .before .before .before .before .before .before .before .before .before .before .perform-or-tell .ensures)
 
 loop-less : tie.Need-loop-less Inv-loop μ-loop
 loop-less c =
-    let s = c .before .before .before .before .before .before .before .before .before .before .before .before .before .before .before .before .before .before .before .before .before .before .before .before .before .before .before .before .before .before .before .before .before .before .before .before .before in
-    let l = c .before .before .before .before .before .before .before .before .before .before .before .before .before .before .before .before .before .before .before .before .loop in
-    let r = c .before .before .before .before .before .before .before .before .before .before .go-on in
-    next-less (s .args .session .now) (s .args .level) (l .m) (l .stack) _ (l .seen) _ (record { current = l .current; ended = s .args .ended .now; tallies = l .tallies; queue = l .queue; work = l .work }) _ (r .result) (l .inv .0 .still (ap isRunning (sym (c .before .before .before .before .before .before .before .before .before .before .before .before .before .before .before .before .before .before .before .before .loop .inv .1 .0)) ∙ sym (c .before .before .before .before .before .before .before .before .before .before .before .before .before .before .before .before .before .before .before .is-running .ensures) ∙ c .before .before .before .before .before .before .before .before .before .before .before .before .before .before .before .before .before .before .if1 .taken)) (r .ensures)
+    let s = c .before .before .before .before .before .before .before .before .before .before .before .before .before .before .before .before .before .before .before .before .before .before .before .before .before .before .before .before .before .before .before .before .before .before .before .before .before .before .before .before .before .before .before .before .before .before .before .before in
+    let r = c .before .before .before .before .before .before .before .before .before .before .before .before .before .before .before .before .before .before .before .before .before .before .before .before .before .before .before .before .before .before .before .before .before .before .before .before .start in
+    let i = c .before .before .before .before .before .before .before .before .before .before .before .before .before .before .before .before .before .before .before .before .before .before .before .before .before .before .before .before .before .before .loop .inv in
+    let run = ap isRunning (sym (i .1)) ∙ sym (c .before .before .before .before .before .before .before .before .before .before .before .before .before .before .before .before .before .before .before .before .before .before .before .before .before .before .before .before .before .is-running .ensures) ∙ c .before .before .before .before .before .before .before .before .before .before .before .before .before .before .before .before .before .before .before .before .before .before .before .before .before .before .before .before .if1 .taken in
+    next-less (s .pre .0) (s .pre .1) (r .ensures .0) (r .ensures .1) (i .0) run (c .before .before .before .before .before .before .before .before .before .before .before .before .before .before .before .before .before .before .before .before .before .before .before .before .before .advance .ensures) (c .before .before .before .before .before .before .before .before .before .before .before .before .before .before .before .before .before .perform-or-tell .ensures)
 
 loop-again : tie.Need-loop-again Inv-loop μ-loop
 loop-again c =
-    let s = c .before .before .before .before .before .before .before .before .before .before .before .before .before .before .before .before .before .before .before .before .before .before .before .before .before .before .before .before .before .before .before .before .before .before .before .before .before in
-    let l = c .before .before .before .before .before .before .before .before .before .before .before .before .before .before .before .before .before .before .before .before .loop in
-    let r = c .before .before .before .before .before .before .before .before .before .before .go-on in
-    (next-again (s .args .session .now) _ (record { current = l .current; ended = s .args .ended .now; tallies = l .tallies; queue = l .queue; work = l .work }) (s .args .level) _ _ (l .m) (l .stack) (l .seen) (l .inv .0) (record { current = r .last .1 .1 .1 .0; ended = s .args .ended .now; tallies = r .last .1 .1 .1 .1 .1 .0; queue = r .last .1 .1 .1 .1 .1 .1 .0; work = r .last .1 .1 .1 .1 .1 .1 .1 .0 }) (r .result) _ _ (r .ensures) (r .kept .1 .1 .1 .0) refl (r .kept .1 .1 .1 .1 .1 .0) (r .kept .1 .1 .1 .1 .1 .1 .0) (r .kept .1 .1 .1 .1 .1 .1 .1 .0), (refl, r .ensures .long ∙ l .inv .1 .1))
-
-close-requires : tie.Need-close-requires Inv-loop μ-loop
-close-requires c κs =
-    let s = c .before .before .before .before .before .before .before .before .before .before .before .before .before .before .before .before .before .before .before .before .before .before in
-    let l = c .before .before .before .before .before .loop in
-    next-closes (s .args .session .now) (s .args .masks .now) (s .args .index .now) (s .pre .0) (record { current = s .args .current .now; ended = s .args .ended .now; tallies = s .args .tallies .now; queue = s .args .queue .now; work = s .args .work .now }) (s .args .level) (s .pre .1) (c .before .before .before .before .before .before .before .before .before .before .before .message-at .result) (c .before .before .before .before .before .before .before .before .before .before .before .message-at .ensures) (c .before .before .before .before .before .before .before .start .result) _ (c .before .before .before .before .before .before .before .start .ensures .0) (c .before .before .before .before .before .before .before .start .ensures .1) (record { current = l .current; ended = s .args .ended .now; tallies = l .tallies; queue = l .queue; work = l .work }) (l .m) (l .stack) (l .seen) (l .inv .0) (ap isRunning (sym (c .before .before .before .before .before .loop .inv .1 .0)) ∙ sym (c .before .before .before .before .is-running .ensures) ∙ c .before .before .before .if1 .left)
+    let s = c .before .before .before .before .before .before .before .before .before .before .before .before .before .before .before .before .before .before .before .before .before .before .before .before .before .before .before .before .before .before .before .before .before .before .before .before .before .before .before .before .before .before .before .before .before .before .before .before in
+    let r = c .before .before .before .before .before .before .before .before .before .before .before .before .before .before .before .before .before .before .before .before .before .before .before .before .before .before .before .before .before .before .before .before .before .before .before .before .start in
+    let i = c .before .before .before .before .before .before .before .before .before .before .before .before .before .before .before .before .before .before .before .before .before .before .before .before .before .before .before .before .before .before .loop .inv in
+    let run = ap isRunning (sym (i .1)) ∙ sym (c .before .before .before .before .before .before .before .before .before .before .before .before .before .before .before .before .before .before .before .before .before .before .before .before .before .before .before .before .before .is-running .ensures) ∙ c .before .before .before .before .before .before .before .before .before .before .before .before .before .before .before .before .before .before .before .before .before .before .before .before .before .before .before .before .if1 .taken in
+    let o = c .before .before .before .before .before .before .before .before .before .before .before .before .before .before .before .before .before .perform-or-tell in
+    let e = c .before .before .before .before .settle in (
+      next-again (s .pre .0) (s .pre .1) (r .ensures .0) (r .ensures .1) (i .0) run (c .before .before .before .before .before .before .before .before .before .before .before .before .before .before .before .before .before .before .before .before .before .before .before .before .before .advance .ensures) (o .ensures) (e .ensures) (o .kept .1 .1 .1 .1 .1 .1 .1 .0) (o .kept .1 .1 .0) (e .kept .0) (e .kept .1 .0) (o .kept .1 .1 .1 .1 .0) (o .kept .1 .1 .1 .1 .1 .0) (o .kept .1 .1 .1 .1 .1 .1 .0),
+      refl,
+    )
 
 same-length : tie.Need-same-length Inv-loop μ-loop
-same-length c =
-    c .before .before .before .before .before .before .before .before .before .before .loop .inv .0 .current-long
+same-length c = c .before .before .loop .inv .0 .current-long
 
 same-length-2 : tie.Need-same-length-2 Inv-loop μ-loop
-same-length-2 c =
-    c .before .before .before .before .close .kept .0 ∙ c .before .before .before .before .before .before .before .before .before .before .loop .inv .0 .ended-long
+same-length-2 c = c .before .before .loop .inv .0 .ended-long ∙ c .before .before .before .before .before .before .before .before .start .kept .1 .1 .0
 
 same-length-3 : tie.Need-same-length-3 Inv-loop μ-loop
-same-length-3 c =
-    let s = c .before .before .before .before .before .before .before .before .before .before .before .before .before .before .before .before .before .before .before .before .before .before .before .before .before .before .before in
-    c .before .before .before .before .close .kept .1 .0 ∙ c .before .before .before .before .before .before .before .before .before .before .loop .inv .0 .tallies-long ∙ long-same (s .args .session .now) (s .args .masks .now) (s .args .index .now) (s .pre .0) (record { current = s .args .current .now; ended = s .args .ended .now; tallies = s .args .tallies .now; queue = s .args .queue .now; work = s .args .work .now }) (s .args .level) (s .pre .1) (c .before .before .before .before .before .before .before .before .before .before .before .before .before .before .before .before .message-at .result) (c .before .before .before .before .before .before .before .before .before .before .before .before .before .before .before .before .message-at .ensures) (c .before .before .before .before .before .before .before .before .before .before .before .before .start .result) _ (c .before .before .before .before .before .before .before .before .before .before .before .before .start .ensures .0) (c .before .before .before .before .before .before .before .before .before .before .before .before .start .ensures .1)
+same-length-3 c = c .before .before .loop .inv .0 .tallies-long ∙ c .before .before .before .before .before .before .before .before .start .kept .1 .1 .1 .0
 
 same-length-4 : tie.Need-same-length-4 Inv-loop μ-loop
-same-length-4 c =
-    c .before .before .before .before .before .before .before .before .before .before .loop .inv .0 .queue-long
+same-length-4 c = c .before .before .loop .inv .0 .queue-long
 
 same-length-5 : tie.Need-same-length-5 Inv-loop μ-loop
-same-length-5 c =
-    c .before .before .before .before .before .before .before .before .before .before .loop .inv .0 .work-long
+same-length-5 c = c .before .before .loop .inv .0 .work-long
 
 returns : tie.Need-returns Inv-loop μ-loop
 returns c =
-    let s = c .before .before .before .before .before .before .before .before .before .before .before .before .before .before .before .before .before .before .before .before .before .before .before .before .before .before .before in
-    let l = c .before .before .before .before .before .before .before .before .before .before .loop in
-    next-done (s .args .session .now) (s .args .masks .now) (s .args .index .now) (s .pre .0) (record { current = s .args .current .now; ended = s .args .ended .now; tallies = s .args .tallies .now; queue = s .args .queue .now; work = s .args .work .now }) (s .args .level) (s .pre .1) (c .before .before .before .before .before .before .before .before .before .before .before .before .before .before .before .before .message-at .result) (c .before .before .before .before .before .before .before .before .before .before .before .before .before .before .before .before .message-at .ensures) (c .before .before .before .before .before .before .before .before .before .before .before .before .start .result) _ (c .before .before .before .before .before .before .before .before .before .before .before .before .start .ensures .0) (c .before .before .before .before .before .before .before .before .before .before .before .before .start .ensures .1) (record { current = l .current; ended = s .args .ended .now; tallies = l .tallies; queue = l .queue; work = l .work }) (l .m) (l .stack) (l .seen) (l .inv .0) (ap isRunning (sym (c .before .before .before .before .before .before .before .before .before .before .loop .inv .1 .0)) ∙ sym (c .before .before .before .before .before .before .before .before .before .is-running .ensures) ∙ c .before .before .before .before .before .before .before .before .if1 .left) (c .before .before .before .before .close .last .0) (c .before .before .before .before .close .last .1 .0) (c .before .before .before .before .close .ensures)
+    let s = c .before .before .before .before .before .before .before .before .before .before .before .before .before .before .before .before .before .before .before .before in
+    let r = c .before .before .before .before .before .before .before .before .start in
+    let i = c .before .before .loop .inv in
+    next-done (s .pre .0) (s .pre .1) (r .ensures .0) (r .ensures .1) (i .0) (ap isRunning (sym (i .1)) ∙ sym (c .before .is-running .ensures) ∙ c .if1 .left)
 
 pub run-next-spec : {M : Type 1} → statement M
 run-next-spec =
@@ -193,34 +106,16 @@ run-next-spec =
     (tie.spec
     Inv-loop
     μ-loop
-    mul-message-at
-    slice-read-message-at
-    message-at-requires
-    add-next
-    mul-next
-    slice-read-next
-    cast-next
-    add-tallies
-    mul-tallies
-    slice-read-tallies
-    sub-tallies
-    add-tallies-2
-    mul-tallies-2
-    slice-write-tallies
-    add-tallies-3
-    mul-tallies-3
-    slice-write-tallies-2
-    slice-aggregate-start
-    cast-start
     start-requires
     loop-holds
     is-running-requires
-    slice-aggregate-go-on
-    slice-aggregate-go-on-2
-    go-on-requires
+    slice-aggregate-advance
+    advance-requires
+    slice-aggregate-perform-or-tell
+    perform-or-tell-requires
+    settle-requires
     loop-less
     loop-again
-    close-requires
     same-length
     same-length-2
     same-length-3

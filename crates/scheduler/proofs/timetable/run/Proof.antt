@@ -1,31 +1,49 @@
 -- `scheduler::timetable::run` meets its contract. The invariant: the words say a state from which the rest of the timetable ends as the whole
--- does. Assumes nothing.
+-- does; the managers that run are as their steps leave them, and nothing is kept of what they read. Assumes nothing.
+use Prim.Native.Nat.{ℕ, _*_, _-_, _<_}
 use mathlib.Core.Path.{_≡_, refl, sym, _∙_, ap}
+use mathlib.Core.Bool.{false}
+use mathlib.Core.List.{[], _∷_}
 use native.Mathlib.Omega.{arith}
+use lib.ListN.{length}
+use mir.Syntax.{w64}
+use mir.Val.{Fits}
+use types.Run.{OneOf, miss}
+use denote.Enum.Declared.{tagOf}
+use borrow.Author.Needs.{needs}
+use borrow.Author.Tests.{not-true, not-false}
+use Rattle.lattice.proofs.Laws.Range.{not-both}
+use Rattle.session.specs.declared.Value.the-variants.{Nil}
+use Rattle.scripts.specs.Ending.{isRunning}
+use Rattle.scripts.specs.declared.Ending.the-variants.{Running}
+use Rattle.managers.specs.declared.Effect.the-variants.{Nothing}
+use Rattle.managers.specs.declared.Manager.{Manager}
 use Rattle.level_managers.specs.Permits.{isGiven}
 use Rattle.level_managers.specs.declared.tallies.Permit.{Permit}
 use Rattle.level_managers.specs.declared.tallies.Permit.the-variants.{Given, Absent, Idle, Blocked}
 use Rattle.level_managers.proofs.tallies.Permit as permit
-use Rattle.scheduler.proofs.Laws.Listed.{ListLoop, list-start, list-counted, list-fits, list-finished, list-unended, list-refused, list-present, list-may, list-again}
-use mathlib.Core.List.{[], _∷_}
-use types.Run.{OneOf, miss}
-use denote.Enum.Declared.{tagOf}
-use mir.Syntax.{w64}
-use mir.Val.{Fits}
-use borrow.Author.Tests.{not-true, not-false}
-use Rattle.lattice.proofs.Laws.Range.{not-both}
-use Rattle.session.specs.declared.Value.the-variants.{Nil}
-use Rattle.managers.specs.declared.Manager.{Manager}
-use Rattle.managers.specs.declared.Ending.the-variants.{Running}
-use borrow.Author.Needs.{needs}
-use lib.ListN.{length}
-use Prim.Native.Nat.{ℕ, _*_, _-_, _<_}
+use Rattle.scheduler.proofs.Laws.Listed.{ListLoop, list-start, list-counted, list-fits, list-finished, list-unended, list-refused, list-present, list-may, list-fresh, list-again}
 use Rattle.scheduler.proofs.timetable.run.Statement.{statement}
 use Rattle.scheduler.proofs.timetable.run.Tie as tie
 
 -- what stands for a manager past the array
 abbrev none : Manager
-none = record { level = 0; first = 0; stamp = 0; steps = 0; writes = 0; forks = 0; ending = Running; reply = Nil; height = 0; frames = [] }
+none =
+    record {
+      core = record {
+        level = 0;
+        first = 0;
+        steps = 0;
+        writes = 0;
+        forks = 0;
+        height = 0;
+        ending = Running;
+        reply = Nil;
+        top = record { object = 0; name = 0; next = 0; start = 0; count = 0; into = 0; returns = false; r0 = Nil; r1 = Nil; r2 = Nil; r3 = Nil };
+        effect = Nothing;
+      };
+      waiting = [];
+    }
 
 -- a permit of another tag than the given one's
 not-given : (p : Permit) → OneOf (1 ∷ 2 ∷ 3 ∷ []) (tagOf permit.the-type p) → p ≡ Given → ⊥
@@ -35,24 +53,23 @@ not-given Idle h e = not-both (isGiven Given) refl (sym (ap isGiven e))
 not-given Blocked h e = not-both (isGiven Given) refl (sym (ap isGiven e))
 
 -- the place of a manager in the array
-small : (n : ℕ) → n < 8 → Fits w64 (n * 344)
+small : (n : ℕ) → n < 8 → Fits w64 (n * 400)
 small n h = record { fits = omega (arith, h) }
 
 abbrev Inv-loop : tie.InvT-loop
-Inv-loop session timetable masks index current₀ ended₀ tallies₀ queue₀ work₀ managers₀ i₀ i-end current ended tallies queue work managers i =
-    ListLoop session timetable none (record { current = current₀; ended = ended₀; tallies = tallies₀; queue = queue₀; work = work₀ }) (record { current = current; ended = ended; tallies = tallies; queue = queue; work = work }) managers i
+Inv-loop session timetable masks index current₀ ended₀ tallies₀ queue₀ work₀ managers₀ seen₀ i₀ i-end current ended tallies queue work managers seen i =
+    ListLoop session timetable none (record { current = current₀; ended = ended₀; tallies = tallies₀; queue = queue₀; work = work₀ }) (record { current = current; ended = ended; tallies = tallies; queue = queue; work = work }) managers seen i
 
 abbrev μ-loop : tie.MeasureT-loop
-μ-loop session timetable masks index current₀ ended₀ tallies₀ queue₀ work₀ managers₀ i₀ i-end current ended tallies queue work managers i =
-    length timetable - i
+μ-loop session timetable masks index current₀ ended₀ tallies₀ queue₀ work₀ managers₀ seen₀ i₀ i-end current ended tallies queue work managers seen i = length timetable - i
 
-no-manager-requires : tie.Need-no-manager-requires Inv-loop μ-loop
-no-manager-requires c κs = search needs
+none-requires : tie.Need-none-requires Inv-loop μ-loop
+none-requires c κs = search needs
 
 loop-holds : tie.Need-loop-holds Inv-loop μ-loop
 loop-holds c =
     let z = c .before .before .before .before .before .before .before .before .before .before in
-    list-start (z .args .session .now) (z .args .masks .now) (z .args .timetable .now) none (record { current = z .args .current .now; ended = z .args .ended .now; tallies = z .args .tallies .now; queue = z .args .queue .now; work = z .args .work .now }) _ (z .pre .0 .leveled) refl (z .pre .1)
+    list-start (z .args .timetable .now) none (z .pre .0 .leveled) (ap (λ m. isRunning (m .core .ending)) (c .none .ensures)) (z .pre .1)
 
 shared-slice-read-level : tie.Need-shared-slice-read-level Inv-loop μ-loop
 shared-slice-read-level c = search needs
@@ -61,19 +78,13 @@ cast-level : tie.Need-cast-level Inv-loop μ-loop
 cast-level c = omega (arith, c .shared-slice-known5 .given (c .before .before .loop .i))
 
 ask-requires : tie.Need-ask-requires Inv-loop μ-loop
-ask-requires c κs =
-    let z = c .before .before .before .before .before .before .before .before .before .before .before .before .before .before in
-    let l = c .before .before .before .loop in
-    list-counted (z .args .session .now) (z .args .masks .now) (z .pre .0 .leveled) (z .args .timetable .now) none (record { current = z .args .current .now; ended = z .args .ended .now; tallies = z .args .tallies .now; queue = z .args .queue .now; work = z .args .work .now }) (record { current = l .current; ended = l .ended; tallies = l .tallies; queue = l .queue; work = l .work }) (l .managers) (l .i) (l .inv)
+ask-requires c κs = list-counted (c .before .before .before .before .before .before .before .before .before .before .before .before .before .before .pre .0 .leveled) (c .before .before .before .loop .inv)
 
 enum-told : tie.Need-enum-told Inv-loop μ-loop
 enum-told c = search (needs, c .match .keys1)
 
 cast-refused-at : tie.Need-cast-refused-at Inv-loop μ-loop
-cast-refused-at c =
-    let z = c .before .before .before .before .before .before .before .before .before .before .before .before .before .before .before .before .before .before in
-    let l = c .before .before .before .before .before .before .before .loop in
-    record { fits = list-fits (z .args .session .now) (z .args .masks .now) (z .pre .0 .leveled) (z .args .timetable .now) none (record { current = z .args .current .now; ended = z .args .ended .now; tallies = z .args .tallies .now; queue = z .args .queue .now; work = z .args .work .now }) (record { current = l .current; ended = l .ended; tallies = l .tallies; queue = l .queue; work = l .work }) (l .managers) (l .i) (l .inv) }
+cast-refused-at c = record { fits = list-fits (c .before .before .before .before .before .before .before .before .before .before .before .before .before .before .before .before .before .before .pre .0 .leveled) (c .before .before .before .before .before .before .before .loop .inv) }
 
 refused-at-requires : tie.Need-refused-at-requires Inv-loop μ-loop
 refused-at-requires c κs = search needs
@@ -95,61 +106,42 @@ same-length-5 c = c .before .before .before .before .before .before .before .bef
 
 returns : tie.Need-returns Inv-loop μ-loop
 returns c =
-    let z = c .before .before .before .before .before .before .before .before .before .before .before .before .before .before .before .before .before .before .before in
+    let a = c .before .before .before .before .ask in
     let l = c .before .before .before .before .before .before .before .before .loop in
-    (list-refused (z .args .session .now) (z .args .masks .now) (z .pre .0 .leveled) (z .args .timetable .now) none (record { current = z .args .current .now; ended = z .args .ended .now; tallies = z .args .tallies .now; queue = z .args .queue .now; work = z .args .work .now }) (record { current = l .current; ended = l .ended; tallies = l .tallies; queue = l .queue; work = l .work }) (l .managers) (l .i) (l .inv) (c .before .before .before .before .before .before .before .loop-test .taken) (c .before .before .before .before .ask .result) (c .before .before .before .before .ask .ensures .0) (c .before .before .before .before .ask .last .1 .0) (c .before .before .before .before .ask .ensures .1) (not-given (c .before .before .before .before .ask .result) (c .before .match .keys2)) _ (c .refused-at .result) (c .refused-at .ensures), l .inv .rest)
+    (list-refused (c .before .before .before .before .before .before .before .before .before .before .before .before .before .before .before .before .before .before .before .pre .0 .leveled) (l .inv) (c .before .before .before .before .before .before .before .loop-test .taken) (a .ensures .0) (a .ensures .1) (not-given (a .result) (c .before .match .keys2)) (record { current = l .current; ended = l .ended; tallies = a .last .1 .0; queue = l .queue; work = l .work }) (c .refused-at .ensures), l .inv .rest)
+
+slice-aggregate-step : tie.Need-slice-aggregate-step Inv-loop μ-loop
+slice-aggregate-step c = search (needs, c .before .before .before .before .before .before .before .before .before .before .before .before .before .before .loop .inv .seen-long)
 
 mul-step : tie.Need-mul-step Inv-loop μ-loop
-mul-step c =
-    let z = c .before .before .before .before .before .before .before .before .before .before .before .before .before .before .before .before .before .before .before .before .before .before .before .before in
-    let l = c .before .before .before .before .before .before .before .before .before .before .before .before .before .loop in
-    small _ (list-present (z .args .session .now) (z .args .masks .now) (z .pre .0 .leveled) (z .args .timetable .now) none (record { current = z .args .current .now; ended = z .args .ended .now; tallies = z .args .tallies .now; queue = z .args .queue .now; work = z .args .work .now }) (record { current = l .current; ended = l .ended; tallies = l .tallies; queue = l .queue; work = l .work }) (l .managers) (l .i) (l .inv) (c .before .before .before .before .before .before .before .before .before .before .before .before .loop-test .taken) (c .before .before .before .before .before .before .before .before .before .ask .result) (c .before .before .before .before .before .before .before .before .before .ask .ensures .0) (c .before .before .before .before .before .before .before .before .before .ask .last .1 .0) (c .before .before .before .before .before .before .before .before .before .ask .ensures .1) (c .before .before .before .before .before .enum-told .given .1))
+mul-step c = small _ (list-present (c .before .before .before .before .before .before .before .before .before .before .before .before .before .before .before .before .before .before .before .before .before .before .before .before .before .pre .0 .leveled) (c .before .before .before .before .before .before .before .before .before .before .before .before .before .before .loop .inv) (c .before .before .before .before .before .before .before .before .before .before .before .before .before .loop-test .taken) (c .before .before .before .before .before .before .before .before .before .before .ask .ensures .0) (c .before .before .before .before .before .before .before .before .before .before .ask .ensures .1) (c .before .before .before .before .before .before .enum-told .given .1))
 
 array-copy-out-step : tie.Need-array-copy-out-step Inv-loop μ-loop
-array-copy-out-step c =
-    let z = c .before .before .before .before .before .before .before .before .before .before .before .before .before .before .before .before .before .before .before .before .before .before .before .before in
-    let l = c .before .before .before .before .before .before .before .before .before .before .before .before .before .loop in
-    list-present (z .args .session .now) (z .args .masks .now) (z .pre .0 .leveled) (z .args .timetable .now) none (record { current = z .args .current .now; ended = z .args .ended .now; tallies = z .args .tallies .now; queue = z .args .queue .now; work = z .args .work .now }) (record { current = l .current; ended = l .ended; tallies = l .tallies; queue = l .queue; work = l .work }) (l .managers) (l .i) (l .inv) (c .before .before .before .before .before .before .before .before .before .before .before .before .loop-test .taken) (c .before .before .before .before .before .before .before .before .before .ask .result) (c .before .before .before .before .before .before .before .before .before .ask .ensures .0) (c .before .before .before .before .before .before .before .before .before .ask .last .1 .0) (c .before .before .before .before .before .before .before .before .before .ask .ensures .1) (c .before .before .before .before .before .enum-told .given .1)
+array-copy-out-step c = list-present (c .before .before .before .before .before .before .before .before .before .before .before .before .before .before .before .before .before .before .before .before .before .before .before .before .before .pre .0 .leveled) (c .before .before .before .before .before .before .before .before .before .before .before .before .before .before .loop .inv) (c .before .before .before .before .before .before .before .before .before .before .before .before .before .loop-test .taken) (c .before .before .before .before .before .before .before .before .before .before .ask .ensures .0) (c .before .before .before .before .before .before .before .before .before .before .ask .ensures .1) (c .before .before .before .before .before .before .enum-told .given .1)
 
 step-requires : tie.Need-step-requires Inv-loop μ-loop
 step-requires c κs =
-    let z = c .before .before .before .before .before .before .before .before .before .before .before .before .before .before .before .before .before .before .before .before .before .before .before .before .before in
-    let l = c .before .before .before .before .before .before .before .before .before .before .before .before .before .before .loop in
-    (z .pre .0, list-may (z .args .session .now) (z .args .masks .now) (z .pre .0 .leveled) (z .args .timetable .now) none (record { current = z .args .current .now; ended = z .args .ended .now; tallies = z .args .tallies .now; queue = z .args .queue .now; work = z .args .work .now }) (record { current = l .current; ended = l .ended; tallies = l .tallies; queue = l .queue; work = l .work }) (l .managers) (l .i) (l .inv) (c .before .before .before .before .before .before .before .before .before .before .before .before .before .loop-test .taken) (c .before .before .before .before .before .before .before .before .before .before .ask .result) (c .before .before .before .before .before .before .before .before .before .before .ask .ensures .0) (c .before .before .before .before .before .before .before .before .before .before .ask .last .1 .0) (c .before .before .before .before .before .before .before .before .before .before .ask .ensures .1) (c .before .before .before .before .before .before .enum-told .given .1))
+    (c .before .before .before .before .before .before .before .before .before .before .before .before .before .before .before .before .before .before .before .before .before .before .before .before .before .before .pre .0, (list-may (c .before .before .before .before .before .before .before .before .before .before .before .before .before .before .before .before .before .before .before .before .before .before .before .before .before .before .pre .0 .leveled) (c .before .before .before .before .before .before .before .before .before .before .before .before .before .before .before .loop .inv) (c .before .before .before .before .before .before .before .before .before .before .before .before .before .before .loop-test .taken) (c .before .before .before .before .before .before .before .before .before .before .before .ask .ensures .0) (c .before .before .before .before .before .before .before .before .before .before .before .ask .ensures .1) (c .before .before .before .before .before .before .before .enum-told .given .1), list-fresh (c .before .before .before .before .before .before .before .before .before .before .before .before .before .before .before .before .before .before .before .before .before .before .before .before .before .before .pre .0 .leveled) (c .before .before .before .before .before .before .before .before .before .before .before .before .before .before .before .loop .inv) (c .before .before .before .before .before .before .before .before .before .before .before .before .before .before .loop-test .taken) (c .before .before .before .before .before .before .before .before .before .before .before .ask .ensures .0) (c .before .before .before .before .before .before .before .before .before .before .before .ask .ensures .1) (c .before .before .before .before .before .before .before .enum-told .given .1)))
 
 mul-managers : tie.Need-mul-managers Inv-loop μ-loop
-mul-managers c =
-    let z = c .before .before .before .before .before .before .before .before .before .before .before .before .before .before .before .before .before .before .before .before .before .before .before .before .before .before .before .before .before .before .before .before .before .before .before .before in
-    let l = c .before .before .before .before .before .before .before .before .before .before .before .before .before .before .before .before .before .before .before .before .before .before .before .before .before .loop in
-    small _ (list-present (z .args .session .now) (z .args .masks .now) (z .pre .0 .leveled) (z .args .timetable .now) none (record { current = z .args .current .now; ended = z .args .ended .now; tallies = z .args .tallies .now; queue = z .args .queue .now; work = z .args .work .now }) (record { current = l .current; ended = l .ended; tallies = l .tallies; queue = l .queue; work = l .work }) (l .managers) (l .i) (l .inv) (c .before .before .before .before .before .before .before .before .before .before .before .before .before .before .before .before .before .before .before .before .before .before .before .before .loop-test .taken) (c .before .before .before .before .before .before .before .before .before .before .before .before .before .before .before .before .before .before .before .before .before .ask .result) (c .before .before .before .before .before .before .before .before .before .before .before .before .before .before .before .before .before .before .before .before .before .ask .ensures .0) (c .before .before .before .before .before .before .before .before .before .before .before .before .before .before .before .before .before .before .before .before .before .ask .last .1 .0) (c .before .before .before .before .before .before .before .before .before .before .before .before .before .before .before .before .before .before .before .before .before .ask .ensures .1) (c .before .before .before .before .before .before .before .before .before .before .before .before .before .before .before .before .before .enum-told .given .1))
+mul-managers c = small _ (list-present (c .before .before .before .before .before .before .before .before .before .before .before .before .before .before .before .before .before .before .before .before .before .before .before .before .before .before .before .before .before .before .before .before .before .before .before .before .before .before .pre .0 .leveled) (c .before .before .before .before .before .before .before .before .before .before .before .before .before .before .before .before .before .before .before .before .before .before .before .before .before .before .before .loop .inv) (c .before .before .before .before .before .before .before .before .before .before .before .before .before .before .before .before .before .before .before .before .before .before .before .before .before .before .loop-test .taken) (c .before .before .before .before .before .before .before .before .before .before .before .before .before .before .before .before .before .before .before .before .before .before .before .ask .ensures .0) (c .before .before .before .before .before .before .before .before .before .before .before .before .before .before .before .before .before .before .before .before .before .before .before .ask .ensures .1) (c .before .before .before .before .before .before .before .before .before .before .before .before .before .before .before .before .before .before .before .enum-told .given .1))
 
 array-set-from-managers : tie.Need-array-set-from-managers Inv-loop μ-loop
-array-set-from-managers c =
-    let z = c .before .before .before .before .before .before .before .before .before .before .before .before .before .before .before .before .before .before .before .before .before .before .before .before .before .before .before .before .before .before .before .before .before .before .before .before in
-    let l = c .before .before .before .before .before .before .before .before .before .before .before .before .before .before .before .before .before .before .before .before .before .before .before .before .before .loop in
-    list-present (z .args .session .now) (z .args .masks .now) (z .pre .0 .leveled) (z .args .timetable .now) none (record { current = z .args .current .now; ended = z .args .ended .now; tallies = z .args .tallies .now; queue = z .args .queue .now; work = z .args .work .now }) (record { current = l .current; ended = l .ended; tallies = l .tallies; queue = l .queue; work = l .work }) (l .managers) (l .i) (l .inv) (c .before .before .before .before .before .before .before .before .before .before .before .before .before .before .before .before .before .before .before .before .before .before .before .before .loop-test .taken) (c .before .before .before .before .before .before .before .before .before .before .before .before .before .before .before .before .before .before .before .before .before .ask .result) (c .before .before .before .before .before .before .before .before .before .before .before .before .before .before .before .before .before .before .before .before .before .ask .ensures .0) (c .before .before .before .before .before .before .before .before .before .before .before .before .before .before .before .before .before .before .before .before .before .ask .last .1 .0) (c .before .before .before .before .before .before .before .before .before .before .before .before .before .before .before .before .before .before .before .before .before .ask .ensures .1) (c .before .before .before .before .before .before .before .before .before .before .before .before .before .before .before .before .before .enum-told .given .1)
+array-set-from-managers c = list-present (c .before .before .before .before .before .before .before .before .before .before .before .before .before .before .before .before .before .before .before .before .before .before .before .before .before .before .before .before .before .before .before .before .before .before .before .before .before .before .pre .0 .leveled) (c .before .before .before .before .before .before .before .before .before .before .before .before .before .before .before .before .before .before .before .before .before .before .before .before .before .before .before .loop .inv) (c .before .before .before .before .before .before .before .before .before .before .before .before .before .before .before .before .before .before .before .before .before .before .before .before .before .before .loop-test .taken) (c .before .before .before .before .before .before .before .before .before .before .before .before .before .before .before .before .before .before .before .before .before .before .before .ask .ensures .0) (c .before .before .before .before .before .before .before .before .before .before .before .before .before .before .before .before .before .before .before .before .before .before .before .ask .ensures .1) (c .before .before .before .before .before .before .before .before .before .before .before .before .before .before .before .before .before .before .before .enum-told .given .1)
 
 add-i : tie.Need-add-i Inv-loop μ-loop
-add-i c =
-    let z = c .before .before .before .before .before .before .before .before .before .before .before .before .before .before .before .before .before .before .before .before .before .before .before .before .before .before .before .before .before .before .before .before .before .before .before .before in
-    let l = c .before .before .before .before .before .before .before .before .before .before .before .before .before .before .before .before .before .before .before .before .before .before .before .before .before .loop in
-    record { fits = omega (arith, list-fits (z .args .session .now) (z .args .masks .now) (z .pre .0 .leveled) (z .args .timetable .now) none (record { current = z .args .current .now; ended = z .args .ended .now; tallies = z .args .tallies .now; queue = z .args .queue .now; work = z .args .work .now }) (record { current = l .current; ended = l .ended; tallies = l .tallies; queue = l .queue; work = l .work }) (l .managers) (l .i) (l .inv)) }
+add-i c = record { fits = omega (arith, list-fits (c .before .before .before .before .before .before .before .before .before .before .before .before .before .before .before .before .before .before .before .before .before .before .before .before .before .before .before .before .before .before .before .before .before .before .before .before .before .before .pre .0 .leveled) (c .before .before .before .before .before .before .before .before .before .before .before .before .before .before .before .before .before .before .before .before .before .before .before .before .before .before .before .loop .inv)) }
 
 loop-less : tie.Need-loop-less Inv-loop μ-loop
-loop-less c = omega (arith, c .before .before .before .before .before .before .before .before .before .before .before .before .before .before .before .before .before .before .before .before .before .before .before .before .loop-test .taken)
+loop-less c = omega (arith, c .before .before .before .before .before .before .before .before .before .before .before .before .before .before .before .before .before .before .before .before .before .before .before .before .before .before .loop-test .taken)
 
 loop-again : tie.Need-loop-again Inv-loop μ-loop
 loop-again c =
-    let z = c .before .before .before .before .before .before .before .before .before .before .before .before .before .before .before .before .before .before .before .before .before .before .before .before .before .before .before .before .before .before .before .before .before .before .before .before in
-    let l = c .before .before .before .before .before .before .before .before .before .before .before .before .before .before .before .before .before .before .before .before .before .before .before .before .before .loop in
-    let r = c .before .before .before .before .before .before .before .before .before .before .step in
-    list-again (z .args .session .now) (z .args .masks .now) (z .pre .0 .leveled) (z .args .timetable .now) none (record { current = z .args .current .now; ended = z .args .ended .now; tallies = z .args .tallies .now; queue = z .args .queue .now; work = z .args .work .now }) (record { current = l .current; ended = l .ended; tallies = l .tallies; queue = l .queue; work = l .work }) (l .managers) (l .i) (l .inv) (c .before .before .before .before .before .before .before .before .before .before .before .before .before .before .before .before .before .before .before .before .before .before .before .before .loop-test .taken) (c .before .before .before .before .before .before .before .before .before .before .before .before .before .before .before .before .before .before .before .before .before .ask .result) (c .before .before .before .before .before .before .before .before .before .before .before .before .before .before .before .before .before .before .before .before .before .ask .ensures .0) (c .before .before .before .before .before .before .before .before .before .before .before .before .before .before .before .before .before .before .before .before .before .ask .last .1 .0) (c .before .before .before .before .before .before .before .before .before .before .before .before .before .before .before .before .before .before .before .before .before .ask .ensures .1) (c .before .before .before .before .before .before .before .before .before .before .before .before .before .before .before .before .before .enum-told .given .1) (record { current = r .last .1 .1 .1 .0; ended = r .last .1 .1 .1 .1 .0; tallies = r .last .1 .1 .1 .1 .1 .0; queue = r .last .1 .1 .1 .1 .1 .1 .0; work = r .last .1 .1 .1 .1 .1 .1 .1 .0 }) (r .result) (r .ensures) (r .kept .1 .1 .1 .0) (r .kept .1 .1 .1 .1 .0) (r .kept .1 .1 .1 .1 .1 .0) (c .before .before .before .before .before .before .before .before .before .before .before .before .before .before .before .before .before .before .before .before .before .ask .kept .1 .0) (r .kept .1 .1 .1 .1 .1 .1 .0) (r .kept .1 .1 .1 .1 .1 .1 .1 .0)
+    let r = c .before .before .before .before .before .before .before .before .before .before .before .step in
+    list-again (c .before .before .before .before .before .before .before .before .before .before .before .before .before .before .before .before .before .before .before .before .before .before .before .before .before .before .before .before .before .before .before .before .before .before .before .before .before .before .pre .0 .leveled) (c .before .before .before .before .before .before .before .before .before .before .before .before .before .before .before .before .before .before .before .before .before .before .before .before .before .before .before .loop .inv) (c .before .before .before .before .before .before .before .before .before .before .before .before .before .before .before .before .before .before .before .before .before .before .before .before .before .before .loop-test .taken) (c .before .before .before .before .before .before .before .before .before .before .before .before .before .before .before .before .before .before .before .before .before .before .before .ask .ensures .0) (c .before .before .before .before .before .before .before .before .before .before .before .before .before .before .before .before .before .before .before .before .before .before .before .ask .ensures .1) (c .before .before .before .before .before .before .before .before .before .before .before .before .before .before .before .before .before .before .before .enum-told .given .1) (r .ensures) (r .kept .1 .1 .1 .1 .1 .1 .1 .1 .0) (r .kept .1 .1 .1 .0) (r .kept .1 .1 .1 .1 .0) (r .kept .1 .1 .1 .1 .1 .0) (c .before .before .before .before .before .before .before .before .before .before .before .before .before .before .before .before .before .before .before .before .before .before .before .ask .kept .1 .0) (r .kept .1 .1 .1 .1 .1 .1 .0) (r .kept .1 .1 .1 .1 .1 .1 .1 .0)
 
 all-ended-requires : tie.Need-all-ended-requires Inv-loop μ-loop
-all-ended-requires c κs =
-    let z = c .before .before .before .before .before .before .before .before .before .before .before .before .before in
-    let l = c .before .before .loop in
-    list-counted (z .args .session .now) (z .args .masks .now) (z .pre .0 .leveled) (z .args .timetable .now) none (record { current = z .args .current .now; ended = z .args .ended .now; tallies = z .args .tallies .now; queue = z .args .queue .now; work = z .args .work .now }) (record { current = l .current; ended = l .ended; tallies = l .tallies; queue = l .queue; work = l .work }) (l .managers) (l .i) (l .inv)
+all-ended-requires c κs = list-counted (c .before .before .before .before .before .before .before .before .before .before .before .before .before .pre .0 .leveled) (c .before .before .loop .inv)
 
 same-length-6 : tie.Need-same-length-6 Inv-loop μ-loop
 same-length-6 c = c .before .before .before .before .loop .inv .current-long
@@ -168,9 +160,8 @@ same-length-10 c = c .before .before .before .before .loop .inv .work-long
 
 returns-2 : tie.Need-returns-2 Inv-loop μ-loop
 returns-2 c =
-    let z = c .before .before .before .before .before .before .before .before .before .before .before .before .before .before .before in
-    let l = c .before .before .before .before .loop in
-    (list-unended (z .args .session .now) (z .args .masks .now) (z .pre .0 .leveled) (z .args .timetable .now) none (record { current = z .args .current .now; ended = z .args .ended .now; tallies = z .args .tallies .now; queue = z .args .queue .now; work = z .args .work .now }) (record { current = l .current; ended = l .ended; tallies = l .tallies; queue = l .queue; work = l .work }) (l .managers) (l .i) (l .inv) (c .before .before .before .loop-test .left) (sym (c .before .all-ended .ensures) ∙ not-true (c .before .all-ended .result) (c .if1 .taken)), l .inv .rest)
+    let a = c .before .all-ended in
+    (list-unended (c .before .before .before .before .before .before .before .before .before .before .before .before .before .before .before .pre .0 .leveled) (c .before .before .before .before .loop .inv) (c .before .before .before .loop-test .left) (sym (a .ensures) ∙ not-true (a .result) (c .if1 .taken)), c .before .before .before .before .loop .inv .rest)
 
 same-length-11 : tie.Need-same-length-11 Inv-loop μ-loop
 same-length-11 c = c .before .before .before .before .loop .inv .current-long
@@ -189,11 +180,10 @@ same-length-15 c = c .before .before .before .before .loop .inv .work-long
 
 returns-3 : tie.Need-returns-3 Inv-loop μ-loop
 returns-3 c =
-    let z = c .before .before .before .before .before .before .before .before .before .before .before .before .before .before .before in
-    let l = c .before .before .before .before .loop in
-    (list-finished (z .args .session .now) (z .args .masks .now) (z .pre .0 .leveled) (z .args .timetable .now) none (record { current = z .args .current .now; ended = z .args .ended .now; tallies = z .args .tallies .now; queue = z .args .queue .now; work = z .args .work .now }) (record { current = l .current; ended = l .ended; tallies = l .tallies; queue = l .queue; work = l .work }) (l .managers) (l .i) (l .inv) (c .before .before .before .loop-test .left) (sym (c .before .all-ended .ensures) ∙ not-false (c .before .all-ended .result) (c .if1 .left)), l .inv .rest)
+    let a = c .before .all-ended in
+    (list-finished (c .before .before .before .before .before .before .before .before .before .before .before .before .before .before .before .pre .0 .leveled) (c .before .before .before .before .loop .inv) (c .before .before .before .loop-test .left) (sym (a .ensures) ∙ not-false (a .result) (c .if1 .left)), c .before .before .before .before .loop .inv .rest)
 
 pub run-spec : {M : Type 1} → statement M
 run-spec =
     tie.close
-    (tie.spec Inv-loop μ-loop no-manager-requires loop-holds shared-slice-read-level cast-level ask-requires enum-told cast-refused-at refused-at-requires same-length same-length-2 same-length-3 same-length-4 same-length-5 returns mul-step array-copy-out-step step-requires mul-managers array-set-from-managers add-i loop-less loop-again all-ended-requires same-length-6 same-length-7 same-length-8 same-length-9 same-length-10 returns-2 same-length-11 same-length-12 same-length-13 same-length-14 same-length-15 returns-3)
+    (tie.spec Inv-loop μ-loop none-requires loop-holds shared-slice-read-level cast-level ask-requires enum-told cast-refused-at refused-at-requires same-length same-length-2 same-length-3 same-length-4 same-length-5 returns slice-aggregate-step mul-step array-copy-out-step step-requires mul-managers array-set-from-managers add-i loop-less loop-again all-ended-requires same-length-6 same-length-7 same-length-8 same-length-9 same-length-10 returns-2 same-length-11 same-length-12 same-length-13 same-length-14 same-length-15 returns-3)

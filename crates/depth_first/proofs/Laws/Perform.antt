@@ -1,0 +1,92 @@
+-- What a script step did outside its manager, done to the words of the run. Assumes nothing.
+use Prim.Native.Nat.{ℕ, _+_, _-_, _^_, _≤_, _<_}
+use mathlib.Core.Path.{_≡_, refl, sym, ap, subst}
+use mathlib.Core.List.{List}
+use native.Mathlib.Omega.{arith}
+use Rattle.session.specs.Program.{Program, programOf}
+use Rattle.session.specs.declared.Value.{Value}
+use Rattle.session.specs.declared.Message.{Message}
+use Rattle.session.proofs.Laws.Numbering.{few-objects}
+use Rattle.session.proofs.Laws.Verdict.{accepted}
+use Rattle.scripts.specs.Effect as effect
+use Rattle.scripts.specs.State.{Manager}
+use Rattle.words.specs.Fields.{FieldThere, FieldSet}
+use Rattle.managers.specs.Core.{effectOf, Present}
+use Rattle.managers.specs.declared.Effect.{Effect}
+use Rattle.managers.specs.declared.Effect.the-variants.{Write, Fork}
+use Rattle.model.specs.Fork as model
+use Rattle.model.specs.DepthFirst.{effected, runFork}
+use Rattle.model.proofs.Laws.Invariant.Stamps.{child-within}
+use Rattle.depth_first.specs.Kept.{Read, Keeps, Runnable, Same, Words, Says, Performable, Performed, ForkDone}
+use Rattle.depth_first.specs.declared.forks.Fork as fork
+use Rattle.depth_first.proofs.Laws.Kept.{kept-write}
+
+-- the fork that a step makes
+abbrev pub child : fork.Fork → ℕ → ℕ → Message → fork.Fork
+child f u stamp message = record { level = u; stamp = stamp; depth = f .depth + 1; message = message }
+
+module _ {s masks index : List ℕ} (a : Read s masks index) {left : ℕ} {f : fork.Fork} {forks : ℕ} {e : Effect} (can : Performable s left f forks e) where
+  abbrev p : Program
+  p = programOf s
+
+  -- a step that did nothing outside its manager
+  pub perform-nothing : (w : Words) → effectOf e ≡ effect.Nothing → Performed s left f forks e w w
+  unfolding effected
+  perform-nothing w none g x n says same forking =
+      subst (λ t. Says s (effected (runFork left p) (f .level) x n t g) w) (sym none) says
+
+  -- one that wrote a field
+  module _ {o i : ℕ} {v : Value} (is : e ≡ Write o i v) where
+    there : Present s (Write o i v)
+    there = subst (Present s) is (can .present)
+
+    pub write-there : {c h t : List ℕ} → Keeps s c h t → FieldThere c o i
+    write-there q =
+        record {
+          room = q .1 .fields-there;
+          object = omega (arith, there .0, few-objects s (accepted s (a .accepted) .three));
+          field = there .1;
+        }
+
+    pub perform-writes : (w : Words) (c' : List ℕ) → FieldSet (w .current) c' o i v → Performed s left f forks e w (record { current = c'; ended = w .ended; tallies = w .tallies })
+    unfolding effected
+    perform-writes w c' set g x n says same forking =
+        rw is (kept-write s g (w .current) c' (w .ended) (w .tallies) o i v says (there .0) (there .1) set)
+
+  -- one that made a fork: it runs whole, if its level keeps it
+  module _ {u : ℕ} {message : Message} (is : e ≡ Fork u message) where
+    some : forks ≡ forks - 1 + 1
+    some = can .forking u message is
+
+    pub fork-some : 1 ≤ forks
+    fork-some = omega (arith, some)
+
+    pub fork-stamps : (f .depth ≤ 7) × (forks - 1 < 15) × (f .stamp + 16 ^ (8 - f .depth) ≤ 2 ^ 32)
+    fork-stamps = (omega (arith, can .fork .shallow), omega (arith, some, can .forked), can .fork .fits)
+
+    module _ {stamp : ℕ} (stamped : stamp ≡ model.childStamp (f .stamp) (f .depth) (forks - 1 + 1)) where
+      pub fork-runs : Runnable s left (child f u stamp message)
+      fork-runs =
+          let there : Present s (Fork u message) = subst (Present s) is (can .present) in
+          record {
+            placed = there .0;
+            present = there .1 .0;
+            named = there .1 .1;
+            shallow = omega (arith, can .fork .shallow);
+            fits = rw stamped (omega (arith, child-within (f .stamp) (f .depth) (forks - 1) (fork-stamps .0) (fork-stamps .1), can .fork .fits));
+          }
+
+      same-child : (x : model.Fork) (n : Manager) → Same f x → forks ≡ n .forks + 1 → Same (child f u stamp message) (model.childOf (f .level) x n message)
+      unfolding model.childOf
+      same-child x n same one =
+          let k : forks - 1 + 1 ≡ n .forks + 1 = omega (arith, one) in
+          record {
+            stamp = rw (same .stamp, same .depth, sym k) (sym stamped);
+            depth = ap (λ d. d + 1) (same .depth);
+            message = refl;
+          }
+
+      pub perform-forks : (w w' : Words) → ForkDone s left (child f u stamp message) w w' → Performed s left f forks e w w'
+      unfolding effected
+      perform-forks w w' done g x n says same forking =
+          rw is (done g (model.childOf (f .level) x n message) says (same-child x n same (forking u message is)))

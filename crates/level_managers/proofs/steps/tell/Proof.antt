@@ -1,0 +1,22 @@
+-- `level_managers::steps::tell` meets its contract: what is read of the field is kept. Assumes nothing.
+use borrow.Author.Needs.{needs}
+use Rattle.level_managers.proofs.Laws.Script.{field-there}
+use Rattle.level_managers.proofs.steps.tell.Statement.{statement}
+use Rattle.level_managers.proofs.steps.tell.Tie as tie
+
+field-of-requires : tie.Need-field-of-requires
+field-of-requires c κs = search needs
+
+remember-requires : tie.Need-remember-requires
+remember-requires c κs =
+    let z = c .before .before .before .before .before .before .before .before .before .before in
+    field-there (z .pre .0 .accepted) (z .pre .1 .1)
+
+same-length : tie.Need-same-length
+same-length c = search needs
+
+returns : tie.Need-returns
+returns c = search needs
+
+pub tell-spec : {M : Type 1} → statement M
+tell-spec = tie.close (tie.spec field-of-requires remember-requires same-length returns)

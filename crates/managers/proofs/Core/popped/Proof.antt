@@ -1,0 +1,34 @@
+-- `managers::Core::popped` meets its contract. Assumes nothing.
+use mathlib.Core.Path.{refl, _∙_, ap}
+use mathlib.Core.Bool.{cond}
+use Rattle.session.specs.declared.Value.the-variants.{Nil}
+use Rattle.scripts.specs.Frame.{withRegister}
+use Rattle.managers.proofs.Laws.Frames.{register-placed}
+use borrow.Author.Needs.{needs}
+use Rattle.managers.proofs.Core.popped.Statement.{statement}
+use Rattle.managers.proofs.Core.popped.Tie as tie
+
+woken-requires : tie.Need-woken-requires
+woken-requires c κs = search needs
+
+answered-requires : tie.Need-answered-requires
+answered-requires c κs = search needs
+
+sub-height : tie.Need-sub-height
+sub-height c = search needs
+
+returns : tie.Need-returns
+returns c =
+    let s = c .before .before .before .before .before .before in
+    let f = s .args .self .top in
+    let a = c .before .answered in
+    let w = c .before .before .woken in
+    let v = cond (f .returns) (s .args .reply) Nil in
+    record {
+      core-is = refl;
+      top-is = a .ensures .frame ∙ ap (λ g. withRegister g (f .into) v) (w .ensures .0);
+      top-placed = register-placed (s .args .session .now) (w .result) (a .result) (f .into) v (a .ensures) (w .ensures .1);
+    }
+
+pub popped-spec : {M : Type 1} → statement M
+popped-spec = tie.close (tie.spec woken-requires answered-requires sub-height returns)

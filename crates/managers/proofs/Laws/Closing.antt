@@ -1,0 +1,404 @@
+-- The pops that are left at the end of a row of script steps, and what the code's manager then is. Assumes nothing.
+use Prim.Native.Nat.{ℕ, suc, _+_, _-_, _≤_, _<_}
+use mathlib.Core.Path.{_≡_, refl, sym, _∙_, ap, ap₂, subst}
+use mathlib.Core.Bool.{Bool, true, false, cond, _&&_}
+use mathlib.Core.List.{List, [], _∷_}
+use native.Mathlib.Omega.{arith}
+use borrow.Author.Tests.{lt-ltb, le-ltb, ltb-true, ltb-false, leb-true, leb-false}
+use lib.Dec.{ltb, leb}
+use lib.ListN.{length, getD}
+use Rattle.lattice.proofs.Laws.Range.{not-both, and-left, and-right}
+use Rattle.session.specs.Program.{Program, programOf}
+use Rattle.session.specs.Questions.{verdictOf}
+use Rattle.session.specs.declared.Value.{Value}
+use Rattle.session.specs.declared.Value.the-variants.{Nil}
+use Rattle.session.specs.declared.Verdict.the-variants.{Accepted}
+use Rattle.session.proofs.Laws.Lists.{holds, fails, truth}
+use Rattle.scripts.specs.Limits.{maxFrames, maxScriptSteps}
+use Rattle.scripts.specs.Ending.{isRunning}
+use Rattle.scripts.specs.Effect as effect
+use Rattle.scripts.specs.State as defined
+use Rattle.scripts.specs.Frame.{withRegister}
+use Rattle.scripts.specs.Manager.{isEnd, nextStep, concluded}
+use Rattle.scripts.specs.Valid.{Indexed}
+use Rattle.scripts.specs.declared.Ending.the-variants.{Finished, OutOfSteps}
+use Rattle.scripts.proofs.Laws.Settle.{concluded-pop, concluded-last, concluded-out}
+use Rattle.managers.specs.Frames.{frameOf, asideOf, noWaiting, below, Waits}
+use Rattle.managers.specs.Core.{bare, standing, stackOf, managerOf, effectOf, steppedOf, settledOf, comesTo, isOver, isAsking, isNothing, isDone, Tall, Present, Sits}
+use Rattle.managers.specs.Moves.{causing, restacked, Asks, Popped, stoodAs, closedAs}
+use Rattle.managers.specs.Steps.{Leads, waitingFrames, Held, Advanced, isShut}
+use Rattle.managers.specs.declared.Core.{Core}
+use Rattle.managers.specs.declared.Manager.{Manager}
+use Rattle.managers.specs.declared.frames.Waiting.{Waiting}
+use Rattle.managers.specs.declared.Effect.{Effect}
+use Rattle.managers.specs.declared.Effect.the-variants.{Nothing, End, Write, Read, Fork, Call, Pop}
+use Rattle.managers.proofs.Laws.Frames.{at-end, not-end, goes-there}
+use Rattle.managers.proofs.Laws.Turns.{below-popped, no-pops}
+use Rattle.managers.proofs.Laws.Advance.{Turning, stack-some, turning-level, turning-first}
+
+pub asking-is : (e : Effect) → isAsking e ≡ true → (o : ℕ) × ((k : ℕ) × (e ≡ Read o k))
+asking-is Nothing a = absurd (not-both false a refl)
+asking-is End a = absurd (not-both false a refl)
+asking-is (Write object field value) a = absurd (not-both false a refl)
+asking-is (Read object field) a = (object, (field, refl))
+asking-is (Fork level message) a = absurd (not-both false a refl)
+asking-is (Call object name into returns parameter) a = absurd (not-both false a refl)
+asking-is (Pop reply) a = absurd (not-both false a refl)
+
+done-tall : (e : Effect) (h : ℕ) → isDone e ≡ true → Tall e h
+done-tall Nothing h d = tt
+done-tall End h d = tt
+done-tall (Write object field value) h d = tt
+done-tall (Read object field) h d = tt
+done-tall (Fork level message) h d = tt
+done-tall (Call object name into returns parameter) h d = absurd (not-both false d refl)
+done-tall (Pop reply) h d = absurd (not-both false d refl)
+
+-- where nothing is left to do to the frames of a core that runs, its pops are to come
+plain-settled : (p : Program) (c : Core) (gs : List defined.Frame) (x : Effect) → isDone x ≡ true → isOver x ≡ false → isAsking x ≡ false → settledOf p c gs x ≡ concluded p (standing c gs)
+plain-settled p c gs Nothing d o a = refl
+plain-settled p c gs End d o a = absurd (not-both true refl o)
+plain-settled p c gs (Write object field value) d o a = refl
+plain-settled p c gs (Read object field) d o a = absurd (not-both true refl a)
+plain-settled p c gs (Fork level message) d o a = refl
+plain-settled p c gs (Call object name into returns parameter) d o a = absurd (not-both false d refl)
+plain-settled p c gs (Pop reply) d o a = absurd (not-both false d refl)
+
+over-settled : (p : Program) (c : Core) (gs : List defined.Frame) (x : Effect) → isOver x ≡ true → settledOf p c gs x ≡ bare c (stackOf (c .height) (frameOf (c .top)) gs)
+over-settled p c gs Nothing o = absurd (not-both false o refl)
+over-settled p c gs End o = refl
+over-settled p c gs (Write object field value) o = absurd (not-both false o refl)
+over-settled p c gs (Read object field) o = absurd (not-both false o refl)
+over-settled p c gs (Fork level message) o = absurd (not-both false o refl)
+over-settled p c gs (Call object name into returns parameter) o = absurd (not-both false o refl)
+over-settled p c gs (Pop reply) o = absurd (not-both false o refl)
+
+asking-settled : (p : Program) (c : Core) (gs : List defined.Frame) (x : Effect) → isAsking x ≡ true → settledOf p c gs x ≡ standing c gs
+asking-settled p c gs x a =
+    let e = asking-is x a in
+    ap (settledOf p c gs) (e .1 .1)
+
+-- the top, at its script's end, pops to the frame below it
+late-comes : (s : List ℕ) (c r : Core) (w : Waiting) (gs : List defined.Frame) → isEnd (nextStep (programOf s) (frameOf (c .top))) ≡ true → isDone (c .effect) ≡ true → isOver (c .effect) ≡ false → isAsking (c .effect) ≡ false → Popped s c w Nil r → comesTo (programOf s) (causing r (c .effect)) gs ≡ comesTo (programOf s) c (asideOf w ∷ gs)
+unfolding comesTo
+late-comes s c r w gs e d o a h =
+    ap (λ m. record { manager = m; effect = effectOf (c .effect) })
+    (plain-settled p (causing r (c .effect)) gs (c .effect) d o a
+    ∙ ap (λ x. concluded p (standing x gs)) (h .core-is)
+    ∙ ap (λ f. concluded p (bare c (f ∷ gs))) (h .top-is ∙ ap (withRegister (asideOf w) (c .top .into)) (both (c .top .returns)))
+    ∙ sym (concluded-pop p (standing c (asideOf w ∷ gs)) (frameOf (c .top)) (asideOf w) gs e)
+    ∙ sym (plain-settled p c (asideOf w ∷ gs) (c .effect) d o a))
+  where
+    p : Program
+    p = programOf s
+
+    both : (b : Bool) → cond b Nil Nil ≡ Nil
+    both true = refl
+    both false = refl
+
+-- what holds each time round: pops that were to come led from core c₀ here
+pub record Lowering (s index : List ℕ) (ws : List Waiting) (c₀ c : Core) : Type 0 where
+  pub indexed : Indexed s index
+  pub same : comesTo (programOf s) c (below ws (c .height - 1)) ≡ comesTo (programOf s) c₀ (below ws (c₀ .height - 1))
+  pub sits : Sits s c
+  pub done : isDone (c .effect) ≡ true
+  pub room : length ws ≡ waitingFrames
+  pub each : (k : ℕ) → k + 1 < c .height → Waits s (asideOf (getD ws k noWaiting))
+  pub effect-is : c .effect ≡ c₀ .effect
+  pub steps-are : c .steps ≡ c₀ .steps
+  pub level-is : c .level ≡ c₀ .level
+  pub first-is : c .first ≡ c₀ .first
+  -- nothing pops before a READ
+  pub asks : isAsking (c .effect) ≡ true → c ≡ c₀
+  pub goes : isAsking (c .effect) ≡ true → (c .top .next < c .top .count) × (c .steps < maxScriptSteps)
+
+pub lowering-start : (s masks index current seen : List ℕ) (all : Bool) (limit : ℕ) (c₀ : Core) (ws₀ : List Waiting) (c : Core) (ws : List Waiting) → Turning s masks index current seen all limit c₀ ws₀ c ws → isDone (c .effect) ≡ true → Lowering s index ws c c
+lowering-start s masks index current seen all limit c₀ ws₀ c ws t d =
+    record {
+      indexed = t .able .indexed;
+      same = refl;
+      sits = t .sits;
+      done = d;
+      room = t .room;
+      each = t .each;
+      effect-is = refl;
+      steps-are = refl;
+      level-is = refl;
+      first-is = refl;
+      asks = λ _. refl;
+      goes = λ a.
+          let e = asking-is (c .effect) a in
+          let x = t .asks (e .0) (e .1 .0) (e .1 .1) in
+          (goes-there s (t .able .indexed .accepted) (c .top) (t .sits .top) (rw (x .1 .step) refl), omega (arith, x .0, t .limited .1));
+    }
+
+module _ (s index : List ℕ) (ws : List Waiting) (c₀ c : Core) (t : Lowering s index ws c₀ c) where
+  abbrev p : Program
+  p = programOf s
+
+  -- one more pop
+  module _ (q : (isRunning (c .ending) && (leb (c .top .count) (c .top .next) && ltb 1 (c .height))) ≡ true) where
+    run : isRunning (c .ending) ≡ true
+    run = and-left (isRunning (c .ending)) (leb (c .top .count) (c .top .next) && ltb 1 (c .height)) q
+
+    rest : (leb (c .top .count) (c .top .next) && ltb 1 (c .height)) ≡ true
+    rest = and-right (isRunning (c .ending)) (leb (c .top .count) (c .top .next) && ltb 1 (c .height)) q
+
+    there : leb (c .top .count) (c .top .next) ≡ true
+    there = and-left (leb (c .top .count) (c .top .next)) (ltb 1 (c .height)) rest
+
+    pub lowering-two : 1 < c .height
+    lowering-two = ltb-true 1 (c .height) (and-right (leb (c .top .count) (c .top .next)) (ltb 1 (c .height)) rest)
+
+    pub lowering-waits : Waits s (asideOf (getD ws (c .height - 2) noWaiting))
+    lowering-waits = t .each (c .height - 2) (let two = lowering-two in omega arith)
+
+    not-over : isOver (c .effect) ≡ false
+    not-over = elim (truth (isOver (c .effect))) [
+      | holds o ↦ absurd (not-both (isRunning (c .ending)) run (t .sits .over o))
+      | fails o ↦ o
+    ]
+
+    not-asking : isAsking (c .effect) ≡ false
+    not-asking = elim (truth (isAsking (c .effect))) [
+      | holds a ↦ absurd (omega (arith, t .goes a .0, leb-true (c .top .count) (c .top .next) there))
+      | fails a ↦ a
+    ]
+
+    pub lowering-on : (r : Core) → Popped s c (getD ws (c .height - 2) noWaiting) Nil r → (r' : Core) → r' ≡ causing r (c .effect) → Lowering s index ws c₀ r'
+    lowering-on r h r' is =
+        let two = lowering-two in
+        let e : r' ≡ causing (restacked c (c .height - 1) (r .top)) (c .effect) = is ∙ ap (λ z. causing z (c .effect)) (h .core-is) in
+        let height : r' .height ≡ c .height - 1 = ap (λ z. z .height) e in
+        let effect' : r' .effect ≡ c .effect = ap (λ z. z .effect) e in
+        let over' : isOver (r' .effect) ≡ false = ap isOver effect' ∙ not-over in
+        let asking' : isAsking (r' .effect) ≡ false = ap isAsking effect' ∙ not-asking in
+        let done' : isDone (r' .effect) ≡ true = ap isDone effect' ∙ t .done in
+        let gs = below ws (c .height - 1 - 1) in
+        record {
+          indexed = t .indexed;
+          same = ap (λ k. comesTo p r' (below ws (k - 1))) height
+              ∙ ap (λ z. comesTo p z gs) is
+              ∙ late-comes s c r (getD ws (c .height - 2) noWaiting) gs (at-end s (t .indexed .accepted) (c .top) (t .sits .top) there) (t .done) not-over not-asking h
+              ∙ ap (comesTo p c) (sym (below-popped ws (c .height) two))
+              ∙ t .same;
+          sits = record {
+            level = rw (ap (λ z. z .level) e) (t .sits .level);
+            low = omega (arith, height, t .sits .low);
+            made = rw (ap (λ z. z .steps) e) (t .sits .made);
+            wrote = rw (ap (λ z. z .writes) e) (t .sits .wrote);
+            forked = rw (ap (λ z. z .forks) e) (t .sits .forked);
+            fits = rw (ap (λ z. z .first) e) (t .sits .fits);
+            top = rw (ap (λ z. z .top) e) (h .top-placed);
+            over = λ o. absurd (not-both (isOver (r' .effect)) o over');
+            runs = λ _. rw (ap (λ z. z .ending) e) run;
+            some = λ _. omega (arith, height, two);
+            tall = done-tall (r' .effect) (r' .height) done';
+          };
+          done = done';
+          room = t .room;
+          each = λ k hk. t .each k (omega (arith, hk, height));
+          effect-is = effect' ∙ t .effect-is;
+          steps-are = ap (λ z. z .steps) e ∙ t .steps-are;
+          level-is = ap (λ z. z .level) e ∙ t .level-is;
+          first-is = ap (λ z. z .first) e ∙ t .first-is;
+          asks = λ a. absurd (not-both (isAsking (r' .effect)) a asking');
+          goes = λ a. absurd (not-both (isAsking (r' .effect)) a asking');
+        }
+
+    pub lowering-less : (r : Core) → Popped s c (getD ws (c .height - 2) noWaiting) Nil r → (r' : Core) → r' ≡ causing r (c .effect) → r' .height < c .height
+    lowering-less r h r' is =
+        let two = lowering-two in
+        let height : r' .height ≡ c .height - 1 = ap (λ z. z .height) (is ∙ ap (λ z. causing z (c .effect)) (h .core-is)) in
+        omega (arith, height, two)
+
+  -- no pop is left
+  module _ (q : (isRunning (c .ending) && (leb (c .top .count) (c .top .next) && ltb 1 (c .height))) ≡ false) where
+    abbrev gs : List defined.Frame
+    gs = below ws (c .height - 1)
+
+    -- how a core is closed: it had ended; its first frame pops; it runs on; its steps are used up
+    pub data Close : Type 0 where
+      was-over : isRunning (c .ending) ≡ false → closedAs c ≡ c → Close
+      finishes : isRunning (c .ending) ≡ true → c .height ≡ 1 → isEnd (nextStep p (frameOf (c .top))) ≡ true → closedAs c ≡ stoodAs c 0 Finished Nil → Close
+      runs-on : isRunning (c .ending) ≡ true → c .top .next < c .top .count → c .steps < maxScriptSteps → closedAs c ≡ c → Close
+      spent : isRunning (c .ending) ≡ true → c .top .next < c .top .count → maxScriptSteps ≤ c .steps → closedAs c ≡ stoodAs c (c .height) OutOfSteps (c .reply) → Close
+
+    over-or : isRunning (c .ending) ≡ true → 0 < c .height
+    over-or r = elim (truth (isOver (c .effect))) [
+      | holds o ↦ absurd (not-both (isRunning (c .ending)) r (t .sits .over o))
+      | fails o ↦ t .sits .some o
+    ]
+
+    pub close : Close
+    close = elim (truth (isRunning (c .ending))) [
+      | fails r ↦ was-over r (rw r refl)
+      | holds r ↦ elim (truth (leb (c .top .count) (c .top .next))) [
+        | holds h ↦
+            let low : ltb 1 (c .height) ≡ false = rw (r, h) at q in
+            finishes r (omega (arith, ltb-false 1 (c .height) low, over-or r)) (at-end s (t .indexed .accepted) (c .top) (t .sits .top) h) (rw (r, h) refl)
+        | fails h ↦ elim (truth (ltb (c .steps) maxScriptSteps)) [
+          | holds k ↦ runs-on r (leb-false (c .top .count) (c .top .next) h) (ltb-true (c .steps) maxScriptSteps k) (rw (r, h, k) refl)
+          | fails k ↦ spent r (leb-false (c .top .count) (c .top .next) h) (ltb-false (c .steps) maxScriptSteps k) (rw (r, h, k) refl)
+        ]
+      ]
+    ]
+
+    running-over : isRunning (c .ending) ≡ true → isOver (c .effect) ≡ false
+    running-over r = elim (truth (isOver (c .effect))) [
+      | holds o ↦ absurd (not-both (isRunning (c .ending)) r (t .sits .over o))
+      | fails o ↦ o
+    ]
+
+    -- the manager that is put together again is what the core comes to
+    abbrev put : Core → Manager
+    put r = record { core = r; waiting = ws }
+
+    settled-is : Close → managerOf (put (closedAs c)) ≡ settledOf p c gs (c .effect)
+    unfolding managerOf below
+    settled-is (was-over r e) = elim (truth (isOver (c .effect))) [
+      | holds o ↦ ap (λ z. managerOf (put z)) e ∙ sym (over-settled p c gs (c .effect) o)
+      | fails o ↦ absurd (not-both (isRunning (c .ending)) (t .sits .runs o) r)
+    ]
+    settled-is (finishes r one h e) = elim (truth (isAsking (c .effect))) [
+      | holds a ↦ absurd (not-both (isEnd (nextStep p (frameOf (c .top)))) h (not-end s (t .indexed .accepted) (c .top) (t .sits .top) (t .goes a .0)))
+      | fails a ↦
+          ap (λ z. managerOf (put z)) e
+          ∙ sym (plain-settled p c gs (c .effect) (t .done) (running-over r) a ∙ ap (λ n. concluded p (standing c (below ws (n - 1)))) one ∙ concluded-last p (standing c []) (frameOf (c .top)) h)
+    ]
+    settled-is (runs-on r goes few e) = elim (truth (isAsking (c .effect))) [
+      | holds a ↦
+          ap (λ z. managerOf (put z)) e
+          ∙ ap (bare c) (stack-some (c .height) (frameOf (c .top)) gs (over-or r))
+          ∙ sym (asking-settled p c gs (c .effect) a)
+      | fails a ↦
+          ap (λ z. managerOf (put z)) e
+          ∙ ap (bare c) (stack-some (c .height) (frameOf (c .top)) gs (over-or r))
+          ∙ sym (plain-settled p c gs (c .effect) (t .done) (running-over r) a ∙ no-pops p c gs r few (not-end s (t .indexed .accepted) (c .top) (t .sits .top) goes))
+    ]
+    settled-is (spent r goes most e) = elim (truth (isAsking (c .effect))) [
+      | holds a ↦ absurd (omega (arith, most, t .goes a .1))
+      | fails a ↦
+          ap (λ z. managerOf (put z)) e
+          ∙ ap (λ fs. bare (stoodAs c (c .height) OutOfSteps (c .reply)) fs) (stack-some (c .height) (frameOf (c .top)) gs (over-or r))
+          ∙ sym (plain-settled p c gs (c .effect) (t .done) (running-over r) a ∙ concluded-out p (standing c gs) (frameOf (c .top)) gs most (not-end s (t .indexed .accepted) (c .top) (t .sits .top) goes))
+    ]
+
+    -- what closing leaves as it was
+    pub record Left (r : Core) : Type 0 where
+      pub level : r .level ≡ c .level
+      pub first : r .first ≡ c .first
+      pub steps : r .steps ≡ c .steps
+      pub writes : r .writes ≡ c .writes
+      pub forks : r .forks ≡ c .forks
+      pub top : r .top ≡ c .top
+      pub effect : r .effect ≡ c .effect
+      pub lower : r .height ≤ c .height
+      pub runs : isRunning (r .ending) ≡ true → (0 < r .height) × ((r .top .next < r .top .count) × (r .steps < maxScriptSteps))
+      pub stays : isRunning (r .ending) ≡ true → r ≡ c
+
+    left-by : (r : Core) → Close → closedAs c ≡ r → Left r
+    left-by r (was-over had e) is =
+        let x = sym is ∙ e in
+        let over : isRunning (r .ending) ≡ false = ap (λ z. isRunning (z .ending)) x ∙ had in
+        record {
+          level = ap (λ z. z .level) x;
+          first = ap (λ z. z .first) x;
+          steps = ap (λ z. z .steps) x;
+          writes = ap (λ z. z .writes) x;
+          forks = ap (λ z. z .forks) x;
+          top = ap (λ z. z .top) x;
+          effect = ap (λ z. z .effect) x;
+          lower = omega (arith, ap (λ z. z .height) x);
+          runs = λ y. absurd (not-both (isRunning (r .ending)) y over);
+          stays = λ _. x;
+        }
+    left-by r (finishes run one h e) is =
+        let x = sym is ∙ e in
+        let over : isRunning (r .ending) ≡ false = ap (λ z. isRunning (z .ending)) x in
+        record {
+          level = ap (λ z. z .level) x;
+          first = ap (λ z. z .first) x;
+          steps = ap (λ z. z .steps) x;
+          writes = ap (λ z. z .writes) x;
+          forks = ap (λ z. z .forks) x;
+          top = ap (λ z. z .top) x;
+          effect = ap (λ z. z .effect) x;
+          lower = omega (arith, ap (λ z. z .height) x);
+          runs = λ y. absurd (not-both (isRunning (r .ending)) y over);
+          stays = λ y. absurd (not-both (isRunning (r .ending)) y over);
+        }
+    left-by r (runs-on run goes few e) is =
+        let x = sym is ∙ e in
+        record {
+          level = ap (λ z. z .level) x;
+          first = ap (λ z. z .first) x;
+          steps = ap (λ z. z .steps) x;
+          writes = ap (λ z. z .writes) x;
+          forks = ap (λ z. z .forks) x;
+          top = ap (λ z. z .top) x;
+          effect = ap (λ z. z .effect) x;
+          lower = omega (arith, ap (λ z. z .height) x);
+          runs = λ _. rw x (over-or run, (goes, few));
+          stays = λ _. x;
+        }
+    left-by r (spent run goes most e) is =
+        let x = sym is ∙ e in
+        let over : isRunning (r .ending) ≡ false = ap (λ z. isRunning (z .ending)) x in
+        record {
+          level = ap (λ z. z .level) x;
+          first = ap (λ z. z .first) x;
+          steps = ap (λ z. z .steps) x;
+          writes = ap (λ z. z .writes) x;
+          forks = ap (λ z. z .forks) x;
+          top = ap (λ z. z .top) x;
+          effect = ap (λ z. z .effect) x;
+          lower = omega (arith, ap (λ z. z .height) x);
+          runs = λ y. absurd (not-both (isRunning (r .ending)) y over);
+          stays = λ y. absurd (not-both (isRunning (r .ending)) y over);
+        }
+
+    module _ (r : Core) (is : r ≡ closedAs c) where
+      pub left : Left r
+      left = left-by r close (sym is)
+
+      pub closed-comes : steppedOf (put r) ≡ comesTo p c gs
+      unfolding comesTo
+      closed-comes =
+          ap₂ (λ m x. record { manager = m; effect = effectOf x }) (ap (λ z. managerOf (put z)) is ∙ settled-is close) (left .effect)
+
+      pub closed-held : Held s (put r)
+      closed-held =
+          let x = left in
+          record {
+            level = rw (x .level) (t .sits .level);
+            low = omega (arith, x .lower, t .sits .low);
+            made = rw (x .steps) (t .sits .made);
+            wrote = rw (x .writes) (t .sits .wrote);
+            forked = rw (x .forks) (t .sits .forked);
+            fits = rw (x .first) (t .sits .fits);
+            top = rw (x .top) (t .sits .top);
+            room = t .room;
+            each = λ k hk. t .each k (omega (arith, hk, x .lower));
+            live = λ y. x .runs y .0;
+            few = λ y. x .runs y .1 .1;
+            goes = λ y. x .runs y .1 .0;
+          }
+
+      -- one that asks runs on as it was
+      pub closed-asks : isAsking (c .effect) ≡ true → r ≡ c
+      closed-asks a =
+          let over : isOver (c .effect) ≡ false = let e = asking-is (c .effect) a in rw (e .1 .1) refl in
+          let run = t .sits .runs over in
+          let g = t .goes a in
+          is ∙ rw (run, le-leb-false (g .0), lt-ltb (c .steps) maxScriptSteps (g .1)) refl
+        where
+          le-leb-false : {a b : ℕ} → b < a → leb a b ≡ false
+          le-leb-false {a} {b} h = elim (truth (leb a b)) [
+            | holds e ↦ absurd (omega (arith, leb-true a b e, h))
+            | fails e ↦ e
+          ]
+
+      -- and one that had ended is as it was
+      pub closed-over : isRunning (c .ending) ≡ false → r ≡ c
+      closed-over n = is ∙ rw n refl

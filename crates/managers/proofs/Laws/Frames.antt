@@ -1,0 +1,117 @@
+-- Frames: what a set register leaves as it is, where a script's end is, and how a manager stands by it. Assumes nothing.
+use Prim.Native.Nat.{ℕ, zero, suc, _≤_, _<_}
+use mathlib.Core.Path.{_≡_, refl, _∙_, ap}
+use mathlib.Core.Bool.{true, false}
+use mathlib.Core.List.{List}
+use native.Mathlib.Decide.{decLt}
+use native.Mathlib.Omega.{arith}
+use borrow.Author.Tests.{lt-ltb, le-ltb, leb-true}
+use lib.Dec.{leb}
+use Rattle.lattice.proofs.Laws.Range.{not-both}
+use Rattle.session.specs.Program.{programOf}
+use Rattle.session.specs.Questions.{verdictOf}
+use Rattle.session.specs.declared.Value.{Value}
+use Rattle.session.specs.declared.Value.the-variants.{Nil}
+use Rattle.session.specs.declared.Verdict.the-variants.{Accepted}
+use Rattle.scripts.specs.Limits.{maxScriptSteps}
+use Rattle.scripts.specs.Ending.{isRunning}
+use Rattle.scripts.specs.State as defined
+use Rattle.scripts.specs.Frame.{withRegister}
+use Rattle.scripts.specs.Manager.{isEnd, nextStep}
+use Rattle.scripts.specs.declared.Ending.the-variants.{Finished, OutOfSteps}
+use Rattle.scripts.proofs.Laws.Accepted.{inside-not-end, outside-end}
+use Rattle.managers.specs.Frames.{frameOf, Same, Becomes, Placed}
+use Rattle.managers.specs.Moves.{stoodAs, closedAs}
+use Rattle.managers.specs.declared.Core.{Core}
+use Rattle.managers.specs.declared.frames.Frame.{Frame}
+
+-- a frame with a register set runs the same method, at the same step, for the same sender
+pub register-object : (f : defined.Frame) (k : ℕ) (v : Value) → withRegister f k v .object ≡ f .object
+unfolding withRegister
+register-object f zero v = refl
+register-object f (suc zero) v = refl
+register-object f (suc (suc zero)) v = refl
+register-object f (suc (suc (suc k))) v = refl
+
+pub register-name : (f : defined.Frame) (k : ℕ) (v : Value) → withRegister f k v .name ≡ f .name
+unfolding withRegister
+register-name f zero v = refl
+register-name f (suc zero) v = refl
+register-name f (suc (suc zero)) v = refl
+register-name f (suc (suc (suc k))) v = refl
+
+pub register-next : (f : defined.Frame) (k : ℕ) (v : Value) → withRegister f k v .next ≡ f .next
+unfolding withRegister
+register-next f zero v = refl
+register-next f (suc zero) v = refl
+register-next f (suc (suc zero)) v = refl
+register-next f (suc (suc (suc k))) v = refl
+
+pub register-into : (f : defined.Frame) (k : ℕ) (v : Value) → withRegister f k v .into ≡ f .into
+unfolding withRegister
+register-into f zero v = refl
+register-into f (suc zero) v = refl
+register-into f (suc (suc zero)) v = refl
+register-into f (suc (suc (suc k))) v = refl
+
+pub register-returns : (f : defined.Frame) (k : ℕ) (v : Value) → withRegister f k v .returns ≡ f .returns
+unfolding withRegister
+register-returns f zero v = refl
+register-returns f (suc zero) v = refl
+register-returns f (suc (suc zero)) v = refl
+register-returns f (suc (suc (suc k))) v = refl
+
+-- a frame of the same method, within it, is placed as well
+pub becomes-placed : (s : List ℕ) (f r : Frame) → Same f r → r .next ≤ r .count → Placed s f → Placed s r
+becomes-placed s f r k n p =
+    record {
+      method = (rw (k .object) (p .method .0), rw (k .name) (p .method .1));
+      at = record {
+        start-is = k .start ∙ p .at .start-is ∙ rw (k .object, k .name) refl;
+        count-is = k .count ∙ p .at .count-is ∙ rw (k .object, k .name) refl;
+      };
+      near = n;
+    }
+
+-- so is one whose register was set
+pub register-placed : (s : List ℕ) (f r : Frame) (k : ℕ) (v : Value) → Becomes f r (withRegister (frameOf f) k v) → Placed s f → Placed s r
+register-placed s f r k v b p =
+    let next : r .next ≡ f .next = ap (λ g. g .next) (b .frame) ∙ register-next (frameOf f) k v in
+    becomes-placed s f r (b .same) (omega (arith, next, b .same .count, p .near)) p
+
+-- the top is at its script's end where it has passed every step of its method, and only there
+module _ (s : List ℕ) (a : verdictOf s ≡ Accepted) (f : Frame) (p : Placed s f) where
+  pub at-end : leb (f .count) (f .next) ≡ true → isEnd (nextStep (programOf s) (frameOf f)) ≡ true
+  at-end h = outside-end s a (frameOf f) (omega (arith, leb-true (f .count) (f .next) h, p .at .count-is))
+
+  pub not-end : f .next < f .count → isEnd (nextStep (programOf s) (frameOf f)) ≡ false
+  not-end h = inside-not-end s a (frameOf f) (omega (arith, h, p .at .count-is))
+
+  pub goes-there : isEnd (nextStep (programOf s) (frameOf f)) ≡ false → f .next < f .count
+  goes-there e = elim (decLt (f .next) (f .count)) [
+    | yes h ↦ h
+    | no h ↦ absurd (not-both _ (outside-end s a (frameOf f) (omega (arith, h, p .at .count-is))) e)
+  ]
+
+  pub ends-there : isEnd (nextStep (programOf s) (frameOf f)) ≡ true → f .count ≤ f .next
+  ends-there e = elim (decLt (f .next) (f .count)) [
+    | yes h ↦ absurd (not-both _ e (not-end h))
+    | no h ↦ omega (arith, h)
+  ]
+
+-- how a manager stands once no frame above the first is at its script's end: one that has ended, as it was
+module _ (c : Core) where
+  pub closed-over : isRunning (c .ending) ≡ false → closedAs c ≡ c
+  closed-over e = rw e refl
+
+  -- its last frame at the end
+  pub closed-last : isRunning (c .ending) ≡ true → leb (c .top .count) (c .top .next) ≡ true → closedAs c ≡ stoodAs c 0 Finished Nil
+  closed-last e q = rw (e, q) refl
+
+  -- its top going on, with steps left
+  pub closed-goes : isRunning (c .ending) ≡ true → leb (c .top .count) (c .top .next) ≡ false → c .steps < maxScriptSteps → closedAs c ≡ c
+  closed-goes e q h = rw (e, q, lt-ltb (c .steps) maxScriptSteps h) refl
+
+  -- and with none
+  pub closed-out : isRunning (c .ending) ≡ true → leb (c .top .count) (c .top .next) ≡ false → maxScriptSteps ≤ c .steps → closedAs c ≡ stoodAs c (c .height) OutOfSteps (c .reply)
+  closed-out e q h = rw (e, q, le-ltb (c .steps) maxScriptSteps h) refl

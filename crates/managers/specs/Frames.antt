@@ -1,0 +1,80 @@
+-- The frames of the code's manager, as the definitions have them. No meaning rests on these. Assumes nothing.
+use Prim.Native.Nat.{ℕ, zero, suc, _≤_, _<_}
+use mathlib.Core.Path.{_≡_}
+use mathlib.Core.Bool.{false}
+use mathlib.Core.List.{List, [], _∷_}
+use lib.ListN.{length, getD}
+use Rattle.session.specs.Limits.{names}
+use Rattle.session.specs.Parts.{objectCount}
+use Rattle.session.specs.Meaning.{methodOf}
+use Rattle.session.specs.Reading.{MethodAt}
+use Rattle.session.specs.declared.Value.the-variants.{Nil}
+use Rattle.scripts.specs.State as defined
+use Rattle.managers.specs.declared.frames.Frame.{Frame}
+use Rattle.managers.specs.declared.frames.Waiting.{Waiting}
+
+-- the frame on top, without the place of its method
+abbrev pub frameOf : Frame → defined.Frame
+frameOf f =
+    record {
+      object = f .object;
+      name = f .name;
+      next = f .next;
+      into = f .into;
+      returns = f .returns;
+      r0 = f .r0;
+      r1 = f .r1;
+      r2 = f .r2;
+      r3 = f .r3;
+    }
+
+-- a frame that waits
+abbrev pub asideOf : Waiting → defined.Frame
+asideOf f =
+    record {
+      object = f .object;
+      name = f .name;
+      next = f .next;
+      into = f .into;
+      returns = f .returns;
+      r0 = f .r0;
+      r1 = f .r1;
+      r2 = f .r2;
+      r3 = f .r3;
+    }
+
+abbrev pub noWaiting : Waiting
+noWaiting =
+    record { object = 0; name = 0; next = 0; into = 0; returns = false; r0 = Nil; r1 = Nil; r2 = Nil; r3 = Nil }
+
+-- the first n frames that wait, the last one first
+unfoldable pub below : List Waiting → ℕ → List defined.Frame
+below ws zero = []
+below ws (suc n) = asideOf (getD ws n noWaiting) ∷ below ws n
+
+-- two frames of the same method
+pub record Same (f r : Frame) : Type 0 where
+  pub object : r .object ≡ f .object
+  pub name : r .name ≡ f .name
+  pub start : r .start ≡ f .start
+  pub count : r .count ≡ f .count
+
+-- a frame became another of the same method
+pub record Becomes (f r : Frame) (g : defined.Frame) : Type 0 where
+  pub frame : frameOf r ≡ g
+  pub same : Same f r
+
+-- a method of a present object
+abbrev pub Method : ℕ → ℕ → List ℕ → Type 0
+Method o b s = (o < objectCount s) × (b < names)
+
+-- the frame on top runs a method of a present object, knows where that stands, and is within it
+pub record Placed (s : List ℕ) (f : Frame) : Type 0 where
+  pub method : Method (f .object) (f .name) s
+  pub at : MethodAt s (f .object) (f .name) (f .start) (f .count)
+  pub near : f .next ≤ f .count
+
+-- so does a frame that waits
+pub record Waits (s : List ℕ) (f : defined.Frame) : Type 0 where
+  pub method : Method (f .object) (f .name) s
+  pub near : f .next ≤ length (methodOf s (f .object) (f .name))

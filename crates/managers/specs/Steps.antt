@@ -1,0 +1,155 @@
+-- The script steps that the code's manager makes in a row. No meaning rests on these. Assumes nothing.
+use Prim.Native.Nat.{ℕ, zero, suc, _+_, _^_, _≤_, _<_}
+use mathlib.Core.Path.{_≡_}
+use mathlib.Core.Bool.{Bool, true, false, not}
+use mathlib.Core.List.{List}
+use lib.ListN.{length, getD, replicate}
+use Rattle.session.specs.Parts.{levelCount}
+use Rattle.session.specs.Program.{Program, programOf}
+use Rattle.session.specs.declared.Value.{Value}
+use Rattle.session.specs.declared.Value.the-variants.{Nil}
+use Rattle.session.specs.declared.Step.{Step}
+use Rattle.session.specs.declared.Step.the-variants as op
+use Rattle.scripts.specs.Limits.{maxFrames, maxScriptSteps, maxWrites, maxForks}
+use Rattle.scripts.specs.Ending.{isRunning}
+use Rattle.scripts.specs.Effect as effect
+use Rattle.scripts.specs.State as defined
+use Rattle.scripts.specs.Manager.{nextStep, stepped}
+use Rattle.scripts.specs.Valid.{Indexed, Leveled}
+use Rattle.scripts.specs.declared.Ended.{Ended}
+use Rattle.scripts.specs.declared.Ending.the-variants.{Finished}
+use Rattle.words.specs.Limits.{fieldWords}
+use Rattle.words.specs.Reads.{isOpen, Sees}
+use Rattle.managers.specs.Frames.{frameOf, asideOf, noWaiting, Placed, Waits}
+use Rattle.managers.specs.Core.{managerOf, steppedOf, isNothing, isAsking, isDone, Present}
+use Rattle.managers.specs.Moves.{Asks}
+use Rattle.managers.specs.declared.Core.{Core}
+use Rattle.managers.specs.declared.Manager.{Manager}
+use Rattle.managers.specs.declared.Effect.the-variants.{Nothing, End, Read}
+
+-- so many script steps lead from one manager to another, and concern nobody else
+unfoldable pub Quietly : Program → (ℕ → ℕ → Value) → ℕ → defined.Manager → defined.Manager → Type 0
+Quietly p read zero m n = m ≡ n
+Quietly p read (suc k) m n =
+    (isRunning (m .ending) ≡ true)
+    × ((stepped p read m .effect ≡ effect.Nothing) × Quietly p read k (stepped p read m .manager) n)
+
+-- such steps led to what stands there; or they led to a manager whose next step does
+pub data Leads (p : Program) (read : ℕ → ℕ → Value) (m : defined.Manager) (d : defined.Stepped) : Type 0 where
+  quiet : (k : ℕ) → Quietly p read k m (d .manager) → d .effect ≡ effect.Nothing → Leads p read m d
+  last : (k : ℕ) (n : defined.Manager) → Quietly p read k m n → isRunning (n .ending) ≡ true → stepped p read n ≡ d → Leads p read m d
+
+-- how many frames can wait
+abbrev pub waitingFrames : ℕ
+waitingFrames = 7
+
+-- what stands where no manager has started
+abbrev pub noManager : Manager
+noManager =
+    record {
+      core = record {
+        level = 0;
+        first = 0;
+        steps = 0;
+        writes = 0;
+        forks = 0;
+        height = 0;
+        ending = Finished;
+        reply = Nil;
+        top = record {
+          object = 0;
+          name = 0;
+          next = 0;
+          start = 0;
+          count = 0;
+          into = 0;
+          returns = false;
+          r0 = Nil;
+          r1 = Nil;
+          r2 = Nil;
+          r3 = Nil;
+        };
+        effect = Nothing;
+      };
+      waiting = replicate waitingFrames noWaiting;
+    }
+
+-- the manager as start and its steps leave it: one that runs has a frame that is not at its script's end, and steps left
+pub record Held (s : List ℕ) (m : Manager) : Type 0 where
+  pub level : m .core .level < levelCount s
+  pub low : m .core .height ≤ maxFrames
+  pub made : m .core .steps ≤ maxScriptSteps
+  pub wrote : m .core .writes ≤ maxWrites
+  pub forked : m .core .forks ≤ maxForks
+  pub fits : m .core .first + maxForks + 1 < 2 ^ 16
+  pub top : Placed s (m .core .top)
+  pub room : length (m .waiting) ≡ waitingFrames
+  pub each : (k : ℕ) → k + 1 < m .core .height → Waits s (asideOf (getD (m .waiting) k noWaiting))
+  pub live : isRunning (m .core .ending) ≡ true → 0 < m .core .height
+  pub few : isRunning (m .core .ending) ≡ true → m .core .steps < maxScriptSteps
+  pub goes : isRunning (m .core .ending) ≡ true → m .core .top .next < m .core .top .count
+
+-- a manager that runs, with an accepted session, its level table and method index, words for its fields and for what was read
+pub record Advanceable (s masks index current seen : List ℕ) (m : Manager) : Type 0 where
+  pub indexed : Indexed s index
+  pub leveled : Leveled s masks
+  pub fields-there : fieldWords ≤ length current
+  pub seen-there : fieldWords ≤ length seen
+  pub held : Held s m
+  pub running : isRunning (m .core .ending) ≡ true
+
+-- is the next step a READ of what is not at hand
+abbrev pub shutBy : List ℕ → List ℕ → Bool → ℕ → ℕ → Step → Bool
+shutBy s seen all level object op.End = false
+shutBy s seen all level object (op.Set a n) = false
+shutBy s seen all level object (op.Add a b) = false
+shutBy s seen all level object (op.Jump a b) = false
+shutBy s seen all level object (op.Read a b) = not (isOpen s seen all level object b)
+shutBy s seen all level object (op.Write a b) = false
+shutBy s seen all level object (op.Send a b c) = false
+shutBy s seen all level object (op.Quit a) = false
+
+abbrev pub isShut : List ℕ → List ℕ → Bool → Core → Bool
+isShut s seen all c = shutBy s seen all (c .level) (c .top .object) (nextStep (programOf s) (frameOf (c .top)))
+
+-- script steps in a row, up to one that concerns others or asks, the manager's end, or a limit
+pub record Advanced (s current seen : List ℕ) (all : Bool) (limit : ℕ) (m r : Manager) : Type 0 where
+  pub leads : (read : ℕ → ℕ → Value) → Sees s current seen all (m .core .level) read → Leads (programOf s) read (managerOf m) (steppedOf r)
+  pub held : Held s r
+  pub level-is : r .core .level ≡ m .core .level
+  pub first-is : r .core .first ≡ m .core .first
+  pub present : Present s (r .core .effect)
+  pub done : isDone (r .core .effect) ≡ true
+  -- a READ is asked for only where it is not at hand, and the manager stands before it
+  pub asks : (o k : ℕ) → r .core .effect ≡ Read o k → (isRunning (r .core .ending) ≡ true) × Asks s seen all (r .core) o k
+  pub waits : isAsking (r .core .effect) ≡ true → r .core .steps < limit
+  -- one that a step has ended has ended
+  pub over : r .core .effect ≡ End → isRunning (r .core .ending) ≡ false
+  pub few : r .core .steps ≤ limit
+  -- a manager that runs on stops at the limit alone, or by what its last step did
+  pub rests : isNothing (r .core .effect) ≡ true → isRunning (r .core .ending) ≡ true → r .core .steps ≡ limit
+  -- no step is made only where the first asks
+  pub early : r .core .steps ≡ m .core .steps → isShut s seen all (m .core) ≡ true
+
+-- one script step; or, before a READ that is not at hand, none
+pub record Stepped (s current seen : List ℕ) (m r : Manager) : Type 0 where
+  pub is : isAsking (r .core .effect) ≡ false → (read : ℕ → ℕ → Value) → Sees s current seen false (m .core .level) read → steppedOf r ≡ stepped (programOf s) read (managerOf m)
+  pub asks : (o k : ℕ) → r .core .effect ≡ Read o k → (managerOf r ≡ managerOf m) × Asks s seen false (m .core) o k
+  pub held : Held s r
+  pub level-is : r .core .level ≡ m .core .level
+  pub first-is : r .core .first ≡ m .core .first
+  pub present : Present s (r .core .effect)
+  pub done : isDone (r .core .effect) ≡ true
+
+-- what is kept of a manager that has ended, with the stamp of its fork
+abbrev pub keptOf : Core → ℕ → Ended
+keptOf c stamp =
+    record {
+      ending = c .ending;
+      writes = c .writes;
+      stamp = stamp;
+      first = c .first;
+      last = c .first + c .forks;
+      steps = c .steps;
+      reply = c .reply;
+    }

@@ -1,0 +1,76 @@
+-- What a script step may do outside its manager. Assumes nothing.
+use Prim.Native.Nat.{ℕ, _+_, _<_}
+use mathlib.Core.Path.{_≡_}
+use mathlib.Core.Bool.{true}
+use borrow.Author.Tests.{ltb-true, eqb-true}
+use lib.Dec.{eqb, ltb}
+use Rattle.lattice.specs.Order.{strictly}
+use Rattle.lattice.specs.Join.{JoinSemilattice}
+use Rattle.session.specs.Program.{Program}
+use Rattle.session.specs.declared.Value.{Value}
+use Rattle.session.specs.declared.Message.{Message}
+use Rattle.session.specs.declared.Step.{Step}
+use Rattle.session.specs.declared.Step.the-variants.{End, Set, Add, Jump, Read, Write, Send, Quit}
+use Rattle.session.proofs.Laws.Lists.{holds, fails, truth}
+use Rattle.filter.specs.declared.Fate.{Fate}
+use Rattle.filter.specs.declared.Fate.the-variants as fate
+use Rattle.filter.proofs.Laws.Fate.{Rises, fate-rises}
+use Rattle.scripts.specs.Limits.{maxWrites, maxForks}
+use Rattle.scripts.specs.Frame.{atStep}
+use Rattle.scripts.specs.Manager.{top, nextStep, written, called, forked, sent, operated, stepped}
+use Rattle.scripts.specs.State.{Frame, Manager}
+use Rattle.scripts.specs.Effect.{Effect}
+use Rattle.scripts.specs.Effect as effect
+
+-- a write is of an object of the manager's level, and not the seventeenth; a fork goes to a present level strictly above, and is not the
+-- sixteenth
+abbrev pub Fits : Program → Manager → Effect → Type 0
+Fits p m effect.Nothing = Unit
+Fits p m (effect.Write object k v) = (p .level object ≡ m .level) × (m .writes < maxWrites)
+Fits p m (effect.Fork u message) = (u < p .levels) × ((strictly (p .dom) u (m .level) ≡ true) × (m .forks < maxForks))
+
+written-fits : (p : Program) (m : Manager) (f : Frame) (k : ℕ) (v : Value) → Fits p m (written p m f k v .effect)
+unfolding written
+written-fits p m f k v = elim (truth (eqb (p .level (f .object)) (m .level))) [
+  | fails e ↦ rw e tt
+  | holds e ↦ elim (truth (ltb (m .writes) maxWrites)) [
+    | holds q ↦ rw (e, q) (eqb-true (p .level (f .object)) (m .level) e, ltb-true (m .writes) maxWrites q)
+    | fails q ↦ rw (e, q) tt
+  ]
+]
+
+forked-fits : (p : Program) (m : Manager) (f : Frame) (a u : ℕ) (message : Message) → u < p .levels → strictly (p .dom) u (m .level) ≡ true → Fits p m (forked m f a u message .effect)
+unfolding forked
+forked-fits p m f a u message h s = elim (truth (ltb (m .forks) maxForks)) [
+  | holds e ↦ rw e (h, (s, ltb-true (m .forks) maxForks e))
+  | fails e ↦ rw e tt
+]
+
+sent-fits : (p : Program) (m : Manager) (f : Frame) (a b c : ℕ) (t : Fate) → Rises (p .levels) (p .dom) (m .level) t → Fits p m (sent m f a b c t .effect)
+unfolding sent called
+sent-fits p m f a b c fate.Call r = tt
+sent-fits p m f a b c fate.Discard r = tt
+sent-fits p m f a b c fate.Block r = tt
+sent-fits p m f a b c (fate.Fork u) r = forked-fits p m f a u _ (r .0) (r .1)
+
+-- the levels of a program are a join semilattice, and its objects lie at present levels
+pub record Sound (p : Program) : Type 0 where
+  pub lattice : JoinSemilattice (p .levels) (p .dom)
+  pub placed : (o : ℕ) → p .level o < p .levels
+
+operated-fits : (p : Program) (read : ℕ → ℕ → Value) (m : Manager) (f : Frame) (s : Step) → Sound p → m .level < p .levels → Fits p m (operated p read m f s .effect)
+unfolding operated
+operated-fits p read m f End so h = tt
+operated-fits p read m f (Set a n) so h = tt
+operated-fits p read m f (Add a b) so h = tt
+operated-fits p read m f (Jump a b) so h = tt
+operated-fits p read m f (Read a b) so h = tt
+operated-fits p read m f (Write a b) so h = written-fits p m f b _
+operated-fits p read m f (Send a b c) so h =
+    sent-fits p m f a b c _ (fate-rises (p .levels) (p .dom) (so .lattice) (m .level) (p .level (f .object)) (p .level c) h (so .placed c))
+operated-fits p read m f (Quit a) so h = tt
+
+pub stepped-fits : (p : Program) (read : ℕ → ℕ → Value) (m : Manager) → Sound p → m .level < p .levels → Fits p m (stepped p read m .effect)
+unfolding stepped
+stepped-fits p read m so h =
+    operated-fits p read m (atStep (top m) (top m .next + 1)) (nextStep p (top m)) so h

@@ -1,0 +1,221 @@
+-- What a manager does: its start, and one script step. Assumes nothing.
+use Prim.Native.Nat.{ℕ, _+_}
+use mathlib.Core.Bool.{Bool, true, false, cond}
+use mathlib.Core.List.{List, [], _∷_}
+use lib.Dec.{eqb, ltb}
+use lib.ListN.{length}
+use Rattle.session.specs.Program.{Program}
+use Rattle.session.specs.declared.Value.{Value}
+use Rattle.session.specs.declared.Value.the-variants.{Nil, Number}
+use Rattle.session.specs.declared.Message.{Message}
+use Rattle.session.specs.declared.Step.{Step}
+use Rattle.session.specs.declared.Step.the-variants.{End, Set, Add, Jump, Read, Write, Send, Quit}
+use Rattle.filter.specs.Filter.{fateOf}
+use Rattle.filter.specs.declared.Fate.{Fate}
+use Rattle.filter.specs.declared.Fate.the-variants as fate
+use Rattle.scripts.specs.Limits.{maxFrames, maxScriptSteps, maxWrites, maxForks}
+use Rattle.scripts.specs.Value.{sum, isNilOr0}
+use Rattle.scripts.specs.Ending.{isRunning}
+use Rattle.scripts.specs.Effect as effect
+use Rattle.scripts.specs.State.{Frame, Manager, Stepped}
+use Rattle.scripts.specs.Frame.{frameFor, noFrame, register, withRegister, atStep}
+use Rattle.scripts.specs.declared.Ending.{Ending}
+use Rattle.scripts.specs.declared.Ending.the-variants.{Running, Finished, OutOfSteps, OutOfWrites}
+
+-- the manager with other frames
+abbrev pub withFrames : Manager → List Frame → Manager
+withFrames m fs =
+    record {
+      level = m .level;
+      first = m .first;
+      stamp = m .stamp;
+      steps = m .steps;
+      writes = m .writes;
+      forks = m .forks;
+      ending = m .ending;
+      reply = m .reply;
+      frames = fs;
+    }
+
+-- the manager with no frame left, whose first one replied v
+abbrev pub replied : Manager → Value → Manager
+replied m v =
+    record {
+      level = m .level;
+      first = m .first;
+      stamp = m .stamp;
+      steps = m .steps;
+      writes = m .writes;
+      forks = m .forks;
+      ending = m .ending;
+      reply = v;
+      frames = [];
+    }
+
+-- the manager with other counts of steps, writes and forks, another write stamp and another ending
+abbrev pub withCounts : Manager → ℕ → ℕ → ℕ → ℕ → Ending → Manager
+withCounts m steps writes forks stamp ending =
+    record {
+      level = m .level;
+      first = m .first;
+      stamp = stamp;
+      steps = steps;
+      writes = writes;
+      forks = forks;
+      ending = ending;
+      reply = m .reply;
+      frames = m .frames;
+    }
+
+-- the frame on top, and those below it
+abbrev pub topOf : List Frame → Frame
+topOf [] = noFrame
+topOf (f ∷ fs) = f
+
+abbrev pub belowOf : List Frame → List Frame
+belowOf [] = []
+belowOf (f ∷ fs) = fs
+
+abbrev pub top : Manager → Frame
+top m = topOf (m .frames)
+
+-- another frame in place of the top, and one frame more
+abbrev pub withTop : Manager → Frame → Manager
+withTop m f = withFrames m (f ∷ belowOf (m .frames))
+
+abbrev pub pushed : Manager → Frame → Manager
+pushed m f = withFrames m (f ∷ m .frames)
+
+-- frame f gone with a reply from above those below it: the next one's register gets it or NIL; the last one's is the manager's own
+abbrev pub poppedTo : Manager → Frame → List Frame → Value → Manager
+poppedTo m f [] v = replied m v
+poppedTo m f (g ∷ gs) v = withFrames m (withRegister g (f .into) (cond (f .returns) v Nil) ∷ gs)
+
+-- the top frame gone with a reply
+unfoldable pub popped : Manager → Value → Manager
+popped m v = poppedTo m (top m) (belowOf (m .frames)) v
+
+-- the script's end
+abbrev pub isEnd : Step → Bool
+isEnd End = true
+isEnd (Set a n) = false
+isEnd (Add a b) = false
+isEnd (Jump a b) = false
+isEnd (Read a b) = false
+isEnd (Write a b) = false
+isEnd (Send a b c) = false
+isEnd (Quit a) = false
+
+-- the step that a frame makes next, or its script's end
+abbrev pub nextStep : Program → Frame → Step
+nextStep p f = p .step (f .object) (f .name) (f .next)
+
+-- "A top frame at its script's end pops inside the same step, replying NIL; a sender waiting under another frame does not until, still
+-- inside that step, it becomes the top": frame f on top of those below it
+unfoldable pub settled : Program → Manager → Frame → List Frame → Manager
+settled p m f [] = cond (isEnd (nextStep p f)) (replied m Nil) (withFrames m (f ∷ []))
+settled p m f (g ∷ gs) =
+    let rest = settled p m (withRegister g (f .into) Nil) gs in
+    cond (isEnd (nextStep p f)) rest (withFrames m (f ∷ g ∷ gs))
+
+abbrev pub settledFrom : Program → Manager → List Frame → Manager
+settledFrom p m [] = m
+settledFrom p m (f ∷ fs) = settled p m f fs
+
+-- the ending of a manager after a step, by its frames and whether it has steps left: "0 stack empty; 1 the 256th step left frames"
+abbrev pub endingOf : List Frame → Bool → Ending
+endingOf [] few = Finished
+endingOf (f ∷ fs) few = cond few Running OutOfSteps
+
+-- the pops of a step, and its ending
+unfoldable pub concluded : Program → Manager → Manager
+concluded p m =
+    let n = settledFrom p m (m .frames) in
+    withCounts n (n .steps) (n .writes) (n .forks) (n .stamp) (endingOf (n .frames) (ltb (n .steps) maxScriptSteps))
+
+-- A manager starts: its "first frame is made then"; "An empty first method ends in the start step". Its level, its first write stamp,
+-- its message
+unfoldable pub started : Program → ℕ → ℕ → Message → Manager
+started p level stamp message =
+    concluded p (record {
+      level = level;
+      first = stamp;
+      stamp = stamp;
+      steps = 0;
+      writes = 0;
+      forks = 0;
+      ending = Running;
+      reply = Nil;
+      frames = frameFor (message .object) (message .name) 0 true (message .parameter) ∷ [];
+    })
+
+-- "WRITE a to field b": "takes effect only if the object's level is m; otherwise it does nothing"; "a seventeenth write, counted as a step
+-- and not made"
+unfoldable pub written : Program → Manager → Frame → ℕ → Value → Stepped
+written p m f k v =
+    let n = withTop m f in
+    let made : Stepped = record {
+      manager = withCounts n (n .steps) (n .writes + 1) (n .forks) (n .stamp) (n .ending);
+      effect = effect.Write (f .object) k v;
+    } in
+    let spent : Stepped = record {
+      manager = withCounts n (n .steps) (n .writes) (n .forks) (n .stamp) OutOfWrites;
+      effect = effect.Nothing;
+    } in
+    cond (eqb (p .level (f .object)) (m .level))
+    (cond (ltb (m .writes) maxWrites) made spent)
+    (record { manager = n; effect = effect.Nothing })
+
+-- "o2's method runs as a new frame"; "A ninth frame isn't made; reply NIL"
+unfoldable pub called : Manager → Frame → ℕ → Frame → Stepped
+called m f a callee =
+    record {
+      manager = cond (ltb (length (m .frames)) maxFrames) (pushed (withTop m f) callee) (withTop m (withRegister f a Nil));
+      effect = effect.Nothing;
+    }
+
+-- "a manager is forked at u"; "A sixteenth fork isn't made and changes no stamp"; "a made fork carries it too, then it grows by 1"
+unfoldable pub forked : Manager → Frame → ℕ → ℕ → Message → Stepped
+forked m f a u message =
+    let n = withTop m (withRegister f a Nil) in
+    cond (ltb (m .forks) maxForks)
+    (record {
+      manager = withCounts n (n .steps) (n .writes) (n .forks + 1) (n .stamp + 1) (n .ending);
+      effect = effect.Fork u message;
+    })
+    (record { manager = n; effect = effect.Nothing })
+
+-- "SEND name b to object c with parameter a; the reply goes to a", by what becomes of the message
+unfoldable pub sent : Manager → Frame → ℕ → ℕ → ℕ → Fate → Stepped
+sent m f a b c fate.Call = called m f a (frameFor c b a true (register f a))
+sent m f a b c fate.Discard = called m f a (frameFor c b a false (register f a))
+sent m f a b c fate.Block = record { manager = withTop m (withRegister f a Nil); effect = effect.Nothing }
+sent m f a b c (fate.Fork u) = forked m f a u (record { object = c; name = b; parameter = register f a })
+
+-- one operation, by a top frame that has passed it. `read` is what a READ of a field of an object sees
+unfoldable pub operated : Program → (ℕ → ℕ → Value) → Manager → Frame → Step → Stepped
+operated p read m f End = record { manager = m; effect = effect.Nothing }
+operated p read m f (Set a n) = record { manager = withTop m (withRegister f a (Number n)); effect = effect.Nothing }
+operated p read m f (Add a b) =
+    record { manager = withTop m (withRegister f a (sum (register f a) (register f b))); effect = effect.Nothing }
+operated p read m f (Jump a b) =
+    record { manager = withTop m (cond (isNilOr0 (register f a)) (atStep f b) f); effect = effect.Nothing }
+operated p read m f (Read a b) =
+    record { manager = withTop m (withRegister f a (read (f .object) b)); effect = effect.Nothing }
+operated p read m f (Write a b) = written p m f b (register f a)
+operated p read m f (Send a b c) =
+    sent m f a b c (fateOf (p .levels) (p .dom) (m .level) (p .level (f .object)) (p .level c))
+operated p read m f (Quit a) = record { manager = popped (withTop m f) (register f a); effect = effect.Nothing }
+
+-- the step counted and concluded; "2 wins over 1", and after a seventeenth write nothing pops
+abbrev pub counted : Program → Manager → Manager
+counted p m =
+    let n = withCounts m (m .steps + 1) (m .writes) (m .forks) (m .stamp) (m .ending) in
+    cond (isRunning (m .ending)) (concluded p n) n
+
+-- "makes one script step": the manager after it, and what it does outside
+unfoldable pub stepped : Program → (ℕ → ℕ → Value) → Manager → Stepped
+stepped p read m =
+    let f = top m in
+    let done = operated p read m (atStep f (f .next + 1)) (nextStep p f) in
+    record { manager = counted p (done .manager); effect = done .effect }

@@ -1,0 +1,41 @@
+// What a message manager is and what a script step does to it: definitions and laws. Of code there is only
+// how a manager stands and what is kept of one that has ended, which the crates above share.
+use session::Value;
+ghost use mathlib.Core.Path.{_≡_};
+ghost use Rattle.scripts.specs.Ending.{isRunning};
+
+// How a manager stands.
+pub enum Ending {
+    Running,
+    // Ending 0: the stack is empty.
+    Finished,
+    // Ending 1: the 256th script step left frames.
+    OutOfSteps,
+    // Ending 2: a seventeenth write.
+    OutOfWrites,
+}
+
+// What is kept of a manager that has ended.
+pub struct Ended {
+    pub ending: Ending,
+    pub writes: u8,
+    // Its fork stamp.
+    pub stamp: u32,
+    // Its write stamps, at its start and at its end.
+    pub first: u16,
+    pub last: u16,
+    pub steps: u16,
+    pub reply: Value,
+}
+
+// Whether a manager has not ended.
+pub fn is_running(ending: Ending) -> bool
+    ensures { λ r. ⌜ r ≡ isRunning ending ⌝ }
+{
+    match ending {
+        Ending::Running => true,
+        Ending::Finished => false,
+        Ending::OutOfSteps => false,
+        Ending::OutOfWrites => false,
+    }
+}

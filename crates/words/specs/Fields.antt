@@ -1,0 +1,69 @@
+-- The fields of a run, and those that a manager has read, kept in words. Assumes nothing.
+use Prim.Native.Nat.{ℕ, _+_, _-_, _*_, _≤_, _<_}
+use mathlib.Core.Path.{_≡_}
+use mathlib.Core.Bool.{Bool, true, false, not, cond}
+use mathlib.Core.List.{List}
+use lib.Dec.{eqb}
+use lib.ListN.{length, getD, set}
+use Rattle.session.specs.Limits.{maxObjects, fields}
+use Rattle.session.specs.Parts.{objectCount, masksOf}
+use Rattle.session.specs.Questions.{verdictOf}
+use Rattle.session.specs.Meaning.{fieldOf}
+use Rattle.session.specs.declared.Verdict.the-variants.{Accepted}
+use Rattle.session.specs.declared.Value.{Value}
+use Rattle.session.specs.declared.Value.the-variants.{Nil, Number}
+use Rattle.scripts.specs.Value.{tag, numberIn}
+use Rattle.words.specs.Limits.{fieldWords}
+use Rattle.words.specs.Outside.{Outside}
+
+-- a value in two words: "tag (1 number, 0 NIL)", and the number
+abbrev pub valueOf : ℕ → ℕ → Value
+valueOf tag n = cond (eqb tag 1) (Number n) Nil
+
+-- where the two words of a field stand
+abbrev pub fieldPlace : ℕ → ℕ → ℕ
+fieldPlace o k = 2 * (fields * o + k)
+
+-- what field k of object o holds
+unfoldable pub fieldAt : List ℕ → ℕ → ℕ → Value
+fieldAt ws o k = valueOf (getD ws (fieldPlace o k) 0) (getD ws (fieldPlace o k + 1) 0)
+
+-- there are words for the fields of an accepted session, with its level table
+pub record FieldsReady (s masks ws : List ℕ) : Type 0 where
+  pub accepted : verdictOf s ≡ Accepted
+  pub table : masks ≡ masksOf s
+  pub room : fieldWords ≤ length ws
+
+-- the words of field k of object o are there
+pub record FieldThere (ws : List ℕ) (o k : ℕ) : Type 0 where
+  pub room : fieldWords ≤ length ws
+  pub object : o < maxObjects
+  pub field : k < fields
+
+-- one field holds v, and no other word is touched
+pub record FieldSet (ws ws' : List ℕ) (o k : ℕ) (v : Value) : Type 0 where
+  pub set : fieldAt ws' o k ≡ v
+  pub others : (o' k' : ℕ) → k' < fields → (o' ≡ o → k' ≡ k → ⊥) → fieldAt ws' o' k' ≡ fieldAt ws o' k'
+  pub outside : Outside ws ws' (fieldPlace o k) (fieldPlace o k + 2)
+
+-- whether field k of object o is known. Words that keep what was read say so by their tag: 0 nothing yet, 1 a number, 2 NIL
+abbrev pub knownAt : List ℕ → ℕ → ℕ → Bool
+knownAt ws o k = not (eqb (getD ws (fieldPlace o k) 0) 0)
+
+-- one field is known to hold v, and the others are known as they were
+pub record Remembered (ws ws' : List ℕ) (o k : ℕ) (v : Value) : Type 0 where
+  pub words : ws' ≡ set (set ws (fieldPlace o k) (2 - tag v)) (fieldPlace o k + 1) (numberIn v)
+  pub field : FieldSet ws ws' o k v
+  pub known : knownAt ws' o k ≡ true
+  pub others : (o' k' : ℕ) → k' < fields → (o' ≡ o → k' ≡ k → ⊥) → knownAt ws' o' k' ≡ knownAt ws o' k'
+
+-- what was read of one field is forgotten, and the others are known, and hold what they held, as before
+pub record Forgotten (ws ws' : List ℕ) (o k : ℕ) : Type 0 where
+  pub words : ws' ≡ set ws (fieldPlace o k) 0
+  pub known : knownAt ws' o k ≡ false
+  pub others : (o' k' : ℕ) → k' < fields → (o' ≡ o → k' ≡ k → ⊥) → (knownAt ws' o' k' ≡ knownAt ws o' k') × (fieldAt ws' o' k' ≡ fieldAt ws o' k')
+
+-- "Initial fields": each present object's, and no word behind them is touched
+pub record Filled (s ws ws' : List ℕ) : Type 0 where
+  pub fields-are : (o k : ℕ) → o < objectCount s → k < fields → fieldAt ws' o k ≡ fieldOf s o k
+  pub outside : Outside ws ws' 0 (fieldPlace (objectCount s) 0)

@@ -1,0 +1,25 @@
+-- What the words answer to a READ. Assumes nothing.
+use Prim.Native.Nat.{ℕ, _<_}
+use mathlib.Core.Path.{_≡_}
+use mathlib.Core.Bool.{Bool, true, cond, _||_}
+use mathlib.Core.List.{List}
+use lib.Dec.{eqb}
+use Rattle.session.specs.Limits.{fields}
+use Rattle.session.specs.Parts.{objectCount}
+use Rattle.session.specs.Meaning.{levelOf}
+use Rattle.session.specs.declared.Value.{Value}
+use Rattle.words.specs.Fields.{fieldAt, knownAt}
+
+-- what the words say of a field. Where the object is of the level, or every object is shown, it is what the field holds; of any other object it is
+-- what was read before
+abbrev pub shownIn : List ℕ → List ℕ → List ℕ → Bool → ℕ → ℕ → ℕ → Value
+shownIn s current seen all level o k = cond (all || eqb (levelOf s o) level) (fieldAt current o k) (fieldAt seen o k)
+
+-- whether they say it, so that a READ of it need not pause
+abbrev pub isOpen : List ℕ → List ℕ → Bool → ℕ → ℕ → ℕ → Bool
+isOpen s seen all level o k = (all || eqb (levelOf s o) level) || knownAt seen o k
+
+-- `read` gives what the words say, wherever they say it
+abbrev pub Sees : List ℕ → List ℕ → List ℕ → Bool → ℕ → (ℕ → ℕ → Value) → Type 0
+Sees s current seen all level read =
+    (o k : ℕ) → o < objectCount s → k < fields → isOpen s seen all level o k ≡ true → read o k ≡ shownIn s current seen all level o k
