@@ -10,7 +10,7 @@ use Rattle.session.specs.Parts.{levelCount, objectCount, masksOf}
 use Rattle.session.specs.Questions.{verdictOf}
 use Rattle.session.specs.Program.{programOf}
 use Rattle.session.specs.Reading.{indexOf}
-use Rattle.session.specs.declared.Message.{Message}
+use Rattle.session.specs.declared.Value.{Value}
 use Rattle.session.specs.declared.Verdict.the-variants.{Accepted}
 use Rattle.scripts.specs.Limits.{maxForks}
 use Rattle.scripts.specs.State.{Manager}
@@ -91,7 +91,7 @@ Says s g w = Kept s g (w .current) (w .ended) (w .tallies)
 
 -- a step that makes a fork makes one more than the manager had made before
 abbrev pub Forking : Effect → ℕ → ℕ → Type 0
-Forking e before forks = (u : ℕ) (message : Message) → e ≡ effect.Fork u message → forks ≡ before + 1
+Forking e before forks = (u o b : ℕ) (v : Value) → e ≡ effect.Fork u o b v → forks ≡ before + 1
 
 -- what a script step of a fork's manager did outside it can be done, with so many levels left above: what it concerns is there, and a fork
 -- that it made is counted

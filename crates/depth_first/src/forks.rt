@@ -63,9 +63,19 @@ fn perform(
             field,
             value,
         } => fields::set(current, object as usize, field as usize, value),
-        Effect::Fork { level, message } => {
+        Effect::Fork {
+            level,
+            object,
+            name,
+            parameter,
+        } => {
             let stamp = queues::child_stamp(fork.stamp, fork.depth, forks - 1);
             let depth = fork.depth + 1;
+            let message = Message {
+                object,
+                name,
+                parameter,
+            };
             let child = Fork {
                 level,
                 stamp,

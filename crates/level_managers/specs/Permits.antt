@@ -19,9 +19,13 @@ numberOfPermit Absent = 12
 numberOfPermit Idle = 13
 numberOfPermit Blocked = 14
 
--- a manager of level l runs or waits
+-- a manager of level l runs
+abbrev pub busyIn : List ℕ → ℕ → Bool
+busyIn tallies l = ltb 0 (getD tallies (busyPlace l) 0)
+
+-- one runs or waits
 abbrev pub managed : List ℕ → ℕ → Bool
-managed tallies l = ltb 0 (getD tallies (busyPlace l) 0) || ltb 0 (getD tallies (waitingPlace l) 0)
+managed tallies l = busyIn tallies l || ltb 0 (getD tallies (waitingPlace l) 0)
 
 -- 14, of what is counted
 abbrev pub clearOf : List ℕ → List ℕ → ℕ → Bool

@@ -2,13 +2,13 @@
 use Prim.Native.Nat.{ℕ, _+_, _-_, _^_, _≤_, _<_}
 use mathlib.Core.Path.{_≡_}
 use mathlib.Core.Bool.{true, false, cond}
-use mathlib.Core.List.{List, _∷_}
+use mathlib.Core.List.{List}
 use lib.Dec.{eqb}
-use lib.ListN.{length, getD, set, drop}
+use lib.ListN.{length, getD, set}
 use Rattle.session.specs.Limits.{maxLevels, fields}
 use Rattle.session.specs.Parts.{levelCount, objectCount}
 use Rattle.session.specs.Meaning.{levelOf, fieldOf}
-use Rattle.session.specs.Program.{Program, programOf}
+use Rattle.session.specs.Program.{programOf}
 use Rattle.session.specs.declared.Value.{Value}
 use Rattle.session.specs.declared.Message.{Message}
 use Rattle.scripts.specs.Limits.{maxForks}
@@ -16,28 +16,24 @@ use Rattle.scripts.specs.Ending.{isRunning}
 use Rattle.scripts.specs.Effect.{Effect}
 use Rattle.scripts.specs.Effect as effect
 use Rattle.scripts.specs.State.{Frame, Manager}
-use Rattle.scripts.specs.Manager.{started, stepped}
+use Rattle.scripts.specs.Manager.{started}
 use Rattle.scripts.specs.Valid.{Indexed, Leveled, Startable}
 use Rattle.scripts.specs.declared.Ended.{Ended}
 use Rattle.words.specs.Limits.{fieldWords}
-use Rattle.words.specs.Fields.{knownAt, FieldThere, FieldSet, Remembered}
-use Rattle.managers.specs.Core.{bare, managerOf, steppedOf}
-use Rattle.managers.specs.Moves.{Asks}
-use Rattle.managers.specs.Steps.{Held}
+use Rattle.words.specs.Fields.{FieldThere, FieldSet, Remembered}
+use Rattle.managers.specs.Core.{bare, effectOf}
 use Rattle.managers.specs.declared.Core.{Core}
-use Rattle.managers.specs.declared.Manager as code
-use Rattle.model.specs.Limits.{stampDigits, workNumbers}
+use Rattle.model.specs.Limits.{stampDigits}
 use Rattle.model.specs.Fork.{Fork, childStamp}
 use Rattle.model.specs.History.{endBefore}
-use Rattle.model.specs.Level.{Activity, idle, busy, newestTo}
-use Rattle.model.specs.Step.{State, levelAt, readAt, stepAt}
-use Rattle.model.specs.Schedule.{stepRefusal}
+use Rattle.model.specs.Level.{busy, newestTo}
+use Rattle.model.specs.Step.{State, levelAt, readAt}
 use Rattle.records.specs.Limits.{historyWords}
 use Rattle.records.specs.Histories.{historiesAt, InOrder, HistoryIs, HistoriesThere, Added}
 use Rattle.queues.specs.Queue.{forkOfRow, forkAt, There, Room, Arrived}
 use Rattle.versions.specs.Log.{logStart, logOf, Within}
 use Rattle.versions.specs.Changes.{Appended}
-use Rattle.level_managers.specs.Kept.{Words, nextPlace, waitingPlace, versionsPlace, busyPlace, tallyNumbers, Says, placed}
+use Rattle.level_managers.specs.Kept.{Words, nextPlace, waitingPlace, versionsPlace, busyPlace, tallyNumbers, Says}
 
 -- an accepted session, its level table and its method index
 pub record Read (s masks index : List ℕ) : Type 0 where
@@ -189,6 +185,12 @@ abbrev pub CoreSettled : List ℕ → List ℕ → List ℕ → List ℕ → Lis
 CoreSettled ended ended' tallies tallies' queue l c =
     (fs : List Frame) → Settled ended ended' tallies tallies' queue l (bare c fs)
 
+-- what a step of the manager that runs at level l did outside it is done, then its history kept, if it has ended
+pub record StepDone (w w' : Words) (l : ℕ) (c : Core) : Type 0 where
+  pub tallies : List ℕ
+  pub performed : Performed (record { current = w .current; tallies = w .tallies; queue = w .queue; work = w .work }) (record { current = w' .current; tallies = tallies; queue = w' .queue; work = w' .work }) l (c .first) (c .forks) (effectOf (c .effect))
+  pub settled : CoreSettled (w .ended) (w' .ended) tallies (w' .tallies) (w' .queue) l c
+
 -- a fork waits at level l, and can start there
 pub record StartReady (s index ended tallies queue : List ℕ) (l : ℕ) : Type 0 where
   pub indexed : Indexed s index
@@ -204,56 +206,3 @@ begunTallies tallies l = set (set tallies (waitingPlace l) (getD tallies (waitin
 pub record Started (s ended ended' tallies tallies' queue : List ℕ) (l : ℕ) (m : Manager) : Type 0 where
   pub manager : m ≡ started (programOf s) l (getD tallies (nextPlace l) 0) (runningFork 0 tallies queue l .message)
   pub settled : Settled ended ended' (begunTallies tallies l) tallies' queue l m
-
--- nothing is kept of what managers have read
-abbrev pub Blank : List ℕ → Type 0
-Blank seen = (o k : ℕ) → k < fields → knownAt seen o k ≡ false
-
--- a manager of the code's, if it runs, is as start and its steps leave it; and nothing is kept of what managers have read
-pub record Fresh (s seen : List ℕ) (m : code.Manager) : Type 0 where
-  pub held : isRunning (m .core .ending) ≡ true → Held s m
-  pub blank : Blank seen
-  pub there : fieldWords ≤ length seen
-
--- it runs at level l
-pub record RunsAt (s : List ℕ) (w : Words) (l : ℕ) (m : code.Manager) : Type 0 where
-  pub running : ℕ → Manager
-  pub state : State
-  pub fork : Fork
-  pub busy : Busy s w l running state fork (managerOf m)
-
--- its next script step is a READ of a field of a present object, that is not at hand
-pub record AsksFor (s seen : List ℕ) (m : code.Manager) (object k : ℕ) : Type 0 where
-  pub present : object < objectCount s
-  pub field : k < fields
-  pub asks : Asks s seen false (m .core) object k
-
--- it has become r by a script step that reads what the definition reads, whatever state the words say
-pub record ScriptStep (s : List ℕ) (w : Words) (l : ℕ) (seen' : List ℕ) (m r : code.Manager) : Type 0 where
-  pub is : (ms : ℕ → Manager) (st : State) (x : Fork) → Busy s w l ms st x (managerOf m) → stepped (programOf s) (readAt (programOf s) st l x) (managerOf m) ≡ steppedOf r
-  pub held : Held s r
-  pub blank : Blank seen'
-
--- the words say a state that a run reaches, in which level l may step; m is the manager that runs there, if one does
-pub record Stepping (s : List ℕ) (w : Words) (l : ℕ) (m : code.Manager) (ms : ℕ → Manager) (st : State) : Type 0 where
-  pub says : Says s w ms st
-  pub allowed : stepRefusal (programOf s) st l ≡ 0
-  pub held : ms l ≡ managerOf m
-
-abbrev pub MayStep : List ℕ → Words → ℕ → code.Manager → Type 0
-MayStep s w l m = (ms : ℕ → Manager) × ((st : State) × Stepping s w l m ms st)
-
--- r is the manager that steps at level l, after its step: the one that starts there, or the one that runs there
-abbrev pub SteppedAs : Program → State → ℕ → Activity → Manager → Type 0
-SteppedAs p st l idle r =
-    (x : Fork) (xs : List Fork) → levelAt st l .waiting ≡ x ∷ xs → r ≡ started p l (levelAt st l .next) (x .message)
-SteppedAs p st l (busy x m) r = r ≡ stepped p (readAt p st l x) m .manager
-
--- the words then say the state after a scheduler step at level l, with r for the manager that runs there; r is the manager after the step,
--- also where it has ended; nothing is kept of what it has read, and the work slice is as it was beyond the versions
-pub record StepDone (s : List ℕ) (l : ℕ) (m : code.Manager) (w w' : Words) (seen' : List ℕ) (r : code.Manager) : Type 0 where
-  pub says : (ms : ℕ → Manager) (st : State) → Stepping s w l m ms st → Says s w' (placed l (managerOf r) ms) (stepAt (programOf s) l st)
-  pub manager : (ms : ℕ → Manager) (st : State) → Stepping s w l m ms st → SteppedAs (programOf s) st l (levelAt st l .activity) (managerOf r)
-  pub held : Held s r
-  pub blank : Blank seen'
-  pub rest : drop workNumbers (w' .work) ≡ drop workNumbers (w .work)

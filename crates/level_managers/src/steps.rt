@@ -1,5 +1,5 @@
-// A scheduler step at a level, and what it is made of. The manager that runs at the level is handed in and
-// back by value. `seen` keeps what it has read at other levels; a step leaves nothing there.
+// What a scheduler step at a level is made of, but for the script step itself: that is the manager's own. `seen`
+// keeps what the manager that runs there has read at other levels.
 use crate::reads;
 use managers::Core;
 use managers::Effect;
@@ -9,13 +9,10 @@ use session::Message;
 use session::Value;
 use words::fields;
 ghost use Prim.Native.Nat.{_+_, _^_, _<_};
-ghost use mathlib.Core.Path.{_≡_};
-ghost use lib.ListN.{getD};
 ghost use Rattle.scripts.specs.Valid.{Leveled};
 ghost use Rattle.managers.specs.Core.{managerOf, effectOf};
 ghost use Rattle.managers.specs.Steps.{Held};
-ghost use Rattle.level_managers.specs.Kept.{busyPlace};
-ghost use Rattle.level_managers.specs.Steps.{Read, IsBusy, TellReady, Answered, WriteReady, Wrote, ForkReady, Forked, PerformReady, Performed, SettleReady, CoreSettled, StartReady, Started, Fresh, RunsAt, AsksFor, ScriptStep, MayStep, StepDone};
+ghost use Rattle.level_managers.specs.Steps.{IsBusy, TellReady, Answered, WriteReady, Wrote, ForkReady, Forked, PerformReady, Performed, SettleReady, CoreSettled, StepDone, StartReady, Started};
 
 // The READ that the manager that runs at a level asks for is answered: what it reads is kept in `seen`.
 pub fn tell(
@@ -124,8 +121,15 @@ pub fn perform(
         }
         Effect::Fork {
             level: above,
-            message,
+            object,
+            name,
+            parameter,
         } => {
+            let message = Message {
+                object,
+                name,
+                parameter,
+            };
             let made = forks - 1;
             let stamp = first + made as u16;
             fork(tallies, queue, level, stamp, made, above as usize, message);
@@ -154,6 +158,35 @@ pub fn settle(ended: &mut [u32], tallies: &mut [usize], queue: &[u32], level: us
     tallies[32 + level] = 0;
 }
 
+// The manager that runs at a level has made a script step: what the step did outside it is done, and if it has
+// ended its history is kept.
+pub fn done(
+    current: &mut [u32],
+    ended: &mut [u32],
+    tallies: &mut [usize],
+    queue: &mut [u32],
+    work: &mut [u32],
+    level: usize,
+    core: Core,
+)
+    requires { ⌜ PerformReady (now current) (now tallies) (now queue) (now work) level (core .first) (core .forks) (effectOf (core .effect)) ⌝ }
+    requires { ⌜ SettleReady (now ended) (now tallies) (now queue) level ⌝ }
+    ensures { λ _. ⌜ StepDone (record { current = now (current .entry); ended = now (ended .entry); tallies = now (tallies .entry); queue = now (queue .entry); work = now (work .entry) }) (record { current = now (current .exit); ended = now (ended .exit); tallies = now (tallies .exit); queue = now (queue .exit); work = now (work .exit) }) level core ⌝ }
+{
+    let effect = core.effect;
+    perform(
+        current,
+        tallies,
+        queue,
+        work,
+        level,
+        core.first,
+        core.forks,
+        effect,
+    );
+    settle(ended, tallies, queue, level, core);
+}
+
 // Starts the fork of smallest stamp that waits at a level. One whose method is empty has ended at once, and
 // none runs there then.
 pub fn start(
@@ -175,174 +208,4 @@ pub fn start(
     let core = m.core;
     settle(ended, tallies, queue, level, core);
     m
-}
-
-// The script step of the manager that runs at a level, which asks for a field: that is read, and is not kept
-// longer than the step takes.
-fn answered(
-    session: &[u8],
-    masks: &[u16],
-    index: &[u16],
-    current: &[u32],
-    ended: &[u32],
-    tallies: &[usize],
-    queue: &[u32],
-    work: &[u32],
-    seen: &mut [u32],
-    level: usize,
-    m: Manager,
-    object: u8,
-    field: u8,
-) -> Manager
-    requires { ⌜ Read (now session) (now masks) (now index) ⌝ }
-    requires { ⌜ RunsAt (now session) (record { current = now current; ended = now ended; tallies = now tallies; queue = now queue; work = now work }) level m ⌝ }
-    requires { ⌜ Fresh (now session) (now seen) m ⌝ }
-    requires { ⌜ AsksFor (now session) (now seen) m object field ⌝ }
-    ensures { λ r. ⌜ ScriptStep (now (session .entry)) (record { current = now (current .entry); ended = now (ended .entry); tallies = now (tallies .entry); queue = now (queue .entry); work = now (work .entry) }) level (now (seen .exit)) m r ⌝ }
-{
-    tell(
-        session,
-        masks,
-        current,
-        ended,
-        tallies,
-        queue,
-        work,
-        seen,
-        level,
-        object,
-        field,
-    );
-    let n = m.step(session, masks, index, current, seen);
-    fields::forget(seen, object as usize, field as usize);
-    n
-}
-
-// The script step of the manager that runs at a level.
-fn stepped(
-    session: &[u8],
-    masks: &[u16],
-    index: &[u16],
-    current: &[u32],
-    ended: &[u32],
-    tallies: &[usize],
-    queue: &[u32],
-    work: &[u32],
-    seen: &mut [u32],
-    level: usize,
-    m: Manager,
-) -> Manager
-    requires { ⌜ Read (now session) (now masks) (now index) ⌝ }
-    requires { ⌜ RunsAt (now session) (record { current = now current; ended = now ended; tallies = now tallies; queue = now queue; work = now work }) level m ⌝ }
-    requires { ⌜ Fresh (now session) (now seen) m ⌝ }
-    ensures { λ r. ⌜ ScriptStep (now (session .entry)) (record { current = now (current .entry); ended = now (ended .entry); tallies = now (tallies .entry); queue = now (queue .entry); work = now (work .entry) }) level (now (seen .exit)) m r ⌝ }
-{
-    let n = m.step(session, masks, index, current, seen);
-    let core = n.core;
-    let effect = core.effect;
-    if let Effect::Read { object, field } = effect {
-        return answered(
-            session,
-            masks,
-            index,
-            current,
-            ended,
-            tallies,
-            queue,
-            work,
-            seen,
-            level,
-            m,
-            object,
-            field,
-        );
-    }
-    n
-}
-
-// Makes one script step of the manager that runs at a level, and what that does outside it.
-fn advance(
-    session: &[u8],
-    masks: &[u16],
-    index: &[u16],
-    current: &mut [u32],
-    ended: &mut [u32],
-    tallies: &mut [usize],
-    queue: &mut [u32],
-    work: &mut [u32],
-    seen: &mut [u32],
-    level: usize,
-    m: Manager,
-) -> Manager
-    requires { ⌜ Read (now session) (now masks) (now index) ⌝ }
-    requires { ⌜ MayStep (now session) (record { current = now current; ended = now ended; tallies = now tallies; queue = now queue; work = now work }) level m ⌝ }
-    requires { ⌜ Fresh (now session) (now seen) m ⌝ }
-    requires { ⌜ (getD (now tallies) (busyPlace level) 0 ≡ 0 → ⊥) ⌝ }
-    ensures { λ r. ⌜ StepDone (now (session .entry)) level m (record { current = now (current .entry); ended = now (ended .entry); tallies = now (tallies .entry); queue = now (queue .entry); work = now (work .entry) }) (record { current = now (current .exit); ended = now (ended .exit); tallies = now (tallies .exit); queue = now (queue .exit); work = now (work .exit) }) (now (seen .exit)) r ⌝ }
-{
-    let n = stepped(
-        session,
-        masks,
-        index,
-        current,
-        ended,
-        tallies,
-        queue,
-        work,
-        seen,
-        level,
-        m,
-    );
-    let core = n.core;
-    let effect = core.effect;
-    perform(
-        current,
-        tallies,
-        queue,
-        work,
-        level,
-        core.first,
-        core.forks,
-        effect,
-    );
-    settle(ended, tallies, queue, level, core);
-    n
-}
-
-// A scheduler step at a level that may make one: it starts a manager, or makes a script step of the one
-// that runs, `m`. Returns the manager after it.
-pub fn step(
-    session: &[u8],
-    masks: &[u16],
-    index: &[u16],
-    current: &mut [u32],
-    ended: &mut [u32],
-    tallies: &mut [usize],
-    queue: &mut [u32],
-    work: &mut [u32],
-    seen: &mut [u32],
-    level: usize,
-    m: Manager,
-) -> Manager
-    requires { ⌜ Read (now session) (now masks) (now index) ⌝ }
-    requires { ⌜ MayStep (now session) (record { current = now current; ended = now ended; tallies = now tallies; queue = now queue; work = now work }) level m ⌝ }
-    requires { ⌜ Fresh (now session) (now seen) m ⌝ }
-    ensures { λ r. ⌜ StepDone (now (session .entry)) level m (record { current = now (current .entry); ended = now (ended .entry); tallies = now (tallies .entry); queue = now (queue .entry); work = now (work .entry) }) (record { current = now (current .exit); ended = now (ended .exit); tallies = now (tallies .exit); queue = now (queue .exit); work = now (work .exit) }) (now (seen .exit)) r ⌝ }
-{
-    if tallies[32 + level] == 0 {
-        return start(session, index, ended, tallies, queue, level);
-    }
-    advance(
-        session,
-        masks,
-        index,
-        current,
-        ended,
-        tallies,
-        queue,
-        work,
-        seen,
-        level,
-        m,
-    )
 }

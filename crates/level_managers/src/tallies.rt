@@ -9,7 +9,7 @@ ghost use Prim.Native.Nat.{_≤_, _<_};
 ghost use lib.ListN.{length};
 ghost use Rattle.session.specs.Limits.{maxLevels};
 ghost use Rattle.level_managers.specs.Kept.{tallyNumbers};
-ghost use Rattle.level_managers.specs.Permits.{managed, clearOf, endedOf, permitOf, noted, Countable};
+ghost use Rattle.level_managers.specs.Permits.{busyIn, managed, clearOf, endedOf, permitOf, noted, Countable};
 
 // What questions 12 to 14 say of a scheduler step.
 pub enum Permit {
@@ -22,12 +22,20 @@ pub enum Permit {
     Blocked,
 }
 
+// Whether a manager runs at a level.
+pub fn is_busy(tallies: &[usize], level: usize) -> bool
+    requires { ⌜ (level < maxLevels) × (tallyNumbers ≤ length (now tallies)) ⌝ }
+    ensures { λ r. ⌜ r ≡ busyIn (now (tallies .entry)) level ⌝ }
+{
+    tallies[32 + level] > 0
+}
+
 // Whether a level has a manager that hasn't ended.
 pub fn has_manager(tallies: &[usize], level: usize) -> bool
     requires { ⌜ (level < maxLevels) × (tallyNumbers ≤ length (now tallies)) ⌝ }
     ensures { λ r. ⌜ r ≡ managed (now (tallies .entry)) level ⌝ }
 {
-    tallies[32 + level] > 0 || tallies[16 + level] > 0
+    is_busy(tallies, level) || tallies[16 + level] > 0
 }
 
 // Question 14: have all managers ended at the levels that a level strictly dominates?

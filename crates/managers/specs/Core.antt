@@ -12,7 +12,7 @@ use Rattle.scripts.specs.Effect as effect
 use Rattle.scripts.specs.State as defined
 use Rattle.scripts.specs.Frame.{frameFor}
 use Rattle.scripts.specs.Manager.{withFrames, popped, concluded}
-use Rattle.managers.specs.Frames.{frameOf, below, Method, Placed}
+use Rattle.managers.specs.Frames.{intoOf, returnsOf, frameOf, below, Method, Placed}
 use Rattle.managers.specs.declared.Manager.{Manager}
 use Rattle.managers.specs.declared.Core.{Core}
 use Rattle.managers.specs.declared.Effect.{Effect}
@@ -52,8 +52,8 @@ effectOf Nothing = effect.Nothing
 effectOf End = effect.Nothing
 effectOf (Write object field value) = effect.Write object field value
 effectOf (Read object field) = effect.Nothing
-effectOf (Fork level message) = effect.Fork level message
-effectOf (Call object name into returns parameter) = effect.Nothing
+effectOf (Fork level object name parameter) = effect.Fork level (record { object = object; name = name; parameter = parameter })
+effectOf (Call object name answer parameter) = effect.Nothing
 effectOf (Pop reply) = effect.Nothing
 
 abbrev pub steppedOf : Manager → defined.Stepped
@@ -65,9 +65,9 @@ settledOf p c gs Nothing = concluded p (standing c gs)
 settledOf p c gs End = bare c (stackOf (c .height) (frameOf (c .top)) gs)
 settledOf p c gs (Write object field value) = concluded p (standing c gs)
 settledOf p c gs (Read object field) = standing c gs
-settledOf p c gs (Fork level message) = concluded p (standing c gs)
-settledOf p c gs (Call object name into returns parameter) =
-    concluded p (bare c (frameFor object name into returns parameter ∷ frameOf (c .top) ∷ gs))
+settledOf p c gs (Fork level object name parameter) = concluded p (standing c gs)
+settledOf p c gs (Call object name answer parameter) =
+    concluded p (bare c (frameFor object name (intoOf answer) (returnsOf answer) parameter ∷ frameOf (c .top) ∷ gs))
 settledOf p c gs (Pop reply) = concluded p (popped (standing c gs) reply)
 
 unfoldable pub comesTo : Program → Core → List defined.Frame → defined.Stepped
@@ -79,8 +79,8 @@ isOver Nothing = false
 isOver End = true
 isOver (Write object field value) = false
 isOver (Read object field) = false
-isOver (Fork level message) = false
-isOver (Call object name into returns parameter) = false
+isOver (Fork level object name parameter) = false
+isOver (Call object name answer parameter) = false
 isOver (Pop reply) = false
 
 -- is it a READ that is asked for
@@ -89,8 +89,8 @@ isAsking Nothing = false
 isAsking End = false
 isAsking (Write object field value) = false
 isAsking (Read object field) = true
-isAsking (Fork level message) = false
-isAsking (Call object name into returns parameter) = false
+isAsking (Fork level object name parameter) = false
+isAsking (Call object name answer parameter) = false
 isAsking (Pop reply) = false
 
 -- is nothing left to do
@@ -99,8 +99,8 @@ isNothing Nothing = true
 isNothing End = false
 isNothing (Write object field value) = false
 isNothing (Read object field) = false
-isNothing (Fork level message) = false
-isNothing (Call object name into returns parameter) = false
+isNothing (Fork level object name parameter) = false
+isNothing (Call object name answer parameter) = false
 isNothing (Pop reply) = false
 
 -- is nothing left to do to the frames
@@ -109,8 +109,8 @@ isDone Nothing = true
 isDone End = true
 isDone (Write object field value) = true
 isDone (Read object field) = true
-isDone (Fork level message) = true
-isDone (Call object name into returns parameter) = false
+isDone (Fork level object name parameter) = true
+isDone (Call object name answer parameter) = false
 isDone (Pop reply) = false
 
 -- there is a frame to pop to, and room for one to make
@@ -119,8 +119,8 @@ Tall Nothing h = Unit
 Tall End h = Unit
 Tall (Write object field value) h = Unit
 Tall (Read object field) h = Unit
-Tall (Fork level message) h = Unit
-Tall (Call object name into returns parameter) h = h < maxFrames
+Tall (Fork level object name parameter) h = Unit
+Tall (Call object name answer parameter) h = h < maxFrames
 Tall (Pop reply) h = 1 < h
 
 -- what a step concerns is there
@@ -129,8 +129,8 @@ Present s Nothing = Unit
 Present s End = Unit
 Present s (Write object field value) = (object < objectCount s) × (field < fields)
 Present s (Read object field) = (object < objectCount s) × (field < fields)
-Present s (Fork level message) = (level < levelCount s) × Method (message .object) (message .name) s
-Present s (Call object name into returns parameter) = Method object name s
+Present s (Fork level object name parameter) = (level < levelCount s) × Method object name s
+Present s (Call object name answer parameter) = Method object name s
 Present s (Pop reply) = Unit
 
 -- a core within its limits. One that no step has ended runs and has a frame

@@ -1,10 +1,11 @@
 -- The frames of the code's manager, as the definitions have them. No meaning rests on these. Assumes nothing.
-use Prim.Native.Nat.{ℕ, zero, suc, _≤_, _<_}
+use Prim.Native.Nat.{ℕ, zero, suc, _%_, _≤_, _<_}
 use mathlib.Core.Path.{_≡_}
-use mathlib.Core.Bool.{false}
+use mathlib.Core.Bool.{Bool}
 use mathlib.Core.List.{List, [], _∷_}
+use lib.Dec.{leb}
 use lib.ListN.{length, getD}
-use Rattle.session.specs.Limits.{names}
+use Rattle.session.specs.Limits.{names, registers}
 use Rattle.session.specs.Parts.{objectCount}
 use Rattle.session.specs.Meaning.{methodOf}
 use Rattle.session.specs.Reading.{MethodAt}
@@ -13,6 +14,13 @@ use Rattle.scripts.specs.State as defined
 use Rattle.managers.specs.declared.frames.Frame.{Frame}
 use Rattle.managers.specs.declared.frames.Waiting.{Waiting}
 
+-- which register gets a frame's reply, and whether it gets the reply itself, by the byte that says both
+abbrev pub intoOf : ℕ → ℕ
+intoOf answer = answer % registers
+
+abbrev pub returnsOf : ℕ → Bool
+returnsOf answer = leb registers answer
+
 -- the frame on top, without the place of its method
 abbrev pub frameOf : Frame → defined.Frame
 frameOf f =
@@ -20,8 +28,8 @@ frameOf f =
       object = f .object;
       name = f .name;
       next = f .next;
-      into = f .into;
-      returns = f .returns;
+      into = intoOf (f .answer);
+      returns = returnsOf (f .answer);
       r0 = f .r0;
       r1 = f .r1;
       r2 = f .r2;
@@ -35,8 +43,8 @@ asideOf f =
       object = f .object;
       name = f .name;
       next = f .next;
-      into = f .into;
-      returns = f .returns;
+      into = intoOf (f .answer);
+      returns = returnsOf (f .answer);
       r0 = f .r0;
       r1 = f .r1;
       r2 = f .r2;
@@ -45,7 +53,7 @@ asideOf f =
 
 abbrev pub noWaiting : Waiting
 noWaiting =
-    record { object = 0; name = 0; next = 0; into = 0; returns = false; r0 = Nil; r1 = Nil; r2 = Nil; r3 = Nil }
+    record { object = 0; name = 0; next = 0; answer = 0; r0 = Nil; r1 = Nil; r2 = Nil; r3 = Nil }
 
 -- the first n frames that wait, the last one first
 unfoldable pub below : List Waiting → ℕ → List defined.Frame

@@ -62,8 +62,7 @@ noManager =
           next = 0;
           start = 0;
           count = 0;
-          into = 0;
-          returns = false;
+          answer = 0;
           r0 = Nil;
           r1 = Nil;
           r2 = Nil;
@@ -135,6 +134,7 @@ pub record Advanced (s current seen : List ℕ) (all : Bool) (limit : ℕ) (m r 
 pub record Stepped (s current seen : List ℕ) (m r : Manager) : Type 0 where
   pub is : isAsking (r .core .effect) ≡ false → (read : ℕ → ℕ → Value) → Sees s current seen false (m .core .level) read → steppedOf r ≡ stepped (programOf s) read (managerOf m)
   pub asks : (o k : ℕ) → r .core .effect ≡ Read o k → (managerOf r ≡ managerOf m) × Asks s seen false (m .core) o k
+  pub still : (o k : ℕ) → r .core .effect ≡ Read o k → (isRunning (r .core .ending) ≡ true) × Asks s seen false (r .core) o k
   pub held : Held s r
   pub level-is : r .core .level ≡ m .core .level
   pub first-is : r .core .first ≡ m .core .first

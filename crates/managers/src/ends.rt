@@ -26,14 +26,13 @@ impl Core {
         index: &[u16],
         object: u8,
         name: u8,
-        into: u8,
-        returns: bool,
+        answer: u8,
         parameter: Value,
     ) -> Core
         requires { ⌜ Indexed (now session) (now index) × Method object name (now session) × (self .height < maxFrames) ⌝ }
-        ensures { λ r. ⌜ Pushed (now (session .entry)) self object name into returns parameter r ⌝ }
+        ensures { λ r. ⌜ Pushed (now (session .entry)) self object name answer parameter r ⌝ }
     {
-        let top = Frame::new(session, index, object, name, into, returns, parameter);
+        let top = Frame::new(session, index, object, name, answer, parameter);
         let height = self.height + 1;
         Core {
             height,
@@ -50,7 +49,7 @@ impl Core {
     {
         let f = self.top;
         let sender = frames::woken(session, index, below);
-        let top = sender.answered(f.into, f.returns, reply);
+        let top = sender.answered(f.answer, reply);
         let height = self.height - 1;
         Core {
             height,

@@ -1,4 +1,6 @@
 // Frames: the one on top of a manager, and those that wait below it.
+use crate::REGISTERS;
+use crate::values;
 use session::Step;
 use session::Value;
 use session::contents;
@@ -8,6 +10,7 @@ ghost use mathlib.Core.Bool.{cond};
 ghost use mathlib.Core.List.{[], _∷_};
 ghost use lib.Dec.{leb};
 ghost use lib.ListN.{getD};
+ghost use Rattle.session.specs.Limits.{registers};
 ghost use Rattle.session.specs.Program.{programOf};
 ghost use Rattle.session.specs.Questions.{verdictOf};
 ghost use Rattle.session.specs.declared.Value.the-variants.{Nil};
@@ -15,7 +18,7 @@ ghost use Rattle.session.specs.declared.Verdict.the-variants.{Accepted};
 ghost use Rattle.scripts.specs.Frame.{frameFor, register, withRegister, atStep};
 ghost use Rattle.scripts.specs.Manager.{nextStep};
 ghost use Rattle.scripts.specs.Valid.{Indexed};
-ghost use Rattle.managers.specs.Frames.{frameOf, asideOf, noWaiting, Becomes, Placed, Method, Waits};
+ghost use Rattle.managers.specs.Frames.{intoOf, returnsOf, frameOf, asideOf, noWaiting, Becomes, Placed, Method, Waits};
 
 // The frame on top: a method that is running.
 pub struct Frame {
@@ -26,10 +29,9 @@ pub struct Frame {
     // Where its method stands in the session: the record of the first step, and how many steps there are.
     pub start: usize,
     pub count: usize,
-    // The register of the sender's frame, below, that gets the reply.
-    pub into: u8,
-    // Whether it gets the reply itself, and not NIL in its place.
-    pub returns: bool,
+    // Which register of the sender's frame, below, gets the reply, and whether it gets the reply itself and
+    // not NIL in its place: the register's number, and 4 more if the reply returns.
+    pub answer: u8,
     pub r0: Value,
     pub r1: Value,
     pub r2: Value,
@@ -41,12 +43,19 @@ pub struct Waiting {
     pub object: u8,
     pub name: u8,
     pub next: u8,
-    pub into: u8,
-    pub returns: bool,
+    pub answer: u8,
     pub r0: Value,
     pub r1: Value,
     pub r2: Value,
     pub r3: Value,
+}
+
+// The byte that says that a reply goes to register `into`, or is thrown away.
+pub fn answer_of(into: u8, returns: bool) -> u8
+    requires { ⌜ into < registers ⌝ }
+    ensures { λ r. ⌜ (intoOf r ≡ into) × (returnsOf r ≡ returns) ⌝ }
+{
+    if returns { into + REGISTERS } else { into }
 }
 
 // The register of a number.
@@ -62,18 +71,17 @@ fn pick(k: u8, r0: Value, r1: Value, r2: Value, r3: Value) -> Value
 }
 
 impl Frame {
-    // A frame for a message, whose reply goes to the sender's register `into`, or is thrown away.
+    // A frame for a message, whose reply goes to the sender as `answer` says.
     pub fn new(
         session: &[u8],
         index: &[u16],
         object: u8,
         name: u8,
-        into: u8,
-        returns: bool,
+        answer: u8,
         parameter: Value,
     ) -> Frame
         requires { ⌜ Indexed (now session) (now index) × Method object name (now session) ⌝ }
-        ensures { λ r. ⌜ (frameOf r ≡ frameFor object name into returns parameter) × Placed (now (session .entry)) r ⌝ }
+        ensures { λ r. ⌜ (frameOf r ≡ frameFor object name (intoOf answer) (returnsOf answer) parameter) × Placed (now (session .entry)) r ⌝ }
     {
         let method = contents::method_of(session, index, object as usize, name as usize);
         Frame {
@@ -82,12 +90,11 @@ impl Frame {
             next: 0,
             start: method.start,
             count: method.count,
-            into,
-            returns,
+            answer,
             r0: parameter,
-            r1: Value::Nil,
-            r2: Value::Nil,
-            r3: Value::Nil,
+            r1: values::nil(),
+            r2: values::nil(),
+            r3: values::nil(),
         }
     }
 
@@ -139,14 +146,14 @@ impl Frame {
         Frame { next, ..self }
     }
 
-    // The frame with a reply, or NIL in its place, in register `into`.
-    pub fn answered(self, into: u8, returns: bool, reply: Value) -> Frame
-        ensures { λ r. ⌜ Becomes self r (withRegister (frameOf self) into (cond returns reply Nil)) ⌝ }
+    // The frame with a reply, or NIL in its place, in the register that `answer` says.
+    pub fn answered(self, answer: u8, reply: Value) -> Frame
+        ensures { λ r. ⌜ Becomes self r (withRegister (frameOf self) (intoOf answer) (cond (returnsOf answer) reply Nil)) ⌝ }
     {
-        if returns {
-            self.with_register(into, reply)
+        if answer >= REGISTERS {
+            self.with_register(answer % REGISTERS, reply)
         } else {
-            self.with_register(into, Value::Nil)
+            self.with_register(answer % REGISTERS, Value::Nil)
         }
     }
 }
@@ -159,8 +166,7 @@ pub fn no_frame() -> Waiting
         object: 0,
         name: 0,
         next: 0,
-        into: 0,
-        returns: false,
+        answer: 0,
         r0: Value::Nil,
         r1: Value::Nil,
         r2: Value::Nil,
@@ -182,8 +188,7 @@ pub fn set_aside(session: &[u8], f: Frame) -> Waiting
         object: f.object as u8,
         name: f.name as u8,
         next: f.next as u8,
-        into: f.into,
-        returns: f.returns,
+        answer: f.answer,
         r0,
         r1,
         r2,
@@ -207,8 +212,7 @@ pub fn woken(session: &[u8], index: &[u16], w: Waiting) -> Frame
         next: w.next as usize,
         start: method.start,
         count: method.count,
-        into: w.into,
-        returns: w.returns,
+        answer: w.answer,
         r0,
         r1,
         r2,

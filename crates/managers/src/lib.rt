@@ -28,6 +28,9 @@ pub const MAX_FRAMES: u8 = 8;
 
 pub const MAX_WAITING: usize = 7;
 
+// How many registers a frame has.
+pub const REGISTERS: u8 = 4;
+
 // How many script steps, writes that take effect and forks a manager may make.
 pub const MAX_SCRIPT_STEPS: u16 = 256;
 
@@ -80,14 +83,15 @@ pub enum Effect {
     // A manager is forked at a level, to run a message.
     Fork {
         level: u8,
-        message: Message,
+        object: u8,
+        name: u8,
+        parameter: Value,
     },
     // A frame is to be made above the top. Nobody outside sees this.
     Call {
         object: u8,
         name: u8,
-        into: u8,
-        returns: bool,
+        answer: u8,
         parameter: Value,
     },
     // The top is to pop with a reply. Nobody outside sees this.
@@ -150,8 +154,7 @@ impl Manager {
             next: 0,
             start: 0,
             count: 0,
-            into: 0,
-            returns: false,
+            answer: 0,
             r0: Value::Nil,
             r1: Value::Nil,
             r2: Value::Nil,
@@ -185,8 +188,7 @@ impl Manager {
             index,
             message.object,
             message.name,
-            0,
-            true,
+            REGISTERS,
             parameter,
         );
         let made = Core {
@@ -228,19 +230,20 @@ impl Manager {
         while core.goes_on(limit) {
             let f = core.top;
             let step = f.next_step(session);
-            core = core.operate(session, masks, current, seen, all, step);
+            // Nothing is left to do: said once more, so that nothing of an effect is carried along.
+            let quiet = core.causing(Effect::Nothing);
+            core = quiet.operate(session, masks, current, seen, all, step);
             let effect = core.effect;
             if let Effect::Call {
                 object,
                 name,
-                into,
-                returns,
+                answer,
                 parameter,
             } = effect {
                 let f = core.top;
                 let at = core.height as usize - 1;
                 waiting[at] = frames::set_aside(session, f);
-                core = core.pushed(session, index, object, name, into, returns, parameter);
+                core = core.pushed(session, index, object, name, answer, parameter);
             } else if let Effect::Pop(reply) = effect {
                 let at = core.height as usize - 2;
                 core = core.popped(session, index, waiting[at], reply);

@@ -4,15 +4,15 @@ use crate::Effect;
 use crate::MAX_FORKS;
 use crate::MAX_FRAMES;
 use crate::MAX_WRITES;
+use crate::frames;
 use crate::frames::Frame;
 use crate::values;
 use scripts::Ending;
-use session::Message;
 use session::Value;
 ghost use Prim.Native.Nat.{_+_, _≤_, _<_};
 ghost use mathlib.Core.Path.{_≡_};
 ghost use mathlib.Core.Bool.{cond};
-ghost use Rattle.session.specs.Limits.{maxObjects, fields};
+ghost use Rattle.session.specs.Limits.{maxObjects, fields, registers};
 ghost use Rattle.session.specs.Parts.{levelCount, objectCount};
 ghost use Rattle.scripts.specs.Limits.{maxScriptSteps};
 ghost use Rattle.scripts.specs.Value.{isNilOr0};
@@ -66,7 +66,7 @@ impl Core {
     // A frame above the top, of name `b` of object `c`, whose reply goes to register `a`. A ninth is not
     // made.
     pub fn call(self, a: u8, b: u8, c: u8, returns: bool) -> Core
-        requires { ⌜ Able self ⌝ }
+        requires { ⌜ Able self × (a < registers) ⌝ }
         ensures { λ r. ⌜ Makes (Method c b) self r (λ m. called m (passed m) a (frameFor c b a returns (register (passed m) a))) ⌝ }
     {
         if self.height >= MAX_FRAMES {
@@ -78,8 +78,7 @@ impl Core {
         m.causing(Effect::Call {
             object: c,
             name: b,
-            into: a,
-            returns,
+            answer: frames::answer_of(a, returns),
             parameter,
         })
     }
@@ -96,13 +95,13 @@ impl Core {
         let f = self.top;
         let parameter = f.register(a);
         let m = self.put(a, Value::Nil);
-        let message = Message {
+        let forks = m.forks + 1;
+        let effect = Effect::Fork {
+            level,
             object: c,
             name: b,
             parameter,
         };
-        let forks = m.forks + 1;
-        let effect = Effect::Fork { level, message };
         Core { forks, effect, ..m }
     }
 

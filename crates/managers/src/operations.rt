@@ -9,7 +9,7 @@ use session::contents;
 use words::fields;
 ghost use Prim.Native.Nat.{_<_};
 ghost use mathlib.Core.Path.{_≡_};
-ghost use Rattle.session.specs.Limits.{fields as fieldCount};
+ghost use Rattle.session.specs.Limits.{fields as fieldCount, registers};
 ghost use Rattle.session.specs.Program.{programOf};
 ghost use Rattle.scripts.specs.Frame.{register};
 ghost use Rattle.scripts.specs.Manager.{withTop, popped, nextStep};
@@ -63,7 +63,7 @@ impl Core {
 
     // SEND name `b` to object `c`, with register `a` as parameter and for the reply.
     fn send(self, session: &[u8], masks: &[u16], a: u8, b: u8, c: u8) -> Core
-        requires { ⌜ Able self × Leveled (now session) (now masks) × Sits (now session) self × Method c b (now session) ⌝ }
+        requires { ⌜ Able self × Leveled (now session) (now masks) × Sits (now session) self × (a < registers) × Method c b (now session) ⌝ }
         ensures { λ r. ⌜ OperationMade (now (session .entry)) (Step.Send a b c) self r ⌝ }
     {
         let f = self.top;

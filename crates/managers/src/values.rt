@@ -1,7 +1,15 @@
 // Values of registers: the sum of two, and the test of a JUMP.
 use session::Value;
 ghost use mathlib.Core.Path.{_≡_};
+ghost use Rattle.session.specs.declared.Value.the-variants.{Nil};
 ghost use Rattle.scripts.specs.Value.{sum, isNilOr0};
+
+// NIL. By a call, so that it is stored whole: as a constant only its tag would be.
+pub fn nil() -> Value
+    ensures { λ r. ⌜ r ≡ Nil ⌝ }
+{
+    Value::Nil
+}
 
 // Two values added modulo 2^32; NIL if either is NIL.
 pub fn sum(x: Value, y: Value) -> Value

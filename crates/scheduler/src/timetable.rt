@@ -3,7 +3,9 @@ use crate::Outcome;
 use level_managers::steps;
 use level_managers::tallies;
 use level_managers::tallies::Permit;
+use managers::Effect;
 use managers::Manager;
+use words::fields;
 ghost use mathlib.Core.Path.{_≡_};
 ghost use Rattle.level_managers.specs.Permits.{numberOfPermit};
 ghost use Rattle.level_managers.specs.Steps.{Read};
@@ -32,8 +34,9 @@ fn refused_at(permit: Permit, place: u32) -> Outcome
 }
 
 // Makes the scheduler steps of a timetable, from the session as read in. The first that is not permitted
-// ends the run; so does a timetable at whose end a manager has not ended. Between the steps of a manager
-// others step: nothing that it has read is kept in `seen`.
+// ends the run; so does a timetable at whose end a manager has not ended. A script step that asks for a field
+// is made once that is read. Between the steps of a manager others step: nothing that it has read is kept in
+// `seen`.
 pub fn run(
     session: &[u8],
     timetable: &[u8],
@@ -57,19 +60,37 @@ pub fn run(
         let Permit::Given = permit else {
             return refused_at(permit, i as u32);
         };
-        managers[level] = steps::step(
-            session,
-            masks,
-            index,
-            current,
-            ended,
-            tallies,
-            queue,
-            work,
-            &mut seen,
-            level,
-            managers[level],
-        );
+        if !tallies::is_busy(tallies, level) {
+            managers[level] = steps::start(session, index, ended, tallies, queue, level);
+            continue;
+        }
+        let m = managers[level];
+        let n = m.step(session, masks, index, current, &seen);
+        let core = n.core;
+        let effect = core.effect;
+        if let Effect::Read { object, field } = effect {
+            steps::tell(
+                session,
+                masks,
+                current,
+                ended,
+                tallies,
+                queue,
+                work,
+                &mut seen,
+                level,
+                object,
+                field,
+            );
+            let r = n.step(session, masks, index, current, &seen);
+            fields::forget(&mut seen, object as usize, field as usize);
+            let after = r.core;
+            managers[level] = r;
+            steps::done(current, ended, tallies, queue, work, level, after);
+            continue;
+        }
+        managers[level] = n;
+        steps::done(current, ended, tallies, queue, work, level, core);
     }
     if !tallies::all_ended(masks, tallies) {
         return Outcome::Refused {

@@ -2,11 +2,11 @@
 pub mod contents;
 mod kinds;
 mod levels;
+mod methods;
 mod objects;
 mod reader;
 mod record;
 mod root;
-mod scripts;
 
 ghost use mathlib.Core.Path.{_≡_};
 ghost use mathlib.Core.Bool.{true};
@@ -91,7 +91,7 @@ fn check_contents(session: &[u8], levels: usize, objects: usize, steps: usize) -
     if !objects::are_valid(session, levels, objects, levels) {
         return Verdict::Object;
     }
-    if !scripts::are_valid(session, first, root, objects) {
+    if !methods::are_valid(session, first, root, objects) {
         return Verdict::Script;
     }
     if root::is_valid(session, root, objects) {

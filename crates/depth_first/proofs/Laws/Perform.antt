@@ -54,9 +54,12 @@ module _ {s masks index : List ℕ} (a : Read s masks index) {left : ℕ} {f : f
         rw is (kept-write s g (w .current) c' (w .ended) (w .tallies) o i v says (there .0) (there .1) set)
 
   -- one that made a fork: it runs whole, if its level keeps it
-  module _ {u : ℕ} {message : Message} (is : e ≡ Fork u message) where
+  module _ {u o b : ℕ} {v : Value} (is : e ≡ Fork u o b v) where
+    abbrev message : Message
+    message = record { object = o; name = b; parameter = v }
+
     some : forks ≡ forks - 1 + 1
-    some = can .forking u message is
+    some = can .forking u o b v is
 
     pub fork-some : 1 ≤ forks
     fork-some = omega (arith, some)
@@ -67,7 +70,7 @@ module _ {s masks index : List ℕ} (a : Read s masks index) {left : ℕ} {f : f
     module _ {stamp : ℕ} (stamped : stamp ≡ model.childStamp (f .stamp) (f .depth) (forks - 1 + 1)) where
       pub fork-runs : Runnable s left (child f u stamp message)
       fork-runs =
-          let there : Present s (Fork u message) = subst (Present s) is (can .present) in
+          let there : Present s (Fork u o b v) = subst (Present s) is (can .present) in
           record {
             placed = there .0;
             present = there .1 .0;
@@ -89,4 +92,4 @@ module _ {s masks index : List ℕ} (a : Read s masks index) {left : ℕ} {f : f
       pub perform-forks : (w w' : Words) → ForkDone s left (child f u stamp message) w w' → Performed s left f forks e w w'
       unfolding effected
       perform-forks w w' done g x n says same forking =
-          rw is (done g (model.childOf (f .level) x n message) says (same-child x n same (forking u message is)))
+          rw is (done g (model.childOf (f .level) x n message) says (same-child x n same (forking u o b v is)))

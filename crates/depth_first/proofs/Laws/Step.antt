@@ -34,14 +34,14 @@ use Rattle.depth_first.specs.declared.forks.Fork as fork
 -- a manager that made a fork has made one more than before that step
 step-forking : (p : Program) (read : ℕ → ℕ → Value) (n : Manager) (r : code.Manager) → stepped p read n ≡ steppedOf r → Forking (r .core .effect) (n .forks) (r .core .forks)
 unfolding managerOf
-step-forking p read n r e u message i =
+step-forking p read n r e u o b v i =
     ap (λ d. d .manager .forks) (sym e)
     ∙ ap (λ c. c .forks) (stepped-counts p read n ∙ ap (λ t. oneMore (grown (counts n) t)) (ap (λ d. d .effect) e ∙ ap effectOf i))
 
 -- one that made none has none to count
 quiet-forking : (e : Effect) (before forks : ℕ) → effectOf e ≡ effect.Nothing → Forking e before forks
-quiet-forking e before forks none u message i =
-    let t : effect.Fork u message ≡ effect.Nothing = sym (ap effectOf i) ∙ none in
+quiet-forking e before forks none u o b v i =
+    let t : effect.Fork u (record { object = o; name = b; parameter = v }) ≡ effect.Nothing = sym (ap effectOf i) ∙ none in
     let z : _≡_ {A = ℕ} 0 1 = cc in
     absurd (omega (arith, z))
 
@@ -64,7 +64,7 @@ module _ (s : List ℕ) (a : verdictOf s ≡ Accepted) where
   -- a fork that the last one made is counted
   pub led-forking : (read : ℕ → ℕ → Value) (m : Manager) (r : code.Manager) → Leads p read m (steppedOf r) → Forking (r .core .effect) (r .core .forks - 1) (r .core .forks)
   led-forking read m r (quiet k q none) = quiet-forking (r .core .effect) (r .core .forks - 1) (r .core .forks) none
-  led-forking read m r (last k n q run e) = λ u message i. omega (arith, step-forking p read n r e u message i)
+  led-forking read m r (last k n q run e) = λ u o b v i. omega (arith, step-forking p read n r e u o b v i)
 
   module _ (left l : ℕ) (x : model.Fork) where
     -- what the run of fork x at level l ends with, from a manager of it on its way

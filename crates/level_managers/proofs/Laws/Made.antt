@@ -4,7 +4,7 @@ use mathlib.Core.Path.{_≡_, refl, sym, _∙_, ap}
 use mathlib.Core.Bool.{Bool, true, false}
 use mathlib.Core.List.{List}
 use native.Mathlib.Omega.{arith}
-use lib.ListN.{length, getD, set, length-set}
+use lib.ListN.{length, getD, set, drop, length-set}
 use lib.Seq.{getD-set-other, set-getD}
 use Rattle.lattice.proofs.Laws.Range.{not-both}
 use Rattle.session.specs.Limits.{maxLevels}
@@ -29,17 +29,20 @@ use Rattle.managers.specs.declared.Core.{Core}
 use Rattle.managers.specs.declared.Manager as code
 use Rattle.model.specs.Fork.{Fork, childStamp}
 use Rattle.model.specs.Level.{idle, busy, hasManager}
-use Rattle.model.specs.Step.{State, levelAt, readAt}
+use Rattle.model.specs.Limits.{workNumbers}
+use Rattle.model.specs.Step.{State, levelAt, readAt, stepAt}
+use Rattle.model.specs.Schedule.{stepRefusal}
 use Rattle.model.proofs.Laws.Code.Live.{Live}
 use Rattle.model.proofs.Laws.Code.Progress.{allowed}
 use Rattle.records.specs.Histories.{HistoryIs, HistoryRoom, Added}
 use Rattle.queues.specs.Queue.{forksAt, isDropped, ChildRow, Arrived}
 use Rattle.queues.proofs.Laws.Queue.{dropped-arrives}
 use Rattle.queues.proofs.Laws.Row.{Fits, row-there}
-use Rattle.level_managers.specs.Kept.{Words, nextPlace, waitingPlace, busyPlace, tallyNumbers}
-use Rattle.level_managers.specs.Steps.{Read, Busy, runningFork, WriteReady, Wrote, startedOf, ForkReady, Forked, EffectReady, Parts, EffectDone, forksAfter, PerformReady, Performed, SettleReady, Settled, CoreSettled, begunTallies, StartReady, Started, Blank, RunsAt, ScriptStep, Stepping, MayStep, StepDone}
+use Rattle.level_managers.specs.Kept.{Words, nextPlace, waitingPlace, busyPlace, tallyNumbers, Says, placed}
+use Rattle.level_managers.specs.Steps.{Read, Busy, runningFork, WriteReady, Wrote, startedOf, ForkReady, Forked, EffectReady, Parts, EffectDone, forksAfter, PerformReady, Performed, SettleReady, Settled, CoreSettled, begunTallies, StepDone, StartReady, Started}
 use Rattle.level_managers.proofs.Laws.Ready.{told-rests, told-runs, waits-some, start-ready, busy-settles, effect-ready, settle-after}
-use Rattle.level_managers.proofs.Laws.Step.{says-live, manager-is, says-start, says-advance, rest-effect}
+use Rattle.level_managers.proofs.Laws.Script.{Blank, RunsAt, ScriptStep}
+use Rattle.level_managers.proofs.Laws.Step.{says-live, says-start, says-advance, rest-effect}
 
 -- a fork that is made, with the stamp and the depth that were read of its maker's
 module _ (tallies queue : List ℕ) (l forks u depth stamp : ℕ) (deep : (n : ℕ) → runningFork n tallies queue l .depth ≡ depth) (stamped : (n : ℕ) → runningFork n tallies queue l .stamp ≡ stamp) where
@@ -175,6 +178,11 @@ settled-of m z = z _
 pub held-fits : {s : List ℕ} {m : code.Manager} → Held s m → m .core .first + m .core .forks < 2 ^ 16
 held-fits h = omega (arith, h .forked, h .fits)
 
+-- what a step did outside is done, and leaves room for its history
+pub settles-after : (a b : Parts) {ended : List ℕ} {l first forks : ℕ} {e : Effect} → PerformReady (a .current) (a .tallies) (a .queue) (a .work) l first forks e → SettleReady ended (a .tallies) (a .queue) l → Performed a b l first forks e → SettleReady ended (b .tallies) (b .queue) l
+settles-after a b {ended} {l} {first} {forks} {e} ready room d =
+    settle-after a b ended l (first + ready .made) (ready .made) e (d (ready .made) (ready .forks-are)) room
+
 -- the fork that starts, with the message that was read of it. That it starts leaves room for its history
 module _ (s index ended tallies queue : List ℕ) (l : ℕ) (message : Message) (r : StartReady s index ended tallies queue l) (is : (n : ℕ) → runningFork n tallies queue l .message ≡ message) where
   pub start-asks : Indexed s index × Startable s l (getD tallies (nextPlace l) 0) message
@@ -198,6 +206,23 @@ module _ (s index ended tallies queue : List ℕ) (l : ℕ) (message : Message) 
 
 abbrev accepted : {s masks index : List ℕ} → Read s masks index → verdictOf s ≡ Accepted
 accepted a = a .indexed .accepted
+
+-- the words say a state that a run reaches, in which level l may step; m is the manager that runs there, if one does
+pub record Stepping (s : List ℕ) (w : Words) (l : ℕ) (m : code.Manager) (ms : ℕ → Manager) (st : State) : Type 0 where
+  pub says : Says s w ms st
+  pub allowed : stepRefusal (programOf s) st l ≡ 0
+  pub held : ms l ≡ managerOf m
+
+abbrev pub MayStep : List ℕ → Words → ℕ → code.Manager → Type 0
+MayStep s w l m = (ms : ℕ → Manager) × ((st : State) × Stepping s w l m ms st)
+
+-- the words then say the state after a scheduler step at level l, with r for the manager that runs there; nothing is kept of what it has
+-- read, and the work slice is as it was beyond the versions
+pub record StepSaid (s : List ℕ) (l : ℕ) (m : code.Manager) (w w' : Words) (seen' : List ℕ) (r : code.Manager) : Type 0 where
+  pub says : (ms : ℕ → Manager) (st : State) → Stepping s w l m ms st → Says s w' (placed l (managerOf r) ms) (stepAt (programOf s) l st)
+  pub held : Held s r
+  pub blank : Blank seen'
+  pub rest : drop workNumbers (w' .work) ≡ drop workNumbers (w .work)
 
 -- a step at level l, which may make one; m is the manager that runs there, if one does
 module _ (s masks index : List ℕ) (w : Words) (l : ℕ) (m : code.Manager) (a : Read s masks index) where
@@ -225,11 +250,10 @@ module _ (s masks index : List ℕ) (w : Words) (l : ℕ) (m : code.Manager) (a 
     start-here (ms, (st, q)) =
         start-ready s (accepted a) few (object-limit s (accepted a)) w ms st (q .says .told) (says-live s (accepted a) w ms st (q .says)) l (placed-here ms st q) index (a .indexed) (rests-here ms st q) (has-here ms st q)
 
-    pub start-done : (seen ended' tallies' : List ℕ) (r : code.Manager) → Blank seen → Started s (w .ended) ended' (w .tallies) tallies' (w .queue) l (managerOf r) × Held s r → StepDone s l m w (record { current = w .current; ended = ended'; tallies = tallies'; queue = w .queue; work = w .work }) seen r
+    pub start-done : (seen ended' tallies' : List ℕ) (r : code.Manager) → Blank seen → Started s (w .ended) ended' (w .tallies) tallies' (w .queue) l (managerOf r) × Held s r → StepSaid s l m w (record { current = w .current; ended = ended'; tallies = tallies'; queue = w .queue; work = w .work }) seen r
     start-done seen ended' tallies' r blank (d, held) =
         record {
           says = λ ms st q. let (x, (xs, e)) = waits-some (levelAt st l) (has-here ms st q) (rests-here ms st q) in says-start s (accepted a) few w ms st (q .says) l (placed-here ms st q) (q .allowed) x xs (rests-here ms st q) e ended' tallies' (managerOf r) d;
-          manager = λ ms st q. rw (rests-here ms st q) (λ x xs e. manager-is s (accepted a) few w ms st (q .says) l (placed-here ms st q) (q .allowed) x xs (rests-here ms st q) e ended' tallies' (managerOf r) d);
           held = held;
           blank = blank;
           rest = refl;
@@ -288,31 +312,29 @@ module _ {s masks index : List ℕ} {w : Words} {l : ℕ} {seen' : List ℕ} {m 
   step₀ : stepped (programOf s) (readAt (programOf s) (st₀ v) l (x₀ v)) (managerOf m) ≡ n
   step₀ = made .is (ms₀ v) (st₀ v) (x₀ v) (busy₀ v)
 
-  pub perform-here : PerformReady (w .current) (w .tallies) (w .queue) (w .work) l (r .core .first) (r .core .forks) (effectOf (r .core .effect))
-  perform-here =
+  pub done-performs : PerformReady (w .current) (w .tallies) (w .queue) (w .work) l (r .core .first) (r .core .forks) (effectOf (r .core .effect))
+  done-performs =
       let yes = accepted (v .read) in
       performs (programOf s) (readAt (programOf s) (st₀ v) l (x₀ v)) (managerOf m) r step₀ (w .current) (w .tallies) (w .queue) (w .work) l
       (effect-ready s yes (level-limit s yes) (object-limit s yes) w (ms₀ v) (st₀ v) (busy₀ v .says .told) (live₀ v) l (busy₀ v .present) (x₀ v) (managerOf m) (busy₀ v .runs) (readAt (programOf s) (st₀ v) l (x₀ v)) (n .effect) (ap (λ n. n .effect) step₀))
       (held-fits (made .held))
 
-  module _ (p : Parts) (d : Performed (partsOf w) p l (r .core .first) (r .core .forks) (effectOf (r .core .effect))) where
-    done : EffectDone (partsOf w) p l (managerOf m .stamp) (managerOf m .forks) (n .effect)
-    done =
-        performed (programOf s) (readAt (programOf s) (st₀ v) l (x₀ v)) (managerOf m) r step₀ (partsOf w) p l (stamped₀ v) d
+  pub done-settles : SettleReady (w .ended) (w .tallies) (w .queue) l
+  done-settles = settles₀ v
 
-    pub settle-here : SettleReady (w .ended) (p .tallies) (p .queue) l × (r .core .first + r .core .forks < 2 ^ 16)
-    settle-here = (
-      settle-after (partsOf w) p (w .ended) l (managerOf m .stamp) (managerOf m .forks) (n .effect) done (settles₀ v),
-      held-fits (made .held),
-    )
+  pub step-said : {w' : Words} → StepDone w w' l (r .core) → StepSaid s l m w w' seen' r
+  step-said {w'} d =
+      let yes = accepted (v .read) in
+      record {
+        says = λ ms st q. let (x, b) = runs-here v ms st q in says-advance s yes (level-limit s yes) w ms st (q .says) l (b .present) (q .allowed) x (managerOf m) (b .runs) n (made .is ms st x b) p (w' .ended) (w' .tallies) done (settled-of r (d .settled));
+        held = made .held;
+        blank = made .blank;
+        rest = rest-effect (partsOf w) p l (managerOf m .stamp) (managerOf m .forks) (n .effect) done;
+      }
+    where
+      p : Parts
+      p = record { current = w' .current; tallies = d .tallies; queue = w' .queue; work = w' .work }
 
-    pub advance-done : (ended' tallies' : List ℕ) → CoreSettled (w .ended) ended' (p .tallies) tallies' (p .queue) l (r .core) → StepDone s l m w (record { current = p .current; ended = ended'; tallies = tallies'; queue = p .queue; work = p .work }) seen' r
-    advance-done ended' tallies' settled =
-        let yes = accepted (v .read) in
-        record {
-          says = λ ms st q. let (x, b) = runs-here v ms st q in says-advance s yes (level-limit s yes) w ms st (q .says) l (b .present) (q .allowed) x (managerOf m) (b .runs) n (made .is ms st x b) p ended' tallies' done (settled-of r settled);
-          manager = λ ms st q. let (x, b) = runs-here v ms st q in rw (b .runs) (sym (ap (λ n. n .manager) (made .is ms st x b)));
-          held = made .held;
-          blank = made .blank;
-          rest = rest-effect (partsOf w) p l (managerOf m .stamp) (managerOf m .forks) (n .effect) done;
-        }
+      done : EffectDone (partsOf w) p l (managerOf m .stamp) (managerOf m .forks) (n .effect)
+      done =
+          performed (programOf s) (readAt (programOf s) (st₀ v) l (x₀ v)) (managerOf m) r step₀ (partsOf w) p l (stamped₀ v) (d .performed)

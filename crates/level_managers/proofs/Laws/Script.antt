@@ -11,6 +11,7 @@ use lib.Dec.{eqb}
 use lib.ListN.{length}
 use Rattle.lattice.proofs.Laws.Range.{not-both}
 use Rattle.session.specs.Limits.{fields}
+use Rattle.session.specs.Parts.{objectCount}
 use Rattle.session.specs.Meaning.{levelOf}
 use Rattle.session.specs.Program.{programOf}
 use Rattle.session.specs.Questions.{verdictOf}
@@ -20,11 +21,12 @@ use Rattle.session.proofs.Laws.Lists.{holds, fails, truth}
 use Rattle.session.proofs.Laws.Contents.{object-limit}
 use Rattle.scripts.specs.Ending.{isRunning}
 use Rattle.scripts.specs.State.{Manager}
+use Rattle.scripts.specs.Manager.{stepped}
 use Rattle.scripts.specs.Valid.{Valid}
 use Rattle.words.specs.Limits.{fieldWords}
 use Rattle.words.specs.Fields.{knownAt, FieldThere, Forgotten}
 use Rattle.words.specs.Reads.{isOpen, Sees}
-use Rattle.managers.specs.Core.{managerOf, isAsking, Present}
+use Rattle.managers.specs.Core.{managerOf, steppedOf, isAsking, Present}
 use Rattle.managers.specs.Moves.{Asks}
 use Rattle.managers.specs.Steps.{Held, Advanceable}
 use Rattle.managers.specs.Steps as managers
@@ -36,9 +38,38 @@ use Rattle.model.specs.Fork.{Fork}
 use Rattle.model.specs.Step.{State, readAt}
 use Rattle.model.proofs.Laws.Code.Needs.{live-runs}
 use Rattle.level_managers.specs.Kept.{Words}
-use Rattle.level_managers.specs.Steps.{Read, Busy, IsBusy, TellReady, Answered, Fresh, RunsAt, AsksFor, ScriptStep}
+use Rattle.level_managers.specs.Steps.{Read, Busy, IsBusy, TellReady, Answered}
 use Rattle.level_managers.proofs.Laws.Step.{says-live}
 use Rattle.level_managers.proofs.Laws.Reads.{read-here}
+
+-- nothing is kept of what managers have read
+abbrev pub Blank : List ℕ → Type 0
+Blank seen = (o k : ℕ) → k < fields → knownAt seen o k ≡ false
+
+-- a manager of the code's, if it runs, is as start and its steps leave it; and nothing is kept of what managers have read
+pub record Fresh (s seen : List ℕ) (m : code.Manager) : Type 0 where
+  pub held : isRunning (m .core .ending) ≡ true → Held s m
+  pub blank : Blank seen
+  pub there : fieldWords ≤ length seen
+
+-- it runs at level l
+pub record RunsAt (s : List ℕ) (w : Words) (l : ℕ) (m : code.Manager) : Type 0 where
+  pub running : ℕ → Manager
+  pub state : State
+  pub fork : Fork
+  pub busy : Busy s w l running state fork (managerOf m)
+
+-- its next script step is a READ of a field of a present object, that is not at hand
+pub record AsksFor (s seen : List ℕ) (m : code.Manager) (object k : ℕ) : Type 0 where
+  pub present : object < objectCount s
+  pub field : k < fields
+  pub asks : Asks s seen false (m .core) object k
+
+-- it has become r by a script step that reads what the definition reads, whatever state the words say
+pub record ScriptStep (s : List ℕ) (w : Words) (l : ℕ) (seen' : List ℕ) (m r : code.Manager) : Type 0 where
+  pub is : (ms : ℕ → Manager) (st : State) (x : Fork) → Busy s w l ms st x (managerOf m) → stepped (programOf s) (readAt (programOf s) st l x) (managerOf m) ≡ steppedOf r
+  pub held : Held s r
+  pub blank : Blank seen'
 
 -- one step reads one field
 same-field : (a b a' b' : ℕ) → op.Read a b ≡ op.Read a' b' → b ≡ b'
@@ -54,13 +85,13 @@ pub field-there : {s seen : List ℕ} {o k : ℕ} → verdictOf s ≡ Accepted �
 field-there {s} a r = record { room = r .there; object = omega (arith, r .present, object-limit s a); field = r .field }
 
 -- an effect that asks is a READ
-asking : (e : Effect) → isAsking e ≡ true → (o : ℕ) × ((k : ℕ) × (e ≡ act.Read o k))
+pub asking : (e : Effect) → isAsking e ≡ true → (o : ℕ) × ((k : ℕ) × (e ≡ act.Read o k))
 asking act.Nothing h = absurd (not-both false h refl)
 asking act.End h = absurd (not-both false h refl)
 asking (act.Write o k v) h = absurd (not-both false h refl)
 asking (act.Read o k) h = (o, (k, refl))
-asking (act.Fork u message) h = absurd (not-both false h refl)
-asking (act.Call o name into returns parameter) h = absurd (not-both false h refl)
+asking (act.Fork u object name parameter) h = absurd (not-both false h refl)
+asking (act.Call o name answer parameter) h = absurd (not-both false h refl)
 asking (act.Pop v) h = absurd (not-both false h refl)
 
 -- m runs at level l
@@ -112,11 +143,6 @@ module _ {s masks index : List ℕ} {w : Words} {l : ℕ} {m : code.Manager} (a 
           held = d .held;
           blank = f .blank;
         }
-
-    pub asks-for : {n : code.Manager} {o k : ℕ} → managers.Stepped s (w .current) seen m n → n .core .effect ≡ act.Read o k → AsksFor s seen m o k
-    asks-for {n} {o} {k} d is =
-        let here : Present s (act.Read o k) = rw is at (d .present) in
-        record { present = here .0; field = here .1; asks = d .asks o k is .1 }
 
     -- one that asks is told the field, and makes the step
     module _ {o k : ℕ} (asked : AsksFor s seen m o k) where
@@ -178,3 +204,39 @@ module _ {s masks index : List ℕ} {w : Words} {l : ℕ} {m : code.Manager} (a 
             blank o' k' hk (yes x) (yes y) = rw (x, y) (gone .known)
             blank o' k' hk (no x) d' = gone .others o' k' hk (λ z _. x z) .0 ∙ others-unknown o' k' hk (λ z _. x z)
             blank o' k' hk (yes x) (no y) = gone .others o' k' hk (λ _ z. y z) .0 ∙ others-unknown o' k' hk (λ _ z. y z)
+
+-- before a READ that is not at hand the step hands back n, which stands where m does: n is told the field, and makes the step of m
+module _ {s masks index : List ℕ} {w : Words} {l : ℕ} {m n : code.Manager} {seen : List ℕ} {o k : ℕ} (a : Read s masks index) (b : RunsAt s w l m) (f : Fresh s seen m) (d : managers.Stepped s (w .current) seen m n) (is : n .core .effect ≡ act.Read o k) where
+  stands : managerOf n ≡ managerOf m
+  stands = d .asks o k is .0
+
+  runs-still : RunsAt s w l n
+  runs-still = record { running = b .running; state = b .state; fork = b .fork; busy = rw stands (b .busy) }
+
+  fresh-still : Fresh s seen n
+  fresh-still = record { held = λ _. d .held; blank = f .blank; there = f .there }
+
+  asks-still : AsksFor s seen n o k
+  asks-still =
+      let here : Present s (act.Read o k) = rw is at (d .present) in
+      record { present = here .0; field = here .1; asks = d .still o k is .1 }
+
+  pub asks-busy : IsBusy s w l
+  asks-busy = is-busy a b
+
+  pub asks-told : TellReady s seen o k
+  asks-told = tells a runs-still fresh-still asks-still
+
+  module _ {seen' : List ℕ} (told : Answered s w seen seen' l o k) where
+    pub again-able : Advanceable s masks index (w .current) seen' n
+    again-able = able-told a runs-still fresh-still asks-still told
+
+    pub again-forgets : FieldThere seen' o k
+    again-forgets = forgets a runs-still fresh-still asks-still told
+
+    pub again-made : {seen'' : List ℕ} {r : code.Manager} → managers.Stepped s (w .current) seen' n r → Forgotten seen' seen'' o k → ScriptStep s w l seen'' m r
+    again-made {seen''} {r} e gone = of-same stands (answered-made a runs-still fresh-still asks-still told e gone)
+      where
+        of-same : {x y z : code.Manager} {seen : List ℕ} → managerOf x ≡ managerOf y → ScriptStep s w l seen x z → ScriptStep s w l seen y z
+        of-same e d =
+            record { is = λ ms st x q. rw (sym e) (d .is ms st x (rw e q)); held = d .held; blank = d .blank }

@@ -137,7 +137,7 @@ module _ (s : List ℕ) (a : verdictOf s ≡ Accepted) (few : levelCount s ≤ m
       | no z ↦ rw (at-other s w w ms ms st (y .told) limits l h begun k z) (limits k hk)
     ]
 
-    pub manager-is : m ≡ started (programOf s) l (v .next) (x .message)
+    manager-is : m ≡ started (programOf s) l (v .next) (x .message)
     manager-is =
         d .manager
         ∙ ap₂ (started (programOf s) l) (y .told .level l h .next) (message-any 0 (levelCount s) (w .queue) l (getD (w .tallies) l 0) ∙ ap (λ k. forkAt (levelCount s) (w .queue) l k .message) (y .told .level l h .ended-count) ∙ ap (λ x. x .message) (first-fork s w ms st (y .told) limits few l h x xs rests waits m))

@@ -75,8 +75,8 @@ over-settled p c gs hs e Nothing o = absurd (not-both false o refl)
 over-settled p c gs hs e End o = ap (bare c) e
 over-settled p c gs hs e (Write object field value) o = absurd (not-both false o refl)
 over-settled p c gs hs e (Read object field) o = absurd (not-both false o refl)
-over-settled p c gs hs e (Fork level message) o = absurd (not-both false o refl)
-over-settled p c gs hs e (Call object name into returns parameter) o = absurd (not-both false o refl)
+over-settled p c gs hs e (Fork level object name parameter) o = absurd (not-both false o refl)
+over-settled p c gs hs e (Call object name answer parameter) o = absurd (not-both false o refl)
 over-settled p c gs hs e (Pop reply) o = absurd (not-both false o refl)
 
 over-comes : (p : Program) (c : Core) (gs hs : List defined.Frame) → isOver (c .effect) ≡ true → stackOf (c .height) (frameOf (c .top)) gs ≡ stackOf (c .height) (frameOf (c .top)) hs → comesTo p c gs ≡ comesTo p c hs
@@ -93,8 +93,8 @@ askedObject d Nothing = d
 askedObject d End = d
 askedObject d (Write object field value) = d
 askedObject d (Read object field) = object
-askedObject d (Fork level message) = d
-askedObject d (Call object name into returns parameter) = d
+askedObject d (Fork level object name parameter) = d
+askedObject d (Call object name answer parameter) = d
 askedObject d (Pop reply) = d
 
 abbrev askedField : ℕ → Effect → ℕ
@@ -102,8 +102,8 @@ askedField d Nothing = d
 askedField d End = d
 askedField d (Write object field value) = d
 askedField d (Read object field) = field
-askedField d (Fork level message) = d
-askedField d (Call object name into returns parameter) = d
+askedField d (Fork level object name parameter) = d
+askedField d (Call object name answer parameter) = d
 askedField d (Pop reply) = d
 
 -- is a frame to be made
@@ -112,8 +112,8 @@ isCall Nothing = false
 isCall End = false
 isCall (Write object field value) = false
 isCall (Read object field) = false
-isCall (Fork level message) = false
-isCall (Call object name into returns parameter) = true
+isCall (Fork level object name parameter) = false
+isCall (Call object name answer parameter) = true
 isCall (Pop reply) = false
 
 asks-caused : (s seen : List ℕ) (all : Bool) (c : Core) (e : Effect) (o k : ℕ) → Asks s seen all c o k → Asks s seen all (causing c e) o k
@@ -349,7 +349,7 @@ module _ (s masks index current seen : List ℕ) (all : Bool) (limit : ℕ) (c�
       turning-less d = rw q (less-done s seen all c r (turning-operable q l .few) (some q) (o .lower) d turned)
 
       -- a frame made above the top
-      module _ (x n i : ℕ) (returns : Bool) (v : Value) (is : r .effect ≡ Call x n i returns v) (w : Waiting) (aside : (asideOf w ≡ frameOf (r .top)) × Waits s (asideOf w)) (r' : Core) (h : Pushed s r x n i returns v r') where
+      module _ (x n i : ℕ) (v : Value) (is : r .effect ≡ Call x n i v) (w : Waiting) (aside : (asideOf w ≡ frameOf (r .top)) × Waits s (asideOf w)) (r' : Core) (h : Pushed s r x n i v r') where
         still : r .height ≡ c .height
         still = o .tall (rw is refl)
 
@@ -369,7 +369,7 @@ module _ (s masks index current seen : List ℕ) (all : Bool) (limit : ℕ) (c�
             ∙ below-pushed ws (r .height) w (omega (arith, has, still)) (omega (arith, room-here, t .room))
             ∙ ap (λ f. f ∷ gs) (aside .0) in
             let same : comesTo p r' (below (set ws (r .height - 1) w) (r' .height - 1)) ≡ comesTo p r gs =
-            ap (comesTo p r') frames ∙ push-comes s r r' x n i returns v gs is h in
+            ap (comesTo p r') frames ∙ push-comes s r r' x n i v gs is h in
             record {
               able = t .able;
               limited = t .limited;
@@ -435,8 +435,8 @@ nothing-at Nothing n = refl
 nothing-at End n = absurd (not-both false n refl)
 nothing-at (Write object field value) n = absurd (not-both false n refl)
 nothing-at (Read object field) n = absurd (not-both false n refl)
-nothing-at (Fork level message) n = absurd (not-both false n refl)
-nothing-at (Call object name into returns parameter) n = absurd (not-both false n refl)
+nothing-at (Fork level object name parameter) n = absurd (not-both false n refl)
+nothing-at (Call object name answer parameter) n = absurd (not-both false n refl)
 nothing-at (Pop reply) n = absurd (not-both false n refl)
 
 pub goes-quiet : (c : Core) (limit : ℕ) (b : Bool) → b ≡ (isNothing (c .effect) && ltb (c .steps) limit) → b ≡ true → (c .effect ≡ Nothing) × (c .steps < limit)

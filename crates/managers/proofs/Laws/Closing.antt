@@ -23,7 +23,7 @@ use Rattle.scripts.specs.Manager.{isEnd, nextStep, concluded}
 use Rattle.scripts.specs.Valid.{Indexed}
 use Rattle.scripts.specs.declared.Ending.the-variants.{Finished, OutOfSteps}
 use Rattle.scripts.proofs.Laws.Settle.{concluded-pop, concluded-last, concluded-out}
-use Rattle.managers.specs.Frames.{frameOf, asideOf, noWaiting, below, Waits}
+use Rattle.managers.specs.Frames.{intoOf, returnsOf, frameOf, asideOf, noWaiting, below, Waits}
 use Rattle.managers.specs.Core.{bare, standing, stackOf, managerOf, effectOf, steppedOf, settledOf, comesTo, isOver, isAsking, isNothing, isDone, Tall, Present, Sits}
 use Rattle.managers.specs.Moves.{causing, restacked, Asks, Popped, stoodAs, closedAs}
 use Rattle.managers.specs.Steps.{Leads, waitingFrames, Held, Advanced, isShut}
@@ -41,8 +41,8 @@ asking-is Nothing a = absurd (not-both false a refl)
 asking-is End a = absurd (not-both false a refl)
 asking-is (Write object field value) a = absurd (not-both false a refl)
 asking-is (Read object field) a = (object, (field, refl))
-asking-is (Fork level message) a = absurd (not-both false a refl)
-asking-is (Call object name into returns parameter) a = absurd (not-both false a refl)
+asking-is (Fork level object name parameter) a = absurd (not-both false a refl)
+asking-is (Call object name answer parameter) a = absurd (not-both false a refl)
 asking-is (Pop reply) a = absurd (not-both false a refl)
 
 done-tall : (e : Effect) (h : ℕ) → isDone e ≡ true → Tall e h
@@ -50,8 +50,8 @@ done-tall Nothing h d = tt
 done-tall End h d = tt
 done-tall (Write object field value) h d = tt
 done-tall (Read object field) h d = tt
-done-tall (Fork level message) h d = tt
-done-tall (Call object name into returns parameter) h d = absurd (not-both false d refl)
+done-tall (Fork level object name parameter) h d = tt
+done-tall (Call object name answer parameter) h d = absurd (not-both false d refl)
 done-tall (Pop reply) h d = absurd (not-both false d refl)
 
 -- where nothing is left to do to the frames of a core that runs, its pops are to come
@@ -60,8 +60,8 @@ plain-settled p c gs Nothing d o a = refl
 plain-settled p c gs End d o a = absurd (not-both true refl o)
 plain-settled p c gs (Write object field value) d o a = refl
 plain-settled p c gs (Read object field) d o a = absurd (not-both true refl a)
-plain-settled p c gs (Fork level message) d o a = refl
-plain-settled p c gs (Call object name into returns parameter) d o a = absurd (not-both false d refl)
+plain-settled p c gs (Fork level object name parameter) d o a = refl
+plain-settled p c gs (Call object name answer parameter) d o a = absurd (not-both false d refl)
 plain-settled p c gs (Pop reply) d o a = absurd (not-both false d refl)
 
 over-settled : (p : Program) (c : Core) (gs : List defined.Frame) (x : Effect) → isOver x ≡ true → settledOf p c gs x ≡ bare c (stackOf (c .height) (frameOf (c .top)) gs)
@@ -69,8 +69,8 @@ over-settled p c gs Nothing o = absurd (not-both false o refl)
 over-settled p c gs End o = refl
 over-settled p c gs (Write object field value) o = absurd (not-both false o refl)
 over-settled p c gs (Read object field) o = absurd (not-both false o refl)
-over-settled p c gs (Fork level message) o = absurd (not-both false o refl)
-over-settled p c gs (Call object name into returns parameter) o = absurd (not-both false o refl)
+over-settled p c gs (Fork level object name parameter) o = absurd (not-both false o refl)
+over-settled p c gs (Call object name answer parameter) o = absurd (not-both false o refl)
 over-settled p c gs (Pop reply) o = absurd (not-both false o refl)
 
 asking-settled : (p : Program) (c : Core) (gs : List defined.Frame) (x : Effect) → isAsking x ≡ true → settledOf p c gs x ≡ standing c gs
@@ -85,7 +85,7 @@ late-comes s c r w gs e d o a h =
     ap (λ m. record { manager = m; effect = effectOf (c .effect) })
     (plain-settled p (causing r (c .effect)) gs (c .effect) d o a
     ∙ ap (λ x. concluded p (standing x gs)) (h .core-is)
-    ∙ ap (λ f. concluded p (bare c (f ∷ gs))) (h .top-is ∙ ap (withRegister (asideOf w) (c .top .into)) (both (c .top .returns)))
+    ∙ ap (λ f. concluded p (bare c (f ∷ gs))) (h .top-is ∙ ap (withRegister (asideOf w) (intoOf (c .top .answer))) (both (returnsOf (c .top .answer))))
     ∙ sym (concluded-pop p (standing c (asideOf w ∷ gs)) (frameOf (c .top)) (asideOf w) gs e)
     ∙ sym (plain-settled p c (asideOf w ∷ gs) (c .effect) d o a))
   where

@@ -175,8 +175,8 @@ module _ (s current seen : List ℕ) (m r : Manager) (h : Held s m) (run : isRun
       still End e on x = absurd (not-both (isRunning (r .core .ending)) on (a .over e))
       still (Write object field value) e on x = absurd (not-nothing (Write object field value) x refl)
       still (Read object field) e on x = absurd (not-both (isAsking (r .core .effect)) (ap isAsking e) asks)
-      still (Fork level message) e on x = absurd (not-nothing (Fork level message) x refl)
-      still (Call object name into returns parameter) e on x = absurd (not-both (isDone (r .core .effect)) (a .done) (ap isDone e))
+      still (Fork level object name parameter) e on x = absurd (not-nothing (Fork level object name parameter) x refl)
+      still (Call object name answer parameter) e on x = absurd (not-both (isDone (r .core .effect)) (a .done) (ap isDone e))
       still (Pop reply) e on x = absurd (not-both (isDone (r .core .effect)) (a .done) (ap isDone e))
 
       by : Steps (managerOf m) (steppedOf r) → r .core .steps ≡ m .core .steps + 1
@@ -218,6 +218,7 @@ module _ (s current seen : List ℕ) (m r : Manager) (h : Held s m) (run : isRun
             let l = a .leads read see in
             leads-one program read (managerOf m) (steppedOf r) l (made asks read l);
         asks = asked;
+        still = a .asks;
         held = a .held;
         level-is = a .level-is;
         first-is = a .first-is;

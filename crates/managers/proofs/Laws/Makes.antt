@@ -23,7 +23,7 @@ use Rattle.scripts.specs.Frame.{frameFor, register, withRegister, atStep}
 use Rattle.scripts.specs.Manager.{withTop, popped, called, forked, concluded}
 use Rattle.scripts.specs.declared.Ending.{Ending}
 use Rattle.scripts.specs.declared.Ending.the-variants.{OutOfWrites, Finished}
-use Rattle.managers.specs.Frames.{frameOf, Same, Becomes, Method}
+use Rattle.managers.specs.Frames.{intoOf, returnsOf, frameOf, Same, Becomes, Method}
 use Rattle.managers.specs.Core.{bare, standing, stackOf, comesTo, isOver, isAsking, Tall, Present, Sits}
 use Rattle.managers.specs.Moves.{Able, Moves, Makes, passed, pastOf, nextTop, causing, finishedAs, ownWritten, counting}
 use Rattle.managers.specs.declared.Core.{Core}
@@ -64,8 +64,7 @@ jumpedTo f b =
       next = b;
       start = f .start;
       count = f .count;
-      into = f .into;
-      returns = f .returns;
+      answer = f .answer;
       r0 = f .r0;
       r1 = f .r1;
       r2 = f .r2;
@@ -244,24 +243,24 @@ makes-unforked P c r a u message able h m =
     makes-moved P c r (withRegister (pastOf c) a Nil) _ able m (λ gs tall. rw (le-ltb (c .forks) maxForks h))
 
 -- a frame is to be made above the top, which has passed its step
-pub makes-call : (c n r : Core) (o b a : ℕ) (returns : Bool) (v : Value) → Able c → Moves c n (pastOf c) → c .height < maxFrames → v ≡ register (frameOf (c .top)) a → r ≡ causing n (Call o b a returns v) → Makes (Method o b) c r (λ m. called m (passed m) a (frameFor o b a returns (register (passed m) a)))
+pub makes-call : (c n r : Core) (o b a : ℕ) (returns : Bool) (answer : ℕ) (v : Value) → Able c → Moves c n (pastOf c) → c .height < maxFrames → v ≡ register (frameOf (c .top)) a → (intoOf answer ≡ a) × (returnsOf answer ≡ returns) → r ≡ causing n (Call o b answer v) → Makes (Method o b) c r (λ m. called m (passed m) a (frameFor o b a returns (register (passed m) a)))
 unfolding comesTo called
-makes-call c n r o b a returns v able m low ev e =
+makes-call c n r o b a returns answer v able m low ev says e =
     let f = n .top in
-    makes-going (Method o b) c r f (c .writes) (c .forks) (Call o b a returns v) _ able
-    (e ∙ ap (λ y. causing y (Call o b a returns v)) (m .core-is)) (m .top-is .same) (m .near) refl refl
+    makes-going (Method o b) c r f (c .writes) (c .forks) (Call o b answer v) _ able
+    (e ∙ ap (λ y. causing y (Call o b answer v)) (m .core-is)) (m .top-is .same) (m .near) refl refl
     (λ s sits. (sits .wrote, (sits .forked, low)))
     (λ s h. h)
     (λ p gs tall.
-    ap (λ g. record { manager = concluded p (bare (nextTop c f) (frameFor o b a returns v ∷ g ∷ gs)); effect = effect.Nothing }) (m .top-is .frame)
-    ∙ rw (ev, lt-ltb (suc (length gs)) maxFrames (omega (arith, tall, low)), able .runs))
+    ap (λ g. record { manager = concluded p (bare (nextTop c f) (frameFor o b (intoOf answer) (returnsOf answer) v ∷ g ∷ gs)); effect = effect.Nothing }) (m .top-is .frame)
+    ∙ rw (ev, says .0, says .1, lt-ltb (suc (length gs)) maxFrames (omega (arith, tall, low)), able .runs))
 
 -- a manager is forked, and the sender gets NIL
-pub makes-fork : (c n r : Core) (o b a u : ℕ) (v : Value) → Able c → Moves c n (withRegister (pastOf c) a Nil) → c .forks < maxForks → v ≡ register (frameOf (c .top)) a → r ≡ effecting n (n .writes) (n .forks + 1) (Fork u (record { object = o; name = b; parameter = v })) → Makes (λ s. (u < levelCount s) × Method o b s) c r (λ m. forked m (passed m) a u (record { object = o; name = b; parameter = register (passed m) a }))
+pub makes-fork : (c n r : Core) (o b a u : ℕ) (v : Value) → Able c → Moves c n (withRegister (pastOf c) a Nil) → c .forks < maxForks → v ≡ register (frameOf (c .top)) a → r ≡ effecting n (n .writes) (n .forks + 1) (Fork u o b v) → Makes (λ s. (u < levelCount s) × Method o b s) c r (λ m. forked m (passed m) a u (record { object = o; name = b; parameter = register (passed m) a }))
 unfolding comesTo forked
 makes-fork c n r o b a u v able m few ev e =
     let f = n .top in
-    let x = Fork u (record { object = o; name = b; parameter = v }) in
+    let x = Fork u o b v in
     let grows : c .first + (c .forks + 1) ≡ c .first + c .forks + 1 = omega arith in
     makes-going _ c r f (c .writes) (c .forks + 1) x _ able
     (e ∙ ap (λ y. effecting y (y .writes) (y .forks + 1) x) (m .core-is)) (m .top-is .same) (m .near) refl refl

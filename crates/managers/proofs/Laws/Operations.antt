@@ -10,7 +10,7 @@ use lib.Dec.{eqb}
 use lib.ListN.{length}
 use Rattle.lattice.proofs.Laws.Range.{not-both, and-left, and-right}
 use Rattle.lattice.specs.Table.{dominates}
-use Rattle.session.specs.Limits.{names, fields}
+use Rattle.session.specs.Limits.{names, fields, registers}
 use Rattle.session.specs.Parts.{objectCount}
 use Rattle.session.specs.Questions.{operandsFit}
 use Rattle.session.specs.Meaning.{levelOf, methodOf}
@@ -291,6 +291,12 @@ module _ (s masks current seen : List ℕ) (c : Core) (o : Operable s masks curr
   write-field a b e =
       let q = fits-next (op.Write a b) e refl in
       ltb-true b fields (search (and-left, and-right, q))
+
+  pub send-register : (a b d : ℕ) → nextStep (programOf s) (frameOf (c .top)) ≡ op.Send a b d → a < registers
+  unfolding operandsFit
+  send-register a b d e =
+      let q = fits-next (op.Send a b d) e refl in
+      ltb-true a registers (search (and-left, and-right, q))
 
   pub send-method : (a b d : ℕ) → nextStep (programOf s) (frameOf (c .top)) ≡ op.Send a b d → Method d b s
   unfolding operandsFit

@@ -25,7 +25,7 @@ use Rattle.scripts.specs.Manager.{isEnd, nextStep, popped, concluded, stepped}
 use Rattle.scripts.proofs.Laws.Counts.{concluded-counts, popped-counts}
 use Rattle.scripts.proofs.Laws.Settle.{popped-to, concluded-pop, concluded-last, concluded-not, running-is}
 use Rattle.words.specs.Reads.{Sees}
-use Rattle.managers.specs.Frames.{frameOf, asideOf, noWaiting, below}
+use Rattle.managers.specs.Frames.{intoOf, returnsOf, frameOf, asideOf, noWaiting, below}
 use Rattle.managers.specs.Core.{bare, standing, stackOf, comesTo, settledOf, isOver, isAsking, isDone, Sits}
 use Rattle.managers.specs.Moves.{causing, endingAs, finishedAs, restacked, Operable, Asks, Operated, Pushed, Popped}
 use Rattle.managers.specs.Steps.{Leads}
@@ -67,9 +67,9 @@ comes-level p c gs Nothing = let e = concluded-counts p (standing c gs) in (ap (
 comes-level p c gs End = (refl, refl)
 comes-level p c gs (Write object field value) = let e = concluded-counts p (standing c gs) in (ap (λ x. x .level) e, ap (λ x. x .first) e)
 comes-level p c gs (Read object field) = (refl, refl)
-comes-level p c gs (Fork level message) = let e = concluded-counts p (standing c gs) in (ap (λ x. x .level) e, ap (λ x. x .first) e)
-comes-level p c gs (Call object name into returns parameter) =
-    let e = concluded-counts p (bare c (frameFor object name into returns parameter ∷ frameOf (c .top) ∷ gs)) in
+comes-level p c gs (Fork level object name parameter) = let e = concluded-counts p (standing c gs) in (ap (λ x. x .level) e, ap (λ x. x .first) e)
+comes-level p c gs (Call object name answer parameter) =
+    let e = concluded-counts p (bare c (frameFor object name (intoOf answer) (returnsOf answer) parameter ∷ frameOf (c .top) ∷ gs)) in
     (ap (λ x. x .level) e, ap (λ x. x .first) e)
 comes-level p c gs (Pop reply) =
     let e = concluded-counts p (popped (standing c gs) reply) ∙ popped-counts (standing c gs) reply in
@@ -93,9 +93,9 @@ pub no-pops : (p : Program) (c : Core) (gs : List defined.Frame) → isRunning (
 no-pops p c gs r few e = concluded-not p (standing c gs) (frameOf (c .top)) gs (running-is (c .ending) r) refl few e
 
 -- a frame made above the top
-pub push-comes : (s : List ℕ) (c r : Core) (o n i : ℕ) (returns : Bool) (v : Value) (gs : List defined.Frame) → c .effect ≡ Call o n i returns v → Pushed s c o n i returns v r → comesTo (programOf s) r (frameOf (c .top) ∷ gs) ≡ comesTo (programOf s) c gs
+pub push-comes : (s : List ℕ) (c r : Core) (o n a : ℕ) (v : Value) (gs : List defined.Frame) → c .effect ≡ Call o n a v → Pushed s c o n a v r → comesTo (programOf s) r (frameOf (c .top) ∷ gs) ≡ comesTo (programOf s) c gs
 unfolding comesTo
-push-comes s c r o n i returns v gs q h =
+push-comes s c r o n a v gs q h =
     rw (q, h .core-is)
     (ap (λ f. record { manager = concluded (programOf s) (bare c (f ∷ frameOf (c .top) ∷ gs)); effect = effect.Nothing }) (h .top-is))
 
@@ -118,7 +118,7 @@ end-comes s c (g ∷ gs) h r e =
     let f = frameOf (c .top) in
     rw (ne-eqb (c .height) 1 more)
     (ap idle
-    (ap (concluded (programOf s)) (popped-to (standing c (g ∷ gs)) f g gs Nil ∙ ap (λ v. bare c (withRegister g (c .top .into) v ∷ gs)) (both (c .top .returns)))
+    (ap (concluded (programOf s)) (popped-to (standing c (g ∷ gs)) f g gs Nil ∙ ap (λ v. bare c (withRegister g (intoOf (c .top .answer)) v ∷ gs)) (both (returnsOf (c .top .answer))))
     ∙ sym (concluded-pop (programOf s) (standing c (g ∷ gs)) f g gs e)))
   where
     both : (b : Bool) → cond b Nil Nil ≡ Nil

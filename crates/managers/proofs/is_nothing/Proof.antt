@@ -24,8 +24,8 @@ other Nothing h = absurd (miss (1 ∷ 2 ∷ 3 ∷ 4 ∷ 5 ∷ 6 ∷ []) 0 tt h)
 other End h = refl
 other (Write object field value) h = refl
 other (Read object field) h = refl
-other (Fork level message) h = refl
-other (Call object name into returns parameter) h = refl
+other (Fork level object name parameter) h = refl
+other (Call object name answer parameter) h = refl
 other (Pop reply) h = refl
 
 returns-2 : tie.Need-returns-2

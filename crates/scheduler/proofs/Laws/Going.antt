@@ -106,8 +106,8 @@ asking outside.Nothing = not-asks refl
 asking outside.End = not-asks refl
 asking (outside.Write o k v) = not-asks refl
 asking (outside.Read o k) = asks o k refl
-asking (outside.Fork u message) = not-asks refl
-asking (outside.Call o b a r v) = not-asks refl
+asking (outside.Fork u o b v) = not-asks refl
+asking (outside.Call o b a v) = not-asks refl
 asking (outside.Pop v) = not-asks refl
 
 -- one was asked for and read; or none is, and what was done outside is done
@@ -317,8 +317,8 @@ module _ {s masks index : List ℕ} (rd : Read s masks index) {w : Words} {l : �
     stays outside.End is run same done quiet-then ask = not-both (isRunning (r .core .ending)) run (ad .over is)
     stays (outside.Write o k v) is run same done quiet-then ask = let z : _≡_ {A = ℕ} 0 1 = cc in omega arith
     stays (outside.Read o k) is run same done quiet-then ask = not-both true refl ask
-    stays (outside.Fork u message) is run same done quiet-then ask = let z : _≡_ {A = ℕ} 0 1 = cc in omega arith
-    stays (outside.Call o b a v x) is run same done quiet-then ask = not-both false done refl
+    stays (outside.Fork u o b v) is run same done quiet-then ask = let z : _≡_ {A = ℕ} 0 1 = cc in omega arith
+    stays (outside.Call o b a v) is run same done quiet-then ask = not-both false done refl
     stays (outside.Pop v) is run same done quiet-then ask = not-both false done refl
 
     shut-no-more : {q : Parts} {seen' : List ℕ} → OutsideDone s w q seen seen' l (r .core) → isRunning (r .core .ending) ≡ true → r .core .steps ≡ m .core .steps → effectOf (r .core .effect) ≡ effect.Nothing → isShut s seen' false (r .core) ≡ false

@@ -5,6 +5,7 @@ use mathlib.Core.Bool.{true, false}
 use mathlib.Core.List.{List, [], _∷_}
 use native.Mathlib.Decide.{ℕ-discrete, decLt}
 use native.Mathlib.Omega.{arith}
+use borrow.Author.Tests.{ltb-true, ltb-false}
 use lib.ListN.{length, getD, set, drop, replicate, length-set, length-replicate, getD-replicate, List·getD-eq-default}
 use lib.Seq.{drop-cons, drop-length, getD-set-same, getD-set-other}
 use Rattle.lattice.proofs.Laws.Range.{not-both}
@@ -21,10 +22,11 @@ use Rattle.scripts.specs.Ending.{isRunning}
 use Rattle.scripts.specs.State.{Manager}
 use Rattle.scripts.specs.declared.Ending.the-variants.{Finished}
 use Rattle.words.specs.Limits.{fieldWords}
-use Rattle.words.specs.Fields.{fieldPlace}
-use Rattle.managers.specs.Core.{managerOf}
-use Rattle.managers.specs.Steps.{Held}
+use Rattle.words.specs.Fields.{fieldPlace, FieldThere, Forgotten}
+use Rattle.managers.specs.Core.{managerOf, effectOf, isAsking}
+use Rattle.managers.specs.Steps.{Held, Advanceable, Stepped}
 use Rattle.managers.specs.declared.Manager as code
+use Rattle.managers.specs.declared.Effect.the-variants as act
 use Rattle.model.specs.Limits.{maxSchedule}
 use Rattle.model.specs.Step.{State, stepAt}
 use Rattle.model.specs.Schedule.{finished, stepRefusal, runFrom, runOf}
@@ -32,9 +34,9 @@ use Rattle.model.proofs.Laws.Order.Accepted.{sound}
 use Rattle.model.proofs.Laws.Order.PlainRun.{read-in-total}
 use Rattle.model.proofs.Laws.Invariant.Tame.{total, step-less}
 use Rattle.model.proofs.Laws.Code.Progress.{allowed, run-made, run-stops, run-ends, run-unended}
-use Rattle.level_managers.specs.Kept.{Words, Says, placed}
-use Rattle.level_managers.specs.Permits.{numberOfPermit, endedOf, permitOf, noted, Countable}
-use Rattle.level_managers.specs.Steps.{Blank, Fresh, Stepping, MayStep, StepDone}
+use Rattle.level_managers.specs.Kept.{Words, busyPlace, clearPlace, tallyNumbers, Says, placed}
+use Rattle.level_managers.specs.Permits.{numberOfPermit, busyIn, endedOf, permitOf, noted, Countable}
+use Rattle.level_managers.specs.Steps.{Read, IsBusy, TellReady, Answered, PerformReady, SettleReady, StepDone, StartReady, Started}
 use Rattle.scheduler.specs.Runs.{startOf, Rests, SameRest, Ends}
 use Rattle.scheduler.specs.declared.Outcome.{Outcome}
 use Rattle.scheduler.specs.declared.Outcome.the-variants as outcome
@@ -42,6 +44,8 @@ use Rattle.level_managers.specs.declared.tallies.Permit.{Permit}
 use Rattle.level_managers.specs.declared.tallies.Permit.the-variants.{Given, Absent, Idle, Blocked}
 use Rattle.level_managers.proofs.Laws.Settle.{placed-own, placed-other}
 use Rattle.level_managers.proofs.Laws.Step.{says-live, told-held}
+use Rattle.level_managers.proofs.Laws.Script.{Blank, Fresh, ScriptStep, able, step-made, asks-busy, asks-told, again-able, again-forgets, again-made}
+use Rattle.level_managers.proofs.Laws.Made.{Stepping, MayStep, StepSaid, Advancing, start-here, start-done, busy-here, done-performs, done-settles, step-said}
 use Rattle.level_managers.proofs.Laws.Asked.{asked-is, ended-is, wordsNoted, noted-says}
 
 -- the same managers, one by one
@@ -181,7 +185,7 @@ module _ (s : List ℕ) (a : verdictOf s ≡ Accepted) (few : levelCount s ≤ m
           going-may m is =
               record { says = noted-says s w ms (g .state) l few (g .says) going-allowed; allowed = going-allowed; held = is }
 
-          pub going-step : (m : code.Manager) → ms l ≡ managerOf m → (w' : Words) (seen' : List ℕ) (r : code.Manager) → StepDone s l m (wordsNoted w l) w' seen' r → Going s ls (suc i) w' (placed l (managerOf r) ms)
+          pub going-step : (m : code.Manager) → ms l ≡ managerOf m → (w' : Words) (seen' : List ℕ) (r : code.Manager) → StepSaid s l m (wordsNoted w l) w' seen' r → Going s ls (suc i) w' (placed l (managerOf r) ms)
           going-step m is w' seen' r d =
               let live = says-live s a w ms (g .state) (g .says) in
               let yes = allowed (programOf s) (g .state) l going-allowed in
@@ -253,67 +257,144 @@ module _ {s masks : List ℕ} (y : Leveled s masks) {ls : List ℕ} {d : code.Ma
       going-unended s (y .accepted) few ls i w (heldIn managers d) (g .going) masks (y .masks-are) long (omega (arith, h, g .low)) e
 
   module _ (h : i < length ls) {p : Permit} (e : p ≡ permitOf masks (w .tallies) (getD ls i 0)) {t : List ℕ} (n : t ≡ noted p (getD ls i 0) (w .tallies)) where
-    abbrev level : ℕ
-    level = getD ls i 0
-
-    abbrev noting : Words
-    noting = record { current = w .current; ended = w .ended; tallies = t; queue = w .queue; work = w .work }
-
     -- the step is not permitted
     pub list-refused : (p ≡ Given → ⊥) → (w' : Words) {r : Outcome} → r ≡ outcome.Refused (numberOfPermit p) i → Ends s ls w' r
     list-refused z w' q =
         rw q (going-stops s (y .accepted) few ls i w (heldIn managers d) (g .going) masks (y .masks-are) long h p e z)
 
-    -- it is
-    module _ (z : p ≡ Given) where
-      given : permitOf masks (w .tallies) level ≡ Given
-      given = sym e ∙ z
+-- the next step is permitted, and that is noted in t
+pub record Permitted (s masks index ls : List ℕ) (d : code.Manager) (w₀ w : Words) (managers : List code.Manager) (seen : List ℕ) (i : ℕ) (t : List ℕ) : Type 0 where
+  pub read : Read s masks index
+  pub loop : ListLoop s ls d w₀ w managers seen i
+  pub more : i < length ls
+  pub given : permitOf masks (w .tallies) (getD ls i 0) ≡ Given
+  pub noted-is : t ≡ noted Given (getD ls i 0) (w .tallies)
 
-      pub list-present : level < maxLevels
-      list-present =
-          omega (arith, few, going-present s (y .accepted) few ls i w (heldIn managers d) (g .going) masks (y .masks-are) long h given)
+pub permitted : {s masks index ls : List ℕ} {d : code.Manager} {w₀ w : Words} {managers : List code.Manager} {seen : List ℕ} {i : ℕ} {t : List ℕ} {p : Permit} → Read s masks index → ListLoop s ls d w₀ w managers seen i → i < length ls → p ≡ permitOf masks (w .tallies) (getD ls i 0) → t ≡ noted p (getD ls i 0) (w .tallies) → p ≡ Given → Permitted s masks index ls d w₀ w managers seen i t
+permitted {ls = ls} {w = w} {i = i} a g h e n z =
+    record {
+      read = a;
+      loop = g;
+      more = h;
+      given = sym e ∙ z;
+      noted-is = n ∙ ap (λ p. noted p (getD ls i 0) (w .tallies)) z;
+    }
 
-      same : noting ≡ wordsNoted w level
-      same =
-          ap (λ t. record { current = w .current; ended = w .ended; tallies = t; queue = w .queue; work = w .work }) (n ∙ ap (λ p. noted p level (w .tallies)) z)
+module _ {s masks index ls : List ℕ} {d : code.Manager} {w₀ w : Words} {managers : List code.Manager} {seen : List ℕ} {i : ℕ} {t : List ℕ} (g : Permitted s masks index ls d w₀ w managers seen i t) where
+  abbrev level : ℕ
+  level = getD ls i 0
 
-      there : level < length managers
-      there = omega (arith, g .managers-long, list-present)
+  abbrev m : code.Manager
+  m = getD managers level d
 
-      stepping-at : {u : Words} → u ≡ wordsNoted w level → Stepping s u level (getD managers level d) (heldIn managers d) (g .going .state)
-      stepping-at q =
-          rw q (going-may s (y .accepted) few ls i w (heldIn managers d) (g .going) masks (y .masks-are) long h given (getD managers level d) refl)
+  abbrev noting : Words
+  noting = record { current = w .current; ended = w .ended; tallies = t; queue = w .queue; work = w .work }
 
-      pub list-may : MayStep s noting level (getD managers level d)
-      list-may = (heldIn managers d, (g .going .state, stepping-at same))
+  abbrev y : Leveled s masks
+  y = g .read .leveled
 
-      pub list-fresh : Fresh s seen (getD managers level d)
-      list-fresh =
-          record { held = g .held level there; blank = g .blank; there = rw (g .seen-long) (omega arith) }
+  same : noting ≡ wordsNoted w level
+  same =
+      ap (λ t. record { current = w .current; ended = w .ended; tallies = t; queue = w .queue; work = w .work }) (g .noted-is)
 
-      done-at : {u w' : Words} {m r : code.Manager} {seen' : List ℕ} → u ≡ wordsNoted w level → StepDone s level m u w' seen' r → StepDone s level m (wordsNoted w level) w' seen' r
-      done-at q x = rw (sym q) x
+  pub list-present : level < maxLevels
+  list-present =
+      omega (arith, few y (g .loop), going-present s (y .accepted) (few y (g .loop)) ls i w (heldIn managers d) (g .loop .going) masks (y .masks-are) (long y (g .loop)) (g .more) (g .given))
 
-      pub list-again : {w' : Words} {seen' : List ℕ} {r : code.Manager} → StepDone s level (getD managers level d) noting w' seen' r → length seen' ≡ length seen → length (w' .current) ≡ length (w .current) → length (w' .ended) ≡ length (w .ended) → length (w' .tallies) ≡ length t → length t ≡ length (w .tallies) → length (w' .queue) ≡ length (w .queue) → length (w' .work) ≡ length (w .work) → ListLoop s ls d w₀ w' (set managers level r) seen' (i + 1)
-      list-again {w'} {seen'} {r} x c0 c1 c2 c3 c4 c5 c6 =
-          let next = going-step s (y .accepted) few ls i w (heldIn managers d) (g .going) masks (y .masks-are) long h given (getD managers level d) refl w' seen' r (done-at same x) in
-          record {
-            going = held next (heldIn (set managers level r) d) (held-set managers d level r there);
-            low = omega (arith, h);
-            managers-long = length-set managers level r ∙ g .managers-long;
-            held = held-all s managers d level r (x .held) (g .held);
-            blank = x .blank;
-            seen-long = c0 ∙ g .seen-long;
-            rest = x .rest ∙ g .rest;
-            current-long = c1 ∙ g .current-long;
-            ended-long = c2 ∙ g .ended-long;
-            tallies-long = c3 ∙ c4 ∙ g .tallies-long;
-            queue-long = c5 ∙ g .queue-long;
-            work-long = c6 ∙ g .work-long;
-          }
-        where
-          next-is : suc i ≡ i + 1
-          next-is = omega arith
+  pub list-numbers : (level < maxLevels) × (tallyNumbers ≤ length t)
+  list-numbers = (
+    list-present,
+    rw (g .noted-is, length-set (w .tallies) (clearPlace level) 1) (g .loop .going .says .told .roomy .tallies),
+  )
 
-          held : {ms : ℕ → Manager} → Going s ls (suc i) w' ms → (ms' : ℕ → Manager) → ((k : ℕ) → ms' k ≡ ms k) → Going s ls (i + 1) w' ms'
-          held {ms} x ms' q = rw (sym next-is) (going-held s (y .accepted) few ls (suc i) w' ms x ms' q)
+  there : level < length managers
+  there = omega (arith, g .loop .managers-long, list-present)
+
+  stepping-at : {u : Words} → u ≡ wordsNoted w level → Stepping s u level m (heldIn managers d) (g .loop .going .state)
+  stepping-at q =
+      rw q (going-may s (y .accepted) (few y (g .loop)) ls i w (heldIn managers d) (g .loop .going) masks (y .masks-are) (long y (g .loop)) (g .more) (g .given) m refl)
+
+  may : MayStep s noting level m
+  may = (heldIn managers d, (g .loop .going .state, stepping-at same))
+
+  fresh : Fresh s seen m
+  fresh =
+      record { held = g .loop .held level there; blank = g .loop .blank; there = rw (g .loop .seen-long) (omega arith) }
+
+  said-at : {u w' : Words} {r : code.Manager} {seen' : List ℕ} → u ≡ wordsNoted w level → StepSaid s level m u w' seen' r → StepSaid s level m (wordsNoted w level) w' seen' r
+  said-at q x = rw (sym q) x
+
+  -- once the words say the state after it, the next one's turn comes
+  again : {w' : Words} {seen' : List ℕ} {r : code.Manager} → StepSaid s level m noting w' seen' r → length seen' ≡ length seen → length (w' .current) ≡ length (w .current) → length (w' .ended) ≡ length (w .ended) → length (w' .tallies) ≡ length t → length (w' .queue) ≡ length (w .queue) → length (w' .work) ≡ length (w .work) → ListLoop s ls d w₀ w' (set managers level r) seen' (i + 1)
+  again {w'} {seen'} {r} x c0 c1 c2 c3 c4 c5 =
+      let next = going-step s (y .accepted) (few y (g .loop)) ls i w (heldIn managers d) (g .loop .going) masks (y .masks-are) (long y (g .loop)) (g .more) (g .given) m refl w' seen' r (said-at same x) in
+      record {
+        going = held next (heldIn (set managers level r) d) (held-set managers d level r there);
+        low = omega (arith, g .more);
+        managers-long = length-set managers level r ∙ g .loop .managers-long;
+        held = held-all s managers d level r (x .held) (g .loop .held);
+        blank = x .blank;
+        seen-long = c0 ∙ g .loop .seen-long;
+        rest = x .rest ∙ g .loop .rest;
+        current-long = c1 ∙ g .loop .current-long;
+        ended-long = c2 ∙ g .loop .ended-long;
+        tallies-long = c3 ∙ ap length (g .noted-is) ∙ length-set (w .tallies) (clearPlace level) 1 ∙ g .loop .tallies-long;
+        queue-long = c4 ∙ g .loop .queue-long;
+        work-long = c5 ∙ g .loop .work-long;
+      }
+    where
+      next-is : suc i ≡ i + 1
+      next-is = omega arith
+
+      held : {ms : ℕ → Manager} → Going s ls (suc i) w' ms → (ms' : ℕ → Manager) → ((k : ℕ) → ms' k ≡ ms k) → Going s ls (i + 1) w' ms'
+      held {ms} x ms' q =
+          rw (sym next-is) (going-held s (y .accepted) (few y (g .loop)) ls (suc i) w' ms x ms' q)
+
+  -- none runs at the level: one starts
+  module _ (z : busyIn t level ≡ false) where
+    none-busy : getD t (busyPlace level) 0 ≡ 0
+    none-busy = omega (arith, ltb-false 0 (getD t (busyPlace level) 0) z)
+
+    pub list-starts : StartReady s index (w .ended) t (w .queue) level
+    list-starts = start-here s masks index noting level m (g .read) none-busy may
+
+    pub list-started : {ended' tallies' : List ℕ} {r : code.Manager} → Started s (w .ended) ended' t tallies' (w .queue) level (managerOf r) × Held s r → length ended' ≡ length (w .ended) → length tallies' ≡ length t → ListLoop s ls d w₀ (record { current = w .current; ended = ended'; tallies = tallies'; queue = w .queue; work = w .work }) (set managers level r) seen (i + 1)
+    list-started {ended'} {tallies'} {r} x c1 c2 =
+        again (start-done s masks index noting level m (g .read) none-busy seen ended' tallies' r (g .loop .blank) x) refl refl c1 c2 refl refl
+
+  -- m runs there: it makes a script step
+  module _ (z : busyIn t level ≡ true) where
+    advancing : Advancing s masks index noting level m
+    advancing =
+        record { read = g .read; may = may; runs = λ e. omega (arith, e, ltb-true 0 (getD t (busyPlace level) 0) z) }
+
+    pub list-able : Advanceable s masks index (w .current) seen m
+    list-able = able (g .read) (busy-here advancing) fresh
+
+    module _ {n : code.Manager} (x : Stepped s (w .current) seen m n) where
+      pub list-made : isAsking (n .core .effect) ≡ false → ScriptStep s noting level seen m n
+      list-made q = step-made (g .read) (busy-here advancing) fresh x q
+
+      -- n asks for a field
+      module _ {o k : ℕ} (q : n .core .effect ≡ act.Read o k) where
+        pub list-tells : Leveled s masks × (IsBusy s noting level × TellReady s seen o k)
+        list-tells =
+            (y, (asks-busy (g .read) (busy-here advancing) fresh x q, asks-told (g .read) (busy-here advancing) fresh x q))
+
+        module _ {seen' : List ℕ} (told : Answered s noting seen seen' level o k) where
+          pub list-able-told : Advanceable s masks index (w .current) seen' n
+          list-able-told = again-able (g .read) (busy-here advancing) fresh x q told
+
+          pub list-forgets : FieldThere seen' o k
+          list-forgets = again-forgets (g .read) (busy-here advancing) fresh x q told
+
+          pub list-answered : {seen'' : List ℕ} {r : code.Manager} → Stepped s (w .current) seen' n r → Forgotten seen' seen'' o k → ScriptStep s noting level seen'' m r
+          list-answered e gone = again-made (g .read) (busy-here advancing) fresh x q told e gone
+
+    -- what the step did outside is done
+    module _ {seen' : List ℕ} {r : code.Manager} (made : ScriptStep s noting level seen' m r) where
+      pub list-performs : PerformReady (w .current) t (w .queue) (w .work) level (r .core .first) (r .core .forks) (effectOf (r .core .effect)) × SettleReady (w .ended) t (w .queue) level
+      list-performs = (done-performs advancing made, done-settles advancing made)
+
+      pub list-done : {w' : Words} → StepDone noting w' level (r .core) → length seen' ≡ length seen → length (w' .current) ≡ length (w .current) → length (w' .ended) ≡ length (w .ended) → length (w' .tallies) ≡ length t → length (w' .queue) ≡ length (w .queue) → length (w' .work) ≡ length (w .work) → ListLoop s ls d w₀ w' (set managers level r) seen' (i + 1)
+      list-done x = again (step-said advancing made x)

@@ -97,8 +97,8 @@ other Nothing h = refl
 other End h = refl
 other (Write object field value) h = absurd (miss (0 ∷ 1 ∷ 3 ∷ 5 ∷ 6 ∷ []) 2 tt h)
 other (Read object field) h = refl
-other (Fork level message) h = absurd (miss (0 ∷ 1 ∷ 3 ∷ 5 ∷ 6 ∷ []) 4 tt h)
-other (Call object name into returns parameter) h = refl
+other (Fork level object name parameter) h = absurd (miss (0 ∷ 1 ∷ 3 ∷ 5 ∷ 6 ∷ []) 4 tt h)
+other (Call object name answer parameter) h = refl
 other (Pop reply) h = refl
 
 perform-enum-known-effect : (t : ℕ) → perform-lts.Need-enum-known-effect (perform-claims t) (perform-at t) perform.Post

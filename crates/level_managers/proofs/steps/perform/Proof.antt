@@ -27,8 +27,8 @@ other act.Nothing h = refl
 other act.End h = refl
 other (act.Write object field value) h = absurd (miss (0 ∷ 1 ∷ 3 ∷ 5 ∷ 6 ∷ []) 2 tt h)
 other (act.Read object field) h = refl
-other (act.Fork level message) h = absurd (miss (0 ∷ 1 ∷ 3 ∷ 5 ∷ 6 ∷ []) 4 tt h)
-other (act.Call object name into returns parameter) h = refl
+other (act.Fork level object name parameter) h = absurd (miss (0 ∷ 1 ∷ 3 ∷ 5 ∷ 6 ∷ []) 4 tt h)
+other (act.Call object name answer parameter) h = refl
 other (act.Pop reply) h = refl
 
 enum-known-effect : tie.Need-enum-known-effect
@@ -50,7 +50,7 @@ sub-made : tie.Need-sub-made
 sub-made c =
     let z = c .before .before .before .before .before .before .before in
     let known = c .before .effect2 .given in
-    omega (arith, forks-some (entry z) (z .args .level) (z .args .first) (z .args .forks) (effectOf (z .args .effect)) (known .0 .0) (known .0 .1 .0) (ap effectOf (known .1)) (z .pre))
+    omega (arith, forks-some (entry z) (z .args .level) (z .args .first) (z .args .forks) (effectOf (z .args .effect)) (known .0 .0) (record { object = known .0 .1 .0; name = known .0 .1 .1 .0; parameter = known .0 .1 .1 .1 .0 }) (ap effectOf (known .1)) (z .pre))
 
 cast-stamp : tie.Need-cast-stamp
 cast-stamp c = search needs
@@ -65,7 +65,7 @@ fork-requires : tie.Need-fork-requires
 fork-requires c κs =
     let z = c .before .before .before .before .before .before .before .before .before in
     let known = c .before .before .before .effect2 .given in
-    fork-ready (entry z) (z .args .level) (z .args .first) (z .args .forks) (effectOf (z .args .effect)) (known .0 .0) (known .0 .1 .0) (ap effectOf (known .1)) (z .pre)
+    fork-ready (entry z) (z .args .level) (z .args .first) (z .args .forks) (effectOf (z .args .effect)) (known .0 .0) (record { object = known .0 .1 .0; name = known .0 .1 .1 .0; parameter = known .0 .1 .1 .1 .0 }) (ap effectOf (known .1)) (z .pre)
 
 same-length : tie.Need-same-length
 same-length c = search needs
@@ -96,7 +96,7 @@ returns-2 c =
     let z = at .before .before .before .before .before .before .before .before .before .before in
     let known = at .before .before .before .before .effect2 .given in
     let called = at .fork in
-    performed-fork (entry z) (z .args .level) (z .args .first) (z .args .forks) (effectOf (z .args .effect)) (known .0 .0) (known .0 .1 .0) (ap effectOf (known .1)) (called .last .0) (called .last .1 .0) (called .ensures)
+    performed-fork (entry z) (z .args .level) (z .args .first) (z .args .forks) (effectOf (z .args .effect)) (known .0 .0) (record { object = known .0 .1 .0; name = known .0 .1 .1 .0; parameter = known .0 .1 .1 .1 .0 }) (ap effectOf (known .1)) (called .last .0) (called .last .1 .0) (called .ensures)
 
 returns-3 : tie.Need-returns-3
 returns-3 c =

@@ -10,7 +10,7 @@ put-requires c κs = search needs
 returns : tie.Need-returns
 returns c =
     let s = c .before .before .before in
-    makes-full (s .args .self) (c .put .result) (s .args .c) (s .args .b) (s .args .a) (s .args .returns) (s .pre) (c .before .if1 .taken) (c .put .ensures)
+    makes-full (s .args .self) (c .put .result) (s .args .c) (s .args .b) (s .args .a) (s .args .returns) (s .pre .0) (c .before .if1 .taken) (c .put .ensures)
 
 register-requires : tie.Need-register-requires
 register-requires c κs = search needs
@@ -18,16 +18,27 @@ register-requires c κs = search needs
 pass-requires : tie.Need-pass-requires
 pass-requires c κs = search needs
 
+answer-of-requires : tie.Need-answer-of-requires
+answer-of-requires c κs = search needs
+
 causing-requires : tie.Need-causing-requires
 causing-requires c κs = search needs
 
 returns-2 : tie.Need-returns-2
 returns-2 c =
-    let s = c .before .before .before .before .before .before in
-    makes-call (s .args .self) (c .before .pass .result) (c .causing .result) (s .args .c) (s .args .b) (s .args .a) (s .args .returns) (c .before .before .register .result)
-    (s .pre) (c .before .pass .ensures) (c .before .before .before .before .if1 .left) (c .before .before .register .ensures) (c .causing .ensures)
+    let x = c .before .before in
+    let s = x .before .before .before .before .before in
+    makes-call (s .args .self) (x .pass .result) (c .causing .result) (s .args .c) (s .args .b) (s .args .a) (s .args .returns) (c .before .answer-of .result) (x .before .register .result)
+    (s .pre .0) (x .pass .ensures) (x .before .before .before .if1 .left) (x .before .register .ensures) (c .before .answer-of .ensures) (c .causing .ensures)
 
 pub call-spec : {M : Type 1} → statement M
 call-spec =
     tie.close
-    (tie.spec put-requires returns register-requires pass-requires causing-requires returns-2)
+    (tie.spec
+    put-requires
+    returns
+    register-requires
+    pass-requires
+    answer-of-requires
+    causing-requires
+    returns-2)

@@ -7,7 +7,7 @@ use Rattle.scripts.specs.Frame.{withRegister}
 use Rattle.scripts.specs.Manager.{withTop, operated}
 use Rattle.managers.specs.Core.{standing}
 use Rattle.managers.specs.Moves.{pastOf}
-use Rattle.managers.proofs.Laws.Operations.{operation-made, operation-moved, operated-made, operated-read, operated-end, able-next, jump-near, read-field, write-field, send-method}
+use Rattle.managers.proofs.Laws.Operations.{operation-made, operation-moved, operated-made, operated-read, operated-end, able-next, jump-near, read-field, write-field, send-method, send-register}
 use Rattle.managers.proofs.Core.operate.Statement.{statement}
 use Rattle.managers.proofs.Core.operate.Tie as tie
 
@@ -90,7 +90,7 @@ send-requires c κs =
     let o = s .pre .0 in
     let g = c .before .step6 .given in
     let e = sym (s .pre .1) ∙ g .1 in
-    (able-next (s .args .session .now) (s .args .masks .now) (s .args .current .now) (s .args .seen .now) (s .args .self) o (op.Send (g .0 .0) (g .0 .1 .0) (g .0 .1 .1 .0)) e refl, o .leveled, o .sits, send-method (s .args .session .now) (s .args .masks .now) (s .args .current .now) (s .args .seen .now) (s .args .self) o (g .0 .0) (g .0 .1 .0) (g .0 .1 .1 .0) e)
+    (able-next (s .args .session .now) (s .args .masks .now) (s .args .current .now) (s .args .seen .now) (s .args .self) o (op.Send (g .0 .0) (g .0 .1 .0) (g .0 .1 .1 .0)) e refl, o .leveled, o .sits, send-register (s .args .session .now) (s .args .masks .now) (s .args .current .now) (s .args .seen .now) (s .args .self) o (g .0 .0) (g .0 .1 .0) (g .0 .1 .1 .0) e, send-method (s .args .session .now) (s .args .masks .now) (s .args .current .now) (s .args .seen .now) (s .args .self) o (g .0 .0) (g .0 .1 .0) (g .0 .1 .1 .0) e)
 
 enum-known-step-7 : tie.Need-enum-known-step-7
 enum-known-step-7 c = search needs

@@ -5,6 +5,7 @@ use Rattle.session.specs.declared.Value.the-variants.{Nil}
 use Rattle.scripts.specs.Frame.{withRegister}
 use Rattle.managers.proofs.Laws.Frames.{register-placed}
 use borrow.Author.Needs.{needs}
+use Rattle.managers.specs.Frames.{intoOf, returnsOf}
 use Rattle.managers.proofs.Core.popped.Statement.{statement}
 use Rattle.managers.proofs.Core.popped.Tie as tie
 
@@ -23,11 +24,11 @@ returns c =
     let f = s .args .self .top in
     let a = c .before .answered in
     let w = c .before .before .woken in
-    let v = cond (f .returns) (s .args .reply) Nil in
+    let v = cond (returnsOf (f .answer)) (s .args .reply) Nil in
     record {
       core-is = refl;
-      top-is = a .ensures .frame ∙ ap (λ g. withRegister g (f .into) v) (w .ensures .0);
-      top-placed = register-placed (s .args .session .now) (w .result) (a .result) (f .into) v (a .ensures) (w .ensures .1);
+      top-is = a .ensures .frame ∙ ap (λ g. withRegister g (intoOf (f .answer)) v) (w .ensures .0);
+      top-placed = register-placed (s .args .session .now) (w .result) (a .result) (intoOf (f .answer)) v (a .ensures) (w .ensures .1);
     }
 
 pub popped-spec : {M : Type 1} → statement M

@@ -53,7 +53,7 @@ cast-fork c =
     let e = sym (c .before .before .before .fate-of .ensures) ∙ c .before .fate .given .1 in
     omega (
       arith,
-      fork-present t (s .args .masks .now) (s .pre .1) _ _ (s .args .c) (c .before .fate .given .0 .0) (s .pre .2 .level) (s .pre .3 .0) (rw (c .before .before .before .before .before .level-of2 .ensures) at e),
+      fork-present t (s .args .masks .now) (s .pre .1) _ _ (s .args .c) (c .before .fate .given .0 .0) (s .pre .2 .level) (s .pre .4 .0) (rw (c .before .before .before .before .before .level-of2 .ensures) at e),
       few-levels t (accepted t (s .pre .1 .accepted) .three),
     )
 
@@ -66,7 +66,7 @@ returns c =
     let s = c .before .before .before .before .before .before .before .before .before .before in
     send-made (s .args .session .now) (s .args .masks .now) (s .pre .1) (s .args .self) (c .call .result) (s .args .a) (s .args .b) (s .args .c) (c .before .before .before .before .before .before .level-of .result) (c .before .before .before .before .before .level-of2 .result)
     (s .pre .2) (c .before .before .before .before .before .before .level-of .ensures) (c .before .before .before .before .before .level-of2 .ensures) fate.Call _ _
-    (sym (c .before .before .before .fate-of .ensures) ∙ c .before .enum-told .given .1) (c .call .ensures) (s .pre .3) (λ gs. refl)
+    (sym (c .before .before .before .fate-of .ensures) ∙ c .before .enum-told .given .1) (c .call .ensures) (s .pre .4) (λ gs. refl)
 
 returns-2 : tie.Need-returns-2
 unfolding sent
@@ -74,7 +74,7 @@ returns-2 c =
     let s = c .before .before .before .before .before .before .before .before .before .before in
     send-made (s .args .session .now) (s .args .masks .now) (s .pre .1) (s .args .self) (c .call2 .result) (s .args .a) (s .args .b) (s .args .c) (c .before .before .before .before .before .before .level-of .result) (c .before .before .before .before .before .level-of2 .result)
     (s .pre .2) (c .before .before .before .before .before .before .level-of .ensures) (c .before .before .before .before .before .level-of2 .ensures) fate.Discard _ _
-    (sym (c .before .before .before .fate-of .ensures) ∙ c .before .enum-told2 .given .1) (c .call2 .ensures) (s .pre .3) (λ gs. refl)
+    (sym (c .before .before .before .fate-of .ensures) ∙ c .before .enum-told2 .given .1) (c .call2 .ensures) (s .pre .4) (λ gs. refl)
 
 returns-3 : tie.Need-returns-3
 returns-3 c =
@@ -89,10 +89,10 @@ returns-4 c =
     let s = c .before .before .before .before .before .before .before .before .before .before .before in
     let u = c .before .before .fate .given .0 .0 in
     let e = sym (c .before .before .before .before .fate-of .ensures) ∙ c .before .before .fate .given .1 in
-    let there = fork-present (s .args .session .now) (s .args .masks .now) (s .pre .1) _ _ (s .args .c) u (s .pre .2 .level) (s .pre .3 .0) (rw (c .before .before .before .before .before .before .level-of2 .ensures) at e) in
+    let there = fork-present (s .args .session .now) (s .args .masks .now) (s .pre .1) _ _ (s .args .c) u (s .pre .2 .level) (s .pre .4 .0) (rw (c .before .before .before .before .before .before .level-of2 .ensures) at e) in
     send-made (s .args .session .now) (s .args .masks .now) (s .pre .1) (s .args .self) (c .fork .result) (s .args .a) (s .args .b) (s .args .c) (c .before .before .before .before .before .before .before .level-of .result) (c .before .before .before .before .before .before .level-of2 .result)
     (s .pre .2) (c .before .before .before .before .before .before .before .level-of .ensures) (c .before .before .before .before .before .before .level-of2 .ensures) (fate.Fork u) _ _
-    e (c .fork .ensures) (there, s .pre .3) (λ gs. refl)
+    e (c .fork .ensures) (there, s .pre .4) (λ gs. refl)
 
 pub send-spec : {M : Type 1} → statement M
 send-spec =

@@ -9,10 +9,14 @@ use types.Run.{OneOf, miss}
 use denote.Enum.Declared.{tagOf}
 use borrow.Author.Needs.{needs}
 use lib.Dec.{ltb, leb}
+use Rattle.session.specs.Program.{programOf}
 use Rattle.session.specs.declared.Value.{Value}
 use Rattle.scripts.specs.Limits.{maxFrames}
 use Rattle.scripts.specs.Ending.{isRunning}
+use Rattle.scripts.specs.Manager.{nextStep}
+use Rattle.managers.specs.Frames.{frameOf}
 use Rattle.managers.specs.Core.{isOver, isDone, Tall, Present}
+use Rattle.managers.specs.Moves.{causing, Operable, Operated}
 use Rattle.managers.specs.declared.Core.{Core}
 use Rattle.managers.specs.declared.frames.Waiting.{Waiting}
 use Rattle.managers.specs.declared.Effect.{Effect}
@@ -63,10 +67,18 @@ next-step-requires c κs =
     let t = c .before .before .before .loop .inv .0 in
     (t .able .indexed .accepted, t .sits .top)
 
+-- a core with nothing left to do is as it was where that is said once more
+calm : (c : Core) → c .effect ≡ Nothing → causing c Nothing ≡ c
+calm c q = ap (causing c) (sym q)
+
+causing-requires-2 : tie.Need-causing-requires-2 Inv-loop μ-loop Inv-loop2 μ-loop2
+causing-requires-2 c κs = search needs
+
 operate-requires : tie.Need-operate-requires Inv-loop μ-loop Inv-loop2 μ-loop2
 operate-requires c κs =
-    let at = c .before .before in
-    (turning-operable _ _ _ _ _ _ _ _ _ _ _ (at .before .before .loop .inv .0) (go at .0) (go at .1), c .next-step .ensures)
+    let at = c .before .before .before in
+    let is = c .causing2 .ensures ∙ calm (at .before .before .loop .core) (go at .0) in
+    (subst (Operable _ _ _ _) (sym is) (turning-operable _ _ _ _ _ _ _ _ _ _ _ (at .before .before .loop .inv .0) (go at .0) (go at .1)), c .before .next-step .ensures ∙ ap (λ z. nextStep (programOf (start (at .before .before) .args .session .now)) (frameOf (z .top))) (sym is))
 
 enum-known-effect : tie.Need-enum-known-effect Inv-loop μ-loop Inv-loop2 μ-loop2
 enum-known-effect c = search needs
@@ -80,18 +92,25 @@ abbrev Now : tie.At-loop Inv-loop μ-loop Inv-loop2 μ-loop2 → Core → List W
 Now l c ws =
     Turning (start l .args .session .now) (start l .args .masks .now) (start l .args .index .now) (start l .args .current .now) (start l .args .seen .now) (start l .args .all) (start l .args .limit) (l .before .before .causing .result) (start l .args .self .waiting) c ws
 
+-- the operation, by the core that it was made of
+operated : (x : tie.After-operate Inv-loop μ-loop Inv-loop2 μ-loop2) → Operated (start (x .before .before .before .before .before .before) .args .session .now) (start (x .before .before .before .before .before .before) .args .current .now) (start (x .before .before .before .before .before .before) .args .seen .now) (start (x .before .before .before .before .before .before) .args .all) (x .before .before .before .before .before .before .loop .core) (x .operate .result)
+operated x =
+    let at = x .before .before .before .before in
+    let s = start (at .before .before) in
+    subst (λ z. Operated (s .args .session .now) (s .args .current .now) (s .args .seen .now) (s .args .all) z (x .operate .result)) (x .before .causing2 .ensures ∙ calm (at .before .before .loop .core) (go at .0)) (x .operate .ensures)
+
 -- the operation's outcome
-made : (x : tie.After-operate Inv-loop μ-loop Inv-loop2 μ-loop2) → Now (x .before .before .before .before .before) (x .operate .result) (x .before .before .before .before .before .loop .waiting)
+made : (x : tie.After-operate Inv-loop μ-loop Inv-loop2 μ-loop2) → Now (x .before .before .before .before .before .before) (x .operate .result) (x .before .before .before .before .before .before .loop .waiting)
 made x =
-    let at = x .before .before .before in
-    turning-made _ _ _ _ _ _ _ _ _ _ _ (at .before .before .loop .inv .0) (go at .0) (go at .1) (x .operate .result) (x .operate .ensures)
+    let at = x .before .before .before .before in
+    turning-made _ _ _ _ _ _ _ _ _ _ _ (at .before .before .loop .inv .0) (go at .0) (go at .1) (x .operate .result) (operated x)
 
 sub-at : tie.Need-sub-at Inv-loop μ-loop Inv-loop2 μ-loop2
 sub-at c = made (c .before .before .before .before .before) .sits .some (ap isOver (c .before .before .before .effect .given .1))
 
 -- there is room for the frame that a call makes, and a frame below the one that pops
-room-above : (x : tie.After-operate Inv-loop μ-loop Inv-loop2 μ-loop2) (o n i : ℕ) (returns : Bool) (v : Value) → x .operate .result .effect ≡ Call o n i returns v → x .operate .result .height < maxFrames
-room-above x o n i returns v e = subst (λ z. Tall z (x .operate .result .height)) e (made x .sits .tall)
+room-above : (x : tie.After-operate Inv-loop μ-loop Inv-loop2 μ-loop2) (o n i : ℕ) (v : Value) → x .operate .result .effect ≡ Call o n i v → x .operate .result .height < maxFrames
+room-above x o n i v e = subst (λ z. Tall z (x .operate .result .height)) e (made x .sits .tall)
 
 frames-below : (x : tie.After-operate Inv-loop μ-loop Inv-loop2 μ-loop2) (v : Value) → x .operate .result .effect ≡ Pop v → 1 < x .operate .result .height
 frames-below x v e = subst (λ z. Tall z (x .operate .result .height)) e (made x .sits .tall)
@@ -110,7 +129,7 @@ mul-waiting c = search needs
 array-set-from-waiting : tie.Need-array-set-from-waiting Inv-loop μ-loop Inv-loop2 μ-loop2
 array-set-from-waiting c =
     let x = c .before .before .before .before in
-    let room = room-above (x .before .before) _ _ _ _ _ (x .effect .given .1) in
+    let room = room-above (x .before .before) _ _ _ _ (x .effect .given .1) in
     let some = made (x .before .before) .sits .some (ap isOver (x .effect .given .1)) in
     omega (arith, room, some)
 
@@ -118,21 +137,21 @@ array-set-from-waiting c =
 pushed-requires : tie.Need-pushed-requires Inv-loop μ-loop Inv-loop2 μ-loop2
 pushed-requires c κs =
     let x = c .before .before .before .before in
-    (made (x .before .before) .able .indexed, subst (Present (start (x .before .before .before .before .before .before .before) .args .session .now)) (x .effect .given .1) (made (x .before .before) .present), room-above (x .before .before) _ _ _ _ _ (x .effect .given .1))
+    (made (x .before .before) .able .indexed, subst (Present (start (x .before .before .before .before .before .before .before .before) .args .session .now)) (x .effect .given .1) (made (x .before .before) .present), room-above (x .before .before) _ _ _ _ (x .effect .given .1))
 
 -- src/lib.rt:189:9
 loop-less : tie.Need-loop-less Inv-loop μ-loop Inv-loop2 μ-loop2
 loop-less c =
     let x = c .before .before .before .before .before in
-    let at = x .before .before .before .before .before in
-    pushed-less _ _ _ _ _ _ _ _ _ _ _ (at .before .before .loop .inv .0) (go at .0) (go at .1) _ (x .before .before .operate .ensures) _ _ _ _ _ (x .effect .given .1) _ (c .before .set-aside .ensures) _ (c .pushed .ensures)
+    let at = x .before .before .before .before .before .before in
+    pushed-less _ _ _ _ _ _ _ _ _ _ _ (at .before .before .loop .inv .0) (go at .0) (go at .1) _ (operated (x .before .before)) _ _ _ _ (x .effect .given .1) _ (c .before .set-aside .ensures) _ (c .pushed .ensures)
 
 -- src/lib.rt:189:9
 loop-again : tie.Need-loop-again Inv-loop μ-loop Inv-loop2 μ-loop2
 loop-again c =
     let x = c .before .before .before .before .before in
-    let at = x .before .before .before .before .before in
-    (turning-pushed _ _ _ _ _ _ _ _ _ _ _ (at .before .before .loop .inv .0) (go at .0) (go at .1) _ (x .before .before .operate .ensures) _ _ _ _ _ (x .effect .given .1) _ (c .before .set-aside .ensures) _ (c .pushed .ensures), ap (λ z. isDone (z .effect)) (c .pushed .ensures .core-is))
+    let at = x .before .before .before .before .before .before in
+    (turning-pushed _ _ _ _ _ _ _ _ _ _ _ (at .before .before .loop .inv .0) (go at .0) (go at .1) _ (operated (x .before .before)) _ _ _ _ (x .effect .given .1) _ (c .before .set-aside .ensures) _ (c .pushed .ensures), ap (λ z. isDone (z .effect)) (c .pushed .ensures .core-is))
 
 -- src/lib.rt:206:39
 enum-known-effect-2 : tie.Need-enum-known-effect-2 Inv-loop μ-loop Inv-loop2 μ-loop2
@@ -168,15 +187,15 @@ popped-requires c κs =
 loop-less-2 : tie.Need-loop-less-2 Inv-loop μ-loop Inv-loop2 μ-loop2
 loop-less-2 c =
     let x = c .before .before .before .before .before .before .before in
-    let at = x .before .before .before in
-    popped-less _ _ _ _ _ _ _ _ _ _ _ (at .before .before .loop .inv .0) (go at .0) (go at .1) _ (x .operate .ensures) _ (c .before .before .before .before .effect2 .given .1) _ (c .popped .ensures)
+    let at = x .before .before .before .before in
+    popped-less _ _ _ _ _ _ _ _ _ _ _ (at .before .before .loop .inv .0) (go at .0) (go at .1) _ (operated x) _ (c .before .before .before .before .effect2 .given .1) _ (c .popped .ensures)
 
 -- src/lib.rt:189:9
 loop-again-2 : tie.Need-loop-again-2 Inv-loop μ-loop Inv-loop2 μ-loop2
 loop-again-2 c =
     let x = c .before .before .before .before .before .before .before in
-    let at = x .before .before .before in
-    (turning-popped _ _ _ _ _ _ _ _ _ _ _ (at .before .before .loop .inv .0) (go at .0) (go at .1) _ (x .operate .ensures) _ (c .before .before .before .before .effect2 .given .1) _ (c .popped .ensures), ap (λ z. isDone (z .effect)) (c .popped .ensures .core-is))
+    let at = x .before .before .before .before in
+    (turning-popped _ _ _ _ _ _ _ _ _ _ _ (at .before .before .loop .inv .0) (go at .0) (go at .1) _ (operated x) _ (c .before .before .before .before .effect2 .given .1) _ (c .popped .ensures), ap (λ z. isDone (z .effect)) (c .popped .ensures .core-is))
 
 -- an effect of another tag than a call's and a pop's
 other : (e : Effect) → OneOf (0 ∷ 1 ∷ 2 ∷ 3 ∷ 4 ∷ 6 ∷ []) (tagOf effect.the-type e) → OneOf (0 ∷ 1 ∷ 2 ∷ 3 ∷ 4 ∷ 5 ∷ []) (tagOf effect.the-type e) → isDone e ≡ true
@@ -184,15 +203,15 @@ other Nothing h k = refl
 other End h k = refl
 other (Write object field value) h k = refl
 other (Read object field) h k = refl
-other (Fork level message) h k = refl
-other (Call object name into returns parameter) h k = absurd (miss (0 ∷ 1 ∷ 2 ∷ 3 ∷ 4 ∷ 6 ∷ []) 5 tt h)
+other (Fork level object name parameter) h k = refl
+other (Call object name answer parameter) h k = absurd (miss (0 ∷ 1 ∷ 2 ∷ 3 ∷ 4 ∷ 6 ∷ []) 5 tt h)
 other (Pop reply) h k = absurd (miss (0 ∷ 1 ∷ 2 ∷ 3 ∷ 4 ∷ 5 ∷ []) 6 tt k)
 
 loop-less-3 : tie.Need-loop-less-3 Inv-loop μ-loop Inv-loop2 μ-loop2
 loop-less-3 c =
     let x = c .before .before in
-    let at = x .before .before .before in
-    turning-less _ _ _ _ _ _ _ _ _ _ _ (at .before .before .loop .inv .0) (go at .0) (go at .1) _ (x .operate .ensures) (other (x .operate .result .effect) (c .before .match .keys2) (c .match2 .keys2))
+    let at = x .before .before .before .before in
+    turning-less _ _ _ _ _ _ _ _ _ _ _ (at .before .before .loop .inv .0) (go at .0) (go at .1) _ (operated x) (other (x .operate .result .effect) (c .before .match .keys2) (c .match2 .keys2))
 
 -- src/lib.rt:189:9
 loop-again-3 : tie.Need-loop-again-3 Inv-loop μ-loop Inv-loop2 μ-loop2
@@ -239,20 +258,20 @@ popped-requires-2 c κs =
     (t .indexed, lowering-waits _ _ _ _ _ t (c-pops (c .before .before)), omega arith)
 
 -- src/lib.rt:215:13
-causing-requires-2 : tie.Need-causing-requires-2 Inv-loop μ-loop Inv-loop2 μ-loop2
-causing-requires-2 c κs = search needs
+causing-requires-3 : tie.Need-causing-requires-3 Inv-loop μ-loop Inv-loop2 μ-loop2
+causing-requires-3 c κs = search needs
 
 -- src/lib.rt:211:9
 loop2-less : tie.Need-loop2-less Inv-loop μ-loop Inv-loop2 μ-loop2
 loop2-less c =
     let x = c .before .before .before .before in
-    lowering-less _ _ _ _ _ (x .before .before .loop2 .inv) (c-pops x) _ (c .before .popped2 .ensures) _ (c .causing2 .ensures)
+    lowering-less _ _ _ _ _ (x .before .before .loop2 .inv) (c-pops x) _ (c .before .popped2 .ensures) _ (c .causing3 .ensures)
 
 -- src/lib.rt:211:9
 loop2-again : tie.Need-loop2-again Inv-loop μ-loop Inv-loop2 μ-loop2
 loop2-again c =
     let x = c .before .before .before .before in
-    lowering-on _ _ _ _ _ (x .before .before .loop2 .inv) (c-pops x) _ (c .before .popped2 .ensures) _ (c .causing2 .ensures)
+    lowering-on _ _ _ _ _ (x .before .before .loop2 .inv) (c-pops x) _ (c .before .popped2 .ensures) _ (c .causing3 .ensures)
 
 -- src/lib.rt:217:9
 closed-requires : tie.Need-closed-requires Inv-loop μ-loop Inv-loop2 μ-loop2
@@ -278,6 +297,7 @@ advance-spec =
     loop-holds
     goes-on-requires
     next-step-requires
+    causing-requires-2
     operate-requires
     enum-known-effect
     cast-at
@@ -305,7 +325,7 @@ advance-spec =
     mul-popped-2
     array-copy-out-popped-2
     popped-requires-2
-    causing-requires-2
+    causing-requires-3
     loop2-less
     loop2-again
     closed-requires

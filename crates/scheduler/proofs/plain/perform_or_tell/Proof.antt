@@ -19,8 +19,8 @@ not-read Nothing h = refl
 not-read End h = refl
 not-read (Write o k v) h = refl
 not-read (Read o k) h = absurd (miss (0 ∷ 1 ∷ 2 ∷ 4 ∷ 5 ∷ 6 ∷ []) 3 tt h)
-not-read (Fork u message) h = refl
-not-read (Call o b a r v) h = refl
+not-read (Fork u o b v) h = refl
+not-read (Call o b a v) h = refl
 not-read (Pop v) h = refl
 
 enum-known-effect : tie.Need-enum-known-effect

@@ -14,15 +14,21 @@ use borrow.Author.Needs.{needs}
 use borrow.Author.Tests.{not-true, not-false}
 use Rattle.lattice.proofs.Laws.Range.{not-both}
 use Rattle.session.specs.declared.Value.the-variants.{Nil}
+use Rattle.session.proofs.Laws.Lists.{holds, fails, truth}
 use Rattle.scripts.specs.Ending.{isRunning}
 use Rattle.scripts.specs.declared.Ending.the-variants.{Running}
+use Rattle.managers.specs.Core.{isAsking}
+use Rattle.managers.specs.declared.Effect.{Effect}
 use Rattle.managers.specs.declared.Effect.the-variants.{Nothing}
 use Rattle.managers.specs.declared.Manager.{Manager}
+use Rattle.managers.proofs.Effect as effect
+use Rattle.level_managers.specs.Kept.{Words}
 use Rattle.level_managers.specs.Permits.{isGiven}
 use Rattle.level_managers.specs.declared.tallies.Permit.{Permit}
 use Rattle.level_managers.specs.declared.tallies.Permit.the-variants.{Given, Absent, Idle, Blocked}
 use Rattle.level_managers.proofs.tallies.Permit as permit
-use Rattle.scheduler.proofs.Laws.Listed.{ListLoop, list-start, list-counted, list-fits, list-finished, list-unended, list-refused, list-present, list-may, list-fresh, list-again}
+use Rattle.level_managers.proofs.Laws.Script.{asking}
+use Rattle.scheduler.proofs.Laws.Listed.{ListLoop, list-start, list-counted, list-fits, list-finished, list-unended, list-refused, Permitted, permitted, list-present, list-numbers, list-starts, list-started, list-able, list-made, list-tells, list-able-told, list-forgets, list-answered, list-performs, list-done}
 use Rattle.scheduler.proofs.timetable.run.Statement.{statement}
 use Rattle.scheduler.proofs.timetable.run.Tie as tie
 
@@ -39,7 +45,7 @@ none =
         height = 0;
         ending = Running;
         reply = Nil;
-        top = record { object = 0; name = 0; next = 0; start = 0; count = 0; into = 0; returns = false; r0 = Nil; r1 = Nil; r2 = Nil; r3 = Nil };
+        top = record { object = 0; name = 0; next = 0; start = 0; count = 0; answer = 0; r0 = Nil; r1 = Nil; r2 = Nil; r3 = Nil };
         effect = Nothing;
       };
       waiting = [];
@@ -52,8 +58,19 @@ not-given Absent h e = not-both (isGiven Given) refl (sym (ap isGiven e))
 not-given Idle h e = not-both (isGiven Given) refl (sym (ap isGiven e))
 not-given Blocked h e = not-both (isGiven Given) refl (sym (ap isGiven e))
 
+-- an effect of another tag than a READ's
+asks-nothing : (e : Effect) → OneOf (0 ∷ 1 ∷ 2 ∷ 4 ∷ 5 ∷ 6 ∷ []) (tagOf effect.the-type e) → isAsking e ≡ false
+asks-nothing e h = elim (truth (isAsking e)) [
+  | fails q ↦ q
+  | holds q ↦ let (o, (k, is)) = asking e q in absurd (miss (0 ∷ 1 ∷ 2 ∷ 4 ∷ 5 ∷ 6 ∷ []) 3 tt (rw is at h))
+]
+
+-- the bytes of a manager
+abbrev managerBytes : ℕ
+managerBytes = 376
+
 -- the place of a manager in the array
-small : (n : ℕ) → n < 8 → Fits w64 (n * 400)
+small : (n : ℕ) → n < 8 → Fits w64 (n * managerBytes)
 small n h = record { fits = omega (arith, h) }
 
 abbrev Inv-loop : tie.InvT-loop
@@ -63,13 +80,27 @@ Inv-loop session timetable masks index current₀ ended₀ tallies₀ queue₀ w
 abbrev μ-loop : tie.MeasureT-loop
 μ-loop session timetable masks index current₀ ended₀ tallies₀ queue₀ work₀ managers₀ seen₀ i₀ i-end current ended tallies queue work managers seen i = length timetable - i
 
+-- the words that it is called with, and those at the loop's head
+abbrev entry : tie.Start Inv-loop μ-loop → Words
+entry z =
+    record { current = z .args .current .now; ended = z .args .ended .now; tallies = z .args .tallies .now; queue = z .args .queue .now; work = z .args .work .now }
+
+abbrev reached : tie.At-loop Inv-loop μ-loop → Words
+reached c =
+    record { current = c .loop .current; ended = c .loop .ended; tallies = c .loop .tallies; queue = c .loop .queue; work = c .loop .work }
+
+-- a step that is permitted
+here : (c : tie.After-enum-told Inv-loop μ-loop) → Permitted (c .before .before .before .before .before .before .before .before .before .before .before .before .before .before .before .before .before .before .before .args .session .now) (c .before .before .before .before .before .before .before .before .before .before .before .before .before .before .before .before .before .before .before .args .masks .now) (c .before .before .before .before .before .before .before .before .before .before .before .before .before .before .before .before .before .before .before .args .index .now) (c .before .before .before .before .before .before .before .before .before .before .before .before .before .before .before .before .before .before .before .args .timetable .now) none (entry (c .before .before .before .before .before .before .before .before .before .before .before .before .before .before .before .before .before .before .before)) (reached (c .before .before .before .before .before .before .before .before)) (c .before .before .before .before .before .before .before .before .loop .managers) (c .before .before .before .before .before .before .before .before .loop .seen) (c .before .before .before .before .before .before .before .before .loop .i) (c .before .before .before .before .ask .last .1 .0)
+here c =
+    let a = c .before .before .before .before .ask in
+    permitted (c .before .before .before .before .before .before .before .before .before .before .before .before .before .before .before .before .before .before .before .pre .0) (c .before .before .before .before .before .before .before .before .loop .inv) (c .before .before .before .before .before .before .before .loop-test .taken) (a .ensures .0) (a .ensures .1) (c .enum-told .given .1)
+
 none-requires : tie.Need-none-requires Inv-loop μ-loop
 none-requires c κs = search needs
 
 loop-holds : tie.Need-loop-holds Inv-loop μ-loop
 loop-holds c =
-    let z = c .before .before .before .before .before .before .before .before .before .before in
-    list-start (z .args .timetable .now) none (z .pre .0 .leveled) (ap (λ m. isRunning (m .core .ending)) (c .none .ensures)) (z .pre .1)
+    list-start (c .before .before .before .before .before .before .before .before .before .before .args .timetable .now) none (c .before .before .before .before .before .before .before .before .before .before .pre .0 .leveled) (ap (λ m. isRunning (m .core .ending)) (c .none .ensures)) (c .before .before .before .before .before .before .before .before .before .before .pre .1)
 
 shared-slice-read-level : tie.Need-shared-slice-read-level Inv-loop μ-loop
 shared-slice-read-level c = search needs
@@ -78,13 +109,15 @@ cast-level : tie.Need-cast-level Inv-loop μ-loop
 cast-level c = omega (arith, c .shared-slice-known5 .given (c .before .before .loop .i))
 
 ask-requires : tie.Need-ask-requires Inv-loop μ-loop
-ask-requires c κs = list-counted (c .before .before .before .before .before .before .before .before .before .before .before .before .before .before .pre .0 .leveled) (c .before .before .before .loop .inv)
+ask-requires c κs =
+    list-counted (c .before .before .before .before .before .before .before .before .before .before .before .before .before .before .pre .0 .leveled) (c .before .before .before .loop .inv)
 
 enum-told : tie.Need-enum-told Inv-loop μ-loop
 enum-told c = search (needs, c .match .keys1)
 
 cast-refused-at : tie.Need-cast-refused-at Inv-loop μ-loop
-cast-refused-at c = record { fits = list-fits (c .before .before .before .before .before .before .before .before .before .before .before .before .before .before .before .before .before .before .pre .0 .leveled) (c .before .before .before .before .before .before .before .loop .inv) }
+cast-refused-at c =
+    record { fits = list-fits (c .before .before .before .before .before .before .before .before .before .before .before .before .before .before .before .before .before .before .pre .0 .leveled) (c .before .before .before .before .before .before .before .loop .inv) }
 
 refused-at-requires : tie.Need-refused-at-requires Inv-loop μ-loop
 refused-at-requires c κs = search needs
@@ -96,7 +129,8 @@ same-length-2 : tie.Need-same-length-2 Inv-loop μ-loop
 same-length-2 c = c .before .before .before .before .before .before .before .before .loop .inv .ended-long
 
 same-length-3 : tie.Need-same-length-3 Inv-loop μ-loop
-same-length-3 c = c .before .before .before .before .ask .kept .1 .0 ∙ c .before .before .before .before .before .before .before .before .loop .inv .tallies-long
+same-length-3 c =
+    c .before .before .before .before .ask .kept .1 .0 ∙ c .before .before .before .before .before .before .before .before .loop .inv .tallies-long
 
 same-length-4 : tie.Need-same-length-4 Inv-loop μ-loop
 same-length-4 c = c .before .before .before .before .before .before .before .before .loop .inv .queue-long
@@ -110,38 +144,153 @@ returns c =
     let l = c .before .before .before .before .before .before .before .before .loop in
     (list-refused (c .before .before .before .before .before .before .before .before .before .before .before .before .before .before .before .before .before .before .before .pre .0 .leveled) (l .inv) (c .before .before .before .before .before .before .before .loop-test .taken) (a .ensures .0) (a .ensures .1) (not-given (a .result) (c .before .match .keys2)) (record { current = l .current; ended = l .ended; tallies = a .last .1 .0; queue = l .queue; work = l .work }) (c .refused-at .ensures), l .inv .rest)
 
-slice-aggregate-step : tie.Need-slice-aggregate-step Inv-loop μ-loop
-slice-aggregate-step c = search (needs, c .before .before .before .before .before .before .before .before .before .before .before .before .before .before .loop .inv .seen-long)
+is-busy-requires : tie.Need-is-busy-requires Inv-loop μ-loop
+is-busy-requires c κs = list-numbers (here (c .before))
 
-mul-step : tie.Need-mul-step Inv-loop μ-loop
-mul-step c = small _ (list-present (c .before .before .before .before .before .before .before .before .before .before .before .before .before .before .before .before .before .before .before .before .before .before .before .before .before .pre .0 .leveled) (c .before .before .before .before .before .before .before .before .before .before .before .before .before .before .loop .inv) (c .before .before .before .before .before .before .before .before .before .before .before .before .before .loop-test .taken) (c .before .before .before .before .before .before .before .before .before .before .ask .ensures .0) (c .before .before .before .before .before .before .before .before .before .before .ask .ensures .1) (c .before .before .before .before .before .before .enum-told .given .1))
-
-array-copy-out-step : tie.Need-array-copy-out-step Inv-loop μ-loop
-array-copy-out-step c = list-present (c .before .before .before .before .before .before .before .before .before .before .before .before .before .before .before .before .before .before .before .before .before .before .before .before .before .pre .0 .leveled) (c .before .before .before .before .before .before .before .before .before .before .before .before .before .before .loop .inv) (c .before .before .before .before .before .before .before .before .before .before .before .before .before .loop-test .taken) (c .before .before .before .before .before .before .before .before .before .before .ask .ensures .0) (c .before .before .before .before .before .before .before .before .before .before .ask .ensures .1) (c .before .before .before .before .before .before .enum-told .given .1)
-
-step-requires : tie.Need-step-requires Inv-loop μ-loop
-step-requires c κs =
-    (c .before .before .before .before .before .before .before .before .before .before .before .before .before .before .before .before .before .before .before .before .before .before .before .before .before .before .pre .0, (list-may (c .before .before .before .before .before .before .before .before .before .before .before .before .before .before .before .before .before .before .before .before .before .before .before .before .before .before .pre .0 .leveled) (c .before .before .before .before .before .before .before .before .before .before .before .before .before .before .before .loop .inv) (c .before .before .before .before .before .before .before .before .before .before .before .before .before .before .loop-test .taken) (c .before .before .before .before .before .before .before .before .before .before .before .ask .ensures .0) (c .before .before .before .before .before .before .before .before .before .before .before .ask .ensures .1) (c .before .before .before .before .before .before .before .enum-told .given .1), list-fresh (c .before .before .before .before .before .before .before .before .before .before .before .before .before .before .before .before .before .before .before .before .before .before .before .before .before .before .pre .0 .leveled) (c .before .before .before .before .before .before .before .before .before .before .before .before .before .before .before .loop .inv) (c .before .before .before .before .before .before .before .before .before .before .before .before .before .before .loop-test .taken) (c .before .before .before .before .before .before .before .before .before .before .before .ask .ensures .0) (c .before .before .before .before .before .before .before .before .before .before .before .ask .ensures .1) (c .before .before .before .before .before .before .before .enum-told .given .1)))
+start-requires : tie.Need-start-requires Inv-loop μ-loop
+start-requires c κs =
+    list-starts (here (c .before .before .before .before .before .before)) (sym (c .before .before .before .before .is-busy .ensures) ∙ not-true (c .before .before .before .before .is-busy .result) (c .before .before .before .if1 .taken))
 
 mul-managers : tie.Need-mul-managers Inv-loop μ-loop
-mul-managers c = small _ (list-present (c .before .before .before .before .before .before .before .before .before .before .before .before .before .before .before .before .before .before .before .before .before .before .before .before .before .before .before .before .before .before .before .before .before .before .before .before .before .before .pre .0 .leveled) (c .before .before .before .before .before .before .before .before .before .before .before .before .before .before .before .before .before .before .before .before .before .before .before .before .before .before .before .loop .inv) (c .before .before .before .before .before .before .before .before .before .before .before .before .before .before .before .before .before .before .before .before .before .before .before .before .before .before .loop-test .taken) (c .before .before .before .before .before .before .before .before .before .before .before .before .before .before .before .before .before .before .before .before .before .before .before .ask .ensures .0) (c .before .before .before .before .before .before .before .before .before .before .before .before .before .before .before .before .before .before .before .before .before .before .before .ask .ensures .1) (c .before .before .before .before .before .before .before .before .before .before .before .before .before .before .before .before .before .before .before .enum-told .given .1))
+mul-managers c =
+    small _ (list-present (here (c .before .before .before .before .before .before .before .before .before .before .before)))
 
 array-set-from-managers : tie.Need-array-set-from-managers Inv-loop μ-loop
-array-set-from-managers c = list-present (c .before .before .before .before .before .before .before .before .before .before .before .before .before .before .before .before .before .before .before .before .before .before .before .before .before .before .before .before .before .before .before .before .before .before .before .before .before .before .pre .0 .leveled) (c .before .before .before .before .before .before .before .before .before .before .before .before .before .before .before .before .before .before .before .before .before .before .before .before .before .before .before .loop .inv) (c .before .before .before .before .before .before .before .before .before .before .before .before .before .before .before .before .before .before .before .before .before .before .before .before .before .before .loop-test .taken) (c .before .before .before .before .before .before .before .before .before .before .before .before .before .before .before .before .before .before .before .before .before .before .before .ask .ensures .0) (c .before .before .before .before .before .before .before .before .before .before .before .before .before .before .before .before .before .before .before .before .before .before .before .ask .ensures .1) (c .before .before .before .before .before .before .before .before .before .before .before .before .before .before .before .before .before .before .before .enum-told .given .1)
+array-set-from-managers c =
+    list-present (here (c .before .before .before .before .before .before .before .before .before .before .before))
 
 add-i : tie.Need-add-i Inv-loop μ-loop
-add-i c = record { fits = omega (arith, list-fits (c .before .before .before .before .before .before .before .before .before .before .before .before .before .before .before .before .before .before .before .before .before .before .before .before .before .before .before .before .before .before .before .before .before .before .before .before .before .before .pre .0 .leveled) (c .before .before .before .before .before .before .before .before .before .before .before .before .before .before .before .before .before .before .before .before .before .before .before .before .before .before .before .loop .inv)) }
+add-i c =
+    let g = here (c .before .before .before .before .before .before .before .before .before .before .before) in
+    record { fits = omega (arith, list-fits (g .read .leveled) (g .loop)) }
 
 loop-less : tie.Need-loop-less Inv-loop μ-loop
-loop-less c = omega (arith, c .before .before .before .before .before .before .before .before .before .before .before .before .before .before .before .before .before .before .before .before .before .before .before .before .before .before .loop-test .taken)
+loop-less c =
+    omega (arith, here (c .before .before .before .before .before .before .before .before .before .before .before) .more)
 
 loop-again : tie.Need-loop-again Inv-loop μ-loop
 loop-again c =
-    let r = c .before .before .before .before .before .before .before .before .before .before .before .step in
-    list-again (c .before .before .before .before .before .before .before .before .before .before .before .before .before .before .before .before .before .before .before .before .before .before .before .before .before .before .before .before .before .before .before .before .before .before .before .before .before .before .pre .0 .leveled) (c .before .before .before .before .before .before .before .before .before .before .before .before .before .before .before .before .before .before .before .before .before .before .before .before .before .before .before .loop .inv) (c .before .before .before .before .before .before .before .before .before .before .before .before .before .before .before .before .before .before .before .before .before .before .before .before .before .before .loop-test .taken) (c .before .before .before .before .before .before .before .before .before .before .before .before .before .before .before .before .before .before .before .before .before .before .before .ask .ensures .0) (c .before .before .before .before .before .before .before .before .before .before .before .before .before .before .before .before .before .before .before .before .before .before .before .ask .ensures .1) (c .before .before .before .before .before .before .before .before .before .before .before .before .before .before .before .before .before .before .before .enum-told .given .1) (r .ensures) (r .kept .1 .1 .1 .1 .1 .1 .1 .1 .0) (r .kept .1 .1 .1 .0) (r .kept .1 .1 .1 .1 .0) (r .kept .1 .1 .1 .1 .1 .0) (c .before .before .before .before .before .before .before .before .before .before .before .before .before .before .before .before .before .before .before .before .before .before .before .ask .kept .1 .0) (r .kept .1 .1 .1 .1 .1 .1 .0) (r .kept .1 .1 .1 .1 .1 .1 .1 .0)
+    let r = c .before .before .before .before .start in
+    list-started (here (c .before .before .before .before .before .before .before .before .before .before .before)) (sym (c .before .before .before .before .before .before .before .before .before .is-busy .ensures) ∙ not-true (c .before .before .before .before .before .before .before .before .before .is-busy .result) (c .before .before .before .before .before .before .before .before .if1 .taken)) (r .ensures) (r .kept .1 .1 .0) (r .kept .1 .1 .1 .0)
+
+mul-m : tie.Need-mul-m Inv-loop μ-loop
+mul-m c = small _ (list-present (here (c .before .before .before)))
+
+array-copy-out-m : tie.Need-array-copy-out-m Inv-loop μ-loop
+array-copy-out-m c = list-present (here (c .before .before .before))
+
+slice-aggregate-step : tie.Need-slice-aggregate-step Inv-loop μ-loop
+slice-aggregate-step c =
+    search (needs, c .before .before .before .before .before .before .before .before .before .before .before .before .before .before .loop .inv .seen-long)
+
+step-requires : tie.Need-step-requires Inv-loop μ-loop
+step-requires c κs =
+    list-able (here (c .before .before .before .before .before .before)) (sym (c .before .before .before .before .is-busy .ensures) ∙ not-false (c .before .before .before .before .is-busy .result) (c .before .before .before .if1 .left))
+
+enum-known-effect : tie.Need-enum-known-effect Inv-loop μ-loop
+enum-known-effect c = search needs
+
+slice-aggregate-tell : tie.Need-slice-aggregate-tell Inv-loop μ-loop
+slice-aggregate-tell c =
+    search (needs, c .before .before .before .before .before .before .before .before .before .before .before .before .before .before .before .before .before .before .before .before .before .before .before .before .before .loop .inv .seen-long)
+
+tell-requires : tie.Need-tell-requires Inv-loop μ-loop
+tell-requires c κs =
+    list-tells (here (c .before .before .before .before .before .before .before .before .before .before .before .before .before .before .before .before .before)) (sym (c .before .before .before .before .before .before .before .before .before .before .before .before .before .before .before .is-busy .ensures) ∙ not-false (c .before .before .before .before .before .before .before .before .before .before .before .before .before .before .before .is-busy .result) (c .before .before .before .before .before .before .before .before .before .before .before .before .before .before .if1 .left)) (c .before .before .before .before .before .before .before .before .before .before .step .ensures) (c .before .before .before .before .before .before .before .effect .given .1)
+
+slice-aggregate-step-2 : tie.Need-slice-aggregate-step-2 Inv-loop μ-loop
+slice-aggregate-step-2 c =
+    search (needs, c .before .before .before .tell .kept .1 .1 .1 .1 .1 .1 .1 .0 ∙ c .before .before .before .before .before .before .before .before .before .before .before .before .before .before .before .before .before .before .before .before .before .before .before .before .before .before .before .before .before .loop .inv .seen-long)
+
+step-requires-2 : tie.Need-step-requires-2 Inv-loop μ-loop
+step-requires-2 c κs =
+    list-able-told (here (c .before .before .before .before .before .before .before .before .before .before .before .before .before .before .before .before .before .before .before .before .before)) (sym (c .before .before .before .before .before .before .before .before .before .before .before .before .before .before .before .before .before .before .before .is-busy .ensures) ∙ not-false (c .before .before .before .before .before .before .before .before .before .before .before .before .before .before .before .before .before .before .before .is-busy .result) (c .before .before .before .before .before .before .before .before .before .before .before .before .before .before .before .before .before .before .if1 .left)) (c .before .before .before .before .before .before .before .before .before .before .before .before .before .before .step .ensures) (c .before .before .before .before .before .before .before .before .before .before .before .effect .given .1) (c .before .before .before .tell .ensures)
+
+slice-aggregate-forget : tie.Need-slice-aggregate-forget Inv-loop μ-loop
+slice-aggregate-forget c =
+    search (needs, c .before .before .before .before .before .tell .kept .1 .1 .1 .1 .1 .1 .1 .0 ∙ c .before .before .before .before .before .before .before .before .before .before .before .before .before .before .before .before .before .before .before .before .before .before .before .before .before .before .before .before .before .before .before .loop .inv .seen-long)
+
+cast-forget : tie.Need-cast-forget Inv-loop μ-loop
+cast-forget c = search needs
+
+cast-forget-2 : tie.Need-cast-forget-2 Inv-loop μ-loop
+cast-forget-2 c =
+    let there = list-forgets (here (c .before .before .before .before .before .before .before .before .before .before .before .before .before .before .before .before .before .before .before .before .before .before .before)) (sym (c .before .before .before .before .before .before .before .before .before .before .before .before .before .before .before .before .before .before .before .before .before .is-busy .ensures) ∙ not-false (c .before .before .before .before .before .before .before .before .before .before .before .before .before .before .before .before .before .before .before .before .before .is-busy .result) (c .before .before .before .before .before .before .before .before .before .before .before .before .before .before .before .before .before .before .before .before .if1 .left)) (c .before .before .before .before .before .before .before .before .before .before .before .before .before .before .before .before .step .ensures) (c .before .before .before .before .before .before .before .before .before .before .before .before .before .effect .given .1) (c .before .before .before .before .before .tell .ensures) in
+    omega (arith, there .field)
+
+forget-requires : tie.Need-forget-requires Inv-loop μ-loop
+forget-requires c κs =
+    let there = list-forgets (here (c .before .before .before .before .before .before .before .before .before .before .before .before .before .before .before .before .before .before .before .before .before .before .before)) (sym (c .before .before .before .before .before .before .before .before .before .before .before .before .before .before .before .before .before .before .before .before .before .is-busy .ensures) ∙ not-false (c .before .before .before .before .before .before .before .before .before .before .before .before .before .before .before .before .before .before .before .before .before .is-busy .result) (c .before .before .before .before .before .before .before .before .before .before .before .before .before .before .before .before .before .before .before .before .if1 .left)) (c .before .before .before .before .before .before .before .before .before .before .before .before .before .before .before .before .step .ensures) (c .before .before .before .before .before .before .before .before .before .before .before .before .before .effect .given .1) (c .before .before .before .before .before .tell .ensures) in
+    record { room = there .room; object = there .object; field = omega (arith, there .field) }
+
+mul-managers-2 : tie.Need-mul-managers-2 Inv-loop μ-loop
+mul-managers-2 c =
+    small _ (list-present (here (c .before .before .before .before .before .before .before .before .before .before .before .before .before .before .before .before .before .before .before .before .before .before .before .before .before .before)))
+
+array-set-from-managers-2 : tie.Need-array-set-from-managers-2 Inv-loop μ-loop
+array-set-from-managers-2 c =
+    list-present (here (c .before .before .before .before .before .before .before .before .before .before .before .before .before .before .before .before .before .before .before .before .before .before .before .before .before .before))
+
+done-requires : tie.Need-done-requires Inv-loop μ-loop
+done-requires c κs =
+    let g = here (c .before .before .before .before .before .before .before .before .before .before .before .before .before .before .before .before .before .before .before .before .before .before .before .before .before .before .before .before .before .before .before) in
+    let busy = sym (c .before .before .before .before .before .before .before .before .before .before .before .before .before .before .before .before .before .before .before .before .before .before .before .before .before .before .before .before .before .is-busy .ensures) ∙ not-false (c .before .before .before .before .before .before .before .before .before .before .before .before .before .before .before .before .before .before .before .before .before .before .before .before .before .before .before .before .before .is-busy .result) (c .before .before .before .before .before .before .before .before .before .before .before .before .before .before .before .before .before .before .before .before .before .before .before .before .before .before .before .before .if1 .left) in
+    let made = list-answered g busy (c .before .before .before .before .before .before .before .before .before .before .before .before .before .before .before .before .before .before .before .before .before .before .before .before .step .ensures) (c .before .before .before .before .before .before .before .before .before .before .before .before .before .before .before .before .before .before .before .before .before .effect .given .1) (c .before .before .before .before .before .before .before .before .before .before .before .before .before .tell .ensures) (c .before .before .before .before .before .before .before .before .before .step2 .ensures) (c .before .before .before .before .before .before .before .forget .ensures) in
+    list-performs g busy made
+
+add-i-2 : tie.Need-add-i-2 Inv-loop μ-loop
+add-i-2 c =
+    let g = here (c .before .before .before .before .before .before .before .before .before .before .before .before .before .before .before .before .before .before .before .before .before .before .before .before .before .before .before .before .before .before .before .before .before .before .before .before .before .before .before .before .before .before) in
+    record { fits = omega (arith, list-fits (g .read .leveled) (g .loop)) }
+
+loop-less-2 : tie.Need-loop-less-2 Inv-loop μ-loop
+loop-less-2 c =
+    omega (arith, here (c .before .before .before .before .before .before .before .before .before .before .before .before .before .before .before .before .before .before .before .before .before .before .before .before .before .before .before .before .before .before .before .before .before .before .before .before .before .before .before .before .before .before) .more)
+
+loop-again-2 : tie.Need-loop-again-2 Inv-loop μ-loop
+loop-again-2 c =
+    let g = here (c .before .before .before .before .before .before .before .before .before .before .before .before .before .before .before .before .before .before .before .before .before .before .before .before .before .before .before .before .before .before .before .before .before .before .before .before .before .before .before .before .before .before) in
+    let busy = sym (c .before .before .before .before .before .before .before .before .before .before .before .before .before .before .before .before .before .before .before .before .before .before .before .before .before .before .before .before .before .before .before .before .before .before .before .before .before .before .before .before .is-busy .ensures) ∙ not-false (c .before .before .before .before .before .before .before .before .before .before .before .before .before .before .before .before .before .before .before .before .before .before .before .before .before .before .before .before .before .before .before .before .before .before .before .before .before .before .before .before .is-busy .result) (c .before .before .before .before .before .before .before .before .before .before .before .before .before .before .before .before .before .before .before .before .before .before .before .before .before .before .before .before .before .before .before .before .before .before .before .before .before .before .before .if1 .left) in
+    let made = list-answered g busy (c .before .before .before .before .before .before .before .before .before .before .before .before .before .before .before .before .before .before .before .before .before .before .before .before .before .before .before .before .before .before .before .before .before .before .before .step .ensures) (c .before .before .before .before .before .before .before .before .before .before .before .before .before .before .before .before .before .before .before .before .before .before .before .before .before .before .before .before .before .before .before .before .effect .given .1) (c .before .before .before .before .before .before .before .before .before .before .before .before .before .before .before .before .before .before .before .before .before .before .before .before .tell .ensures) (c .before .before .before .before .before .before .before .before .before .before .before .before .before .before .before .before .before .before .before .before .step2 .ensures) (c .before .before .before .before .before .before .before .before .before .before .before .before .before .before .before .before .before .before .forget .ensures) in
+    let r = c .before .before .before .before .before .before .before .before .before .before .done in
+    list-done g busy made (r .ensures) (c .before .before .before .before .before .before .before .before .before .before .before .before .before .before .before .before .before .before .forget .kept .0 ∙ c .before .before .before .before .before .before .before .before .before .before .before .before .before .before .before .before .before .before .before .before .before .before .before .before .tell .kept .1 .1 .1 .1 .1 .1 .1 .0) (r .kept .0) (r .kept .1 .0) (r .kept .1 .1 .0) (r .kept .1 .1 .1 .0) (r .kept .1 .1 .1 .1 .0)
+
+mul-managers-3 : tie.Need-mul-managers-3 Inv-loop μ-loop
+mul-managers-3 c =
+    small _ (list-present (here (c .before .before .before .before .before .before .before .before .before)))
+
+array-set-from-managers-3 : tie.Need-array-set-from-managers-3 Inv-loop μ-loop
+array-set-from-managers-3 c = list-present (here (c .before .before .before .before .before .before .before .before .before))
+
+done-requires-2 : tie.Need-done-requires-2 Inv-loop μ-loop
+done-requires-2 c κs =
+    let g = here (c .before .before .before .before .before .before .before .before .before .before .before .before .before .before) in
+    let busy = sym (c .before .before .before .before .before .before .before .before .before .before .before .before .is-busy .ensures) ∙ not-false (c .before .before .before .before .before .before .before .before .before .before .before .before .is-busy .result) (c .before .before .before .before .before .before .before .before .before .before .before .if1 .left) in
+    let x = c .before .before .before .before .before .before .before .step in
+    let made = list-made g busy (x .ensures) (asks-nothing (x .result .core .effect) (c .before .before .before .before .before .match2 .keys2)) in
+    list-performs g busy made
+
+add-i-3 : tie.Need-add-i-3 Inv-loop μ-loop
+add-i-3 c =
+    let g = here (c .before .before .before .before .before .before .before .before .before .before .before .before .before .before .before .before .before .before .before .before .before .before .before .before .before) in
+    record { fits = omega (arith, list-fits (g .read .leveled) (g .loop)) }
+
+loop-less-3 : tie.Need-loop-less-3 Inv-loop μ-loop
+loop-less-3 c =
+    omega (arith, here (c .before .before .before .before .before .before .before .before .before .before .before .before .before .before .before .before .before .before .before .before .before .before .before .before .before) .more)
+
+loop-again-3 : tie.Need-loop-again-3 Inv-loop μ-loop
+loop-again-3 c =
+    let g = here (c .before .before .before .before .before .before .before .before .before .before .before .before .before .before .before .before .before .before .before .before .before .before .before .before .before) in
+    let busy = sym (c .before .before .before .before .before .before .before .before .before .before .before .before .before .before .before .before .before .before .before .before .before .before .before .is-busy .ensures) ∙ not-false (c .before .before .before .before .before .before .before .before .before .before .before .before .before .before .before .before .before .before .before .before .before .before .before .is-busy .result) (c .before .before .before .before .before .before .before .before .before .before .before .before .before .before .before .before .before .before .before .before .before .before .if1 .left) in
+    let x = c .before .before .before .before .before .before .before .before .before .before .before .before .before .before .before .before .before .before .step in
+    let made = list-made g busy (x .ensures) (asks-nothing (x .result .core .effect) (c .before .before .before .before .before .before .before .before .before .before .before .before .before .before .before .before .match2 .keys2)) in
+    let r = c .before .before .before .before .before .before .before .before .before .before .done2 in
+    list-done g busy made (r .ensures) refl (r .kept .0) (r .kept .1 .0) (r .kept .1 .1 .0) (r .kept .1 .1 .1 .0) (r .kept .1 .1 .1 .1 .0)
 
 all-ended-requires : tie.Need-all-ended-requires Inv-loop μ-loop
-all-ended-requires c κs = list-counted (c .before .before .before .before .before .before .before .before .before .before .before .before .before .pre .0 .leveled) (c .before .before .loop .inv)
+all-ended-requires c κs =
+    list-counted (c .before .before .before .before .before .before .before .before .before .before .before .before .before .pre .0 .leveled) (c .before .before .loop .inv)
 
 same-length-6 : tie.Need-same-length-6 Inv-loop μ-loop
 same-length-6 c = c .before .before .before .before .loop .inv .current-long
@@ -161,7 +310,7 @@ same-length-10 c = c .before .before .before .before .loop .inv .work-long
 returns-2 : tie.Need-returns-2 Inv-loop μ-loop
 returns-2 c =
     let a = c .before .all-ended in
-    (list-unended (c .before .before .before .before .before .before .before .before .before .before .before .before .before .before .before .pre .0 .leveled) (c .before .before .before .before .loop .inv) (c .before .before .before .loop-test .left) (sym (a .ensures) ∙ not-true (a .result) (c .if1 .taken)), c .before .before .before .before .loop .inv .rest)
+    (list-unended (c .before .before .before .before .before .before .before .before .before .before .before .before .before .before .before .pre .0 .leveled) (c .before .before .before .before .loop .inv) (c .before .before .before .loop-test .left) (sym (a .ensures) ∙ not-true (a .result) (c .if2 .taken)), c .before .before .before .before .loop .inv .rest)
 
 same-length-11 : tie.Need-same-length-11 Inv-loop μ-loop
 same-length-11 c = c .before .before .before .before .loop .inv .current-long
@@ -181,9 +330,9 @@ same-length-15 c = c .before .before .before .before .loop .inv .work-long
 returns-3 : tie.Need-returns-3 Inv-loop μ-loop
 returns-3 c =
     let a = c .before .all-ended in
-    (list-finished (c .before .before .before .before .before .before .before .before .before .before .before .before .before .before .before .pre .0 .leveled) (c .before .before .before .before .loop .inv) (c .before .before .before .loop-test .left) (sym (a .ensures) ∙ not-false (a .result) (c .if1 .left)), c .before .before .before .before .loop .inv .rest)
+    (list-finished (c .before .before .before .before .before .before .before .before .before .before .before .before .before .before .before .pre .0 .leveled) (c .before .before .before .before .loop .inv) (c .before .before .before .loop-test .left) (sym (a .ensures) ∙ not-false (a .result) (c .if2 .left)), c .before .before .before .before .loop .inv .rest)
 
 pub run-spec : {M : Type 1} → statement M
 run-spec =
     tie.close
-    (tie.spec Inv-loop μ-loop none-requires loop-holds shared-slice-read-level cast-level ask-requires enum-told cast-refused-at refused-at-requires same-length same-length-2 same-length-3 same-length-4 same-length-5 returns slice-aggregate-step mul-step array-copy-out-step step-requires mul-managers array-set-from-managers add-i loop-less loop-again all-ended-requires same-length-6 same-length-7 same-length-8 same-length-9 same-length-10 returns-2 same-length-11 same-length-12 same-length-13 same-length-14 same-length-15 returns-3)
+    (tie.spec Inv-loop μ-loop none-requires loop-holds shared-slice-read-level cast-level ask-requires enum-told cast-refused-at refused-at-requires same-length same-length-2 same-length-3 same-length-4 same-length-5 returns is-busy-requires start-requires mul-managers array-set-from-managers add-i loop-less loop-again mul-m array-copy-out-m slice-aggregate-step step-requires enum-known-effect slice-aggregate-tell tell-requires slice-aggregate-step-2 step-requires-2 slice-aggregate-forget cast-forget cast-forget-2 forget-requires mul-managers-2 array-set-from-managers-2 done-requires add-i-2 loop-less-2 loop-again-2 mul-managers-3 array-set-from-managers-3 done-requires-2 add-i-3 loop-less-3 loop-again-3 all-ended-requires same-length-6 same-length-7 same-length-8 same-length-9 same-length-10 returns-2 same-length-11 same-length-12 same-length-13 same-length-14 same-length-15 returns-3)

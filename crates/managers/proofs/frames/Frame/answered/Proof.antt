@@ -1,5 +1,7 @@
 -- `managers::frames::Frame::answered` meets its contract. Assumes nothing.
 use borrow.Author.Needs.{needs}
+use borrow.Author.Tests.{le-leb, lt-leb}
+use Rattle.session.specs.Limits.{registers}
 use Rattle.managers.proofs.frames.Frame.answered.Statement.{statement}
 use Rattle.managers.proofs.frames.Frame.answered.Tie as tie
 
@@ -10,10 +12,10 @@ with-register-requires-2 : tie.Need-with-register-requires-2
 with-register-requires-2 c κs = search needs
 
 returns : tie.Need-returns
-returns c = rw (c .before .if1 .taken) (c .with-register .ensures)
+returns c = rw (le-leb registers _ (c .before .if1 .taken)) (c .with-register .ensures)
 
 returns-2 : tie.Need-returns-2
-returns-2 c = rw (c .before .if1 .left) (c .with-register2 .ensures)
+returns-2 c = rw (lt-leb registers _ (c .before .if1 .left)) (c .with-register2 .ensures)
 
 pub answered-spec : {M : Type 1} → statement M
 answered-spec =

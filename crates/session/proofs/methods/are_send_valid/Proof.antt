@@ -1,8 +1,8 @@
--- `session::scripts::are_send_valid` meets its contract. Assumes nothing.
+-- `session::methods::are_send_valid` meets its contract. Assumes nothing.
 use borrow.Author.Tests.{lt-ltb, le-ltb}
 use borrow.Author.Needs.{needs}
-use Rattle.session.proofs.scripts.are_send_valid.Statement.{statement}
-use Rattle.session.proofs.scripts.are_send_valid.Tie as tie
+use Rattle.session.proofs.methods.are_send_valid.Statement.{statement}
+use Rattle.session.proofs.methods.are_send_valid.Tie as tie
 
 returns : tie.Need-returns
 returns c = simp (le-ltb _ _ (c .if1 .taken))

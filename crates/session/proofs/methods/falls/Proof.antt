@@ -1,11 +1,11 @@
--- `session::scripts::falls` meets its contract. Assumes nothing.
+-- `session::methods::falls` meets its contract. Assumes nothing.
 use Prim.Native.Nat.{_+_, _-_}
 use mathlib.Core.Path.{_≡_}
 use native.Mathlib.Omega.{arith}
 use borrow.Author.Needs.{needs}
 use borrow.Author.Tests.{lt-ltb, le-ltb}
-use Rattle.session.proofs.scripts.falls.Statement.{statement}
-use Rattle.session.proofs.scripts.falls.Tie as tie
+use Rattle.session.proofs.methods.falls.Statement.{statement}
+use Rattle.session.proofs.methods.falls.Tie as tie
 
 sub-falls-after : tie.Need-sub-falls-after
 sub-falls-after c = search needs

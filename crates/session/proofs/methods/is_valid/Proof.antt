@@ -1,9 +1,9 @@
--- `session::scripts::is_valid` meets its contract. Assumes nothing.
+-- `session::methods::is_valid` meets its contract. Assumes nothing.
 use borrow.Author.Tests.{lt-ltb, le-ltb}
 use Rattle.session.specs.Questions.{stepValid}
 use borrow.Author.Needs.{needs}
-use Rattle.session.proofs.scripts.is_valid.Statement.{statement}
-use Rattle.session.proofs.scripts.is_valid.Tie as tie
+use Rattle.session.proofs.methods.is_valid.Statement.{statement}
+use Rattle.session.proofs.methods.is_valid.Tie as tie
 
 byte-at-requires : tie.Need-byte-at-requires
 byte-at-requires c κs = search needs

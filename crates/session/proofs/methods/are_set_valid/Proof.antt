@@ -1,11 +1,11 @@
--- `session::scripts::are_set_valid` meets its contract: the two parts of the unused bytes, one after the other. Assumes nothing.
+-- `session::methods::are_set_valid` meets its contract: the two parts of the unused bytes, one after the other. Assumes nothing.
 use borrow.Author.Tests.{lt-ltb, le-ltb}
 use mathlib.Core.Path.{sym, _∙_}
 use Rattle.session.specs.Record.{between, from}
 use Rattle.session.proofs.Laws.Record.{unused-or}
 use borrow.Author.Needs.{needs}
-use Rattle.session.proofs.scripts.are_set_valid.Statement.{statement}
-use Rattle.session.proofs.scripts.are_set_valid.Tie as tie
+use Rattle.session.proofs.methods.are_set_valid.Statement.{statement}
+use Rattle.session.proofs.methods.are_set_valid.Tie as tie
 
 returns : tie.Need-returns
 returns c = simp (le-ltb _ _ (c .if1 .taken))

@@ -1,10 +1,10 @@
--- `session::scripts::are_operands_valid` meets its contract: each operation's own test. Assumes nothing.
+-- `session::methods::are_operands_valid` meets its contract: each operation's own test. Assumes nothing.
 use native.Mathlib.Numerals.{add-one}
 use lib.Dec.{leb·suc-suc}
 use Rattle.session.specs.Questions.{operandsFit, unusedBytes}
 use borrow.Author.Needs.{needs}
-use Rattle.session.proofs.scripts.are_operands_valid.Statement.{statement}
-use Rattle.session.proofs.scripts.are_operands_valid.Tie as tie
+use Rattle.session.proofs.methods.are_operands_valid.Statement.{statement}
+use Rattle.session.proofs.methods.are_operands_valid.Tie as tie
 
 enum-told : tie.Need-enum-told
 enum-told c = search needs

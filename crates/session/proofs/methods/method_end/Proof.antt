@@ -1,11 +1,11 @@
--- `session::scripts::method_end` meets its contract. The invariant: the records passed are of the method of `r`. Assumes nothing.
+-- `session::methods::method_end` meets its contract. The invariant: the records passed are of the method of `r`. Assumes nothing.
 use Prim.Native.Nat.{ℕ, suc, _-_, _≤_, _<_}
 use mathlib.Core.Path.{_≡_, sym, _∙_}
 use native.Mathlib.Omega.{arith}
 use borrow.Author.Count.{below-more}
 use Rattle.session.proofs.Laws.Scripts.{keyAt, end-at, end-none}
-use Rattle.session.proofs.scripts.method_end.Statement.{statement}
-use Rattle.session.proofs.scripts.method_end.Tie as tie
+use Rattle.session.proofs.methods.method_end.Statement.{statement}
+use Rattle.session.proofs.methods.method_end.Tie as tie
 
 abbrev Inv-loop : tie.InvT-loop
 Inv-loop session r end key i₀ i = (suc r ≤ i) × (i ≤ end) × ((j : ℕ) → j < i → suc r ≤ j → keyAt session j ≡ keyAt session r)

@@ -1,11 +1,11 @@
--- `session::scripts::are_valid` meets its contract. The invariant: (object, name) has not fallen, and the steps passed are whole methods, and valid if it never falls. Assumes nothing.
+-- `session::methods::are_valid` meets its contract. The invariant: (object, name) has not fallen, and the steps passed are whole methods, and valid if it never falls. Assumes nothing.
 use Prim.Native.Nat.{_-_}
 use mathlib.Core.Path.{sym, _∙_}
 use native.Mathlib.Omega.{arith}
 use borrow.Author.Tests.{not-true, not-false}
 use Rattle.session.proofs.Laws.Scripts.{Methods, methods-none, methods-all, methods-long, methods-wrong, methods-falls, methods-more, end-after, end-within}
-use Rattle.session.proofs.scripts.are_valid.Statement.{statement}
-use Rattle.session.proofs.scripts.are_valid.Tie as tie
+use Rattle.session.proofs.methods.are_valid.Statement.{statement}
+use Rattle.session.proofs.methods.are_valid.Tie as tie
 
 abbrev Inv-loop : tie.InvT-loop
 Inv-loop session first end objects at₀ at = Methods session objects first end at

@@ -1,4 +1,4 @@
--- `session::scripts::is_method_valid` meets its contract. The invariant: the steps passed are valid. Assumes nothing.
+-- `session::methods::is_method_valid` meets its contract. The invariant: the steps passed are valid. Assumes nothing.
 use Prim.Native.Nat.{ℕ, _+_, _-_, _≤_, _<_}
 use mathlib.Core.Path.{_≡_, sym, _∙_, ap}
 use mathlib.Core.Bool.{true}
@@ -11,8 +11,8 @@ use Rattle.session.specs.Questions.{stepValid}
 use Rattle.session.specs.Reading.{recordsFrom}
 use Rattle.session.proofs.Laws.Lists.{every-all, every-fails}
 use Rattle.session.proofs.Laws.Record.{from-length, from-at, from-is}
-use Rattle.session.proofs.scripts.is_method_valid.Statement.{statement}
-use Rattle.session.proofs.scripts.is_method_valid.Tie as tie
+use Rattle.session.proofs.methods.is_method_valid.Statement.{statement}
+use Rattle.session.proofs.methods.is_method_valid.Tie as tie
 
 abbrev Inv-loop : tie.InvT-loop
 Inv-loop session first end objects r₀ r =
