@@ -11,7 +11,7 @@ use Rattle.scripts.specs.Ending.{isRunning}
 use Rattle.scripts.specs.Effect as effect
 use Rattle.scripts.specs.State as defined
 use Rattle.scripts.specs.Frame.{frameFor}
-use Rattle.scripts.specs.Manager.{withFrames, popped, concluded}
+use Rattle.scripts.specs.Manager.{popped, concluded}
 use Rattle.managers.specs.Frames.{intoOf, returnsOf, frameOf, below, Method, Placed}
 use Rattle.managers.specs.declared.Manager.{Manager}
 use Rattle.managers.specs.declared.Core.{Core}

@@ -15,7 +15,7 @@ use Rattle.scripts.specs.Ending.{isRunning}
 use Rattle.scripts.specs.Effect as effect
 use Rattle.scripts.specs.State as defined
 use Rattle.scripts.specs.Frame.{frameFor, withRegister, atStep}
-use Rattle.scripts.specs.Manager.{withTop, withCounts, top, isEnd, nextStep, concluded, operated, counted, stepped}
+use Rattle.scripts.specs.Manager.{withTop, withCounts, top, isEnd, nextStep, operated, counted, stepped}
 use Rattle.scripts.specs.Valid.{Leveled}
 use Rattle.scripts.specs.declared.Ending.{Ending}
 use Rattle.scripts.specs.declared.Ending.the-variants.{Finished, OutOfSteps, OutOfWrites}

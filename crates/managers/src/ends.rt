@@ -11,7 +11,6 @@ ghost use Prim.Native.Nat.{_<_};
 ghost use mathlib.Core.Path.{_≡_};
 ghost use mathlib.Core.Bool.{_&&_};
 ghost use lib.Dec.{ltb, leb};
-ghost use Rattle.session.specs.Questions.{verdictOf};
 ghost use Rattle.scripts.specs.Limits.{maxFrames};
 ghost use Rattle.scripts.specs.Ending.{isRunning};
 ghost use Rattle.scripts.specs.Valid.{Indexed};

@@ -1,5 +1,5 @@
-//! Generated sessions with each JUMP made a SET: of these a memory checker has
-//! nothing to leave out (valgrind.supp says what it has of the others).
+//! Generated sessions with each JUMP made a SET: every script runs straight to
+//! its end or its QUIT.
 //! Arguments: number of sessions (100), seed (1).
 
 use lupinpause_tests::ffi::Compiled;

@@ -10,7 +10,6 @@ use lib.Dec.{eqb, ltb}
 use lib.ListN.{length, getD, set, length-set}
 use lib.Seq.{getD-set-same, getD-set-other}
 use Rattle.lattice.proofs.Laws.Range.{not-both, and-left, and-right}
-use Rattle.session.specs.Parts.{objectCount}
 use Rattle.session.specs.Program.{Program, programOf}
 use Rattle.session.specs.declared.Value.{Value}
 use Rattle.session.specs.declared.Step.{Step}
@@ -20,12 +19,12 @@ use Rattle.scripts.specs.Limits.{maxFrames, maxScriptSteps}
 use Rattle.scripts.specs.Ending.{isRunning}
 use Rattle.scripts.specs.Effect as effect
 use Rattle.scripts.specs.State as defined
-use Rattle.scripts.specs.Manager.{isEnd, nextStep, concluded}
+use Rattle.scripts.specs.Manager.{isEnd, nextStep}
 use Rattle.words.specs.Reads.{shownIn, Sees}
 use Rattle.managers.specs.Frames.{frameOf, asideOf, noWaiting, below, Placed, Waits}
 use Rattle.managers.specs.Core.{bare, standing, stackOf, managerOf, effectOf, settledOf, comesTo, isOver, isAsking, isNothing, isDone, Tall, Present, Sits}
 use Rattle.managers.specs.Moves.{causing, endingAs, restacked, Operable, Asks, Operated, Pushed, Popped}
-use Rattle.managers.specs.Steps.{Leads, quiet, last, Quietly, waitingFrames, Advanceable, shutBy, isShut}
+use Rattle.managers.specs.Steps.{Leads, quiet, Quietly, waitingFrames, Advanceable, shutBy, isShut}
 use Rattle.managers.specs.declared.Core.{Core}
 use Rattle.managers.specs.declared.Manager.{Manager}
 use Rattle.managers.specs.declared.frames.Waiting.{Waiting}

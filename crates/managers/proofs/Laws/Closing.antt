@@ -1,20 +1,18 @@
 -- The pops that are left at the end of a row of script steps, and what the code's manager then is. Assumes nothing.
-use Prim.Native.Nat.{ℕ, suc, _+_, _-_, _≤_, _<_}
-use mathlib.Core.Path.{_≡_, refl, sym, _∙_, ap, ap₂, subst}
+use Prim.Native.Nat.{ℕ, _+_, _-_, _≤_, _<_}
+use mathlib.Core.Path.{_≡_, refl, sym, _∙_, ap, ap₂}
 use mathlib.Core.Bool.{Bool, true, false, cond, _&&_}
 use mathlib.Core.List.{List, [], _∷_}
 use native.Mathlib.Omega.{arith}
-use borrow.Author.Tests.{lt-ltb, le-ltb, ltb-true, ltb-false, leb-true, leb-false}
+use borrow.Author.Tests.{lt-ltb, ltb-true, ltb-false, leb-true, leb-false}
 use lib.Dec.{ltb, leb}
 use lib.ListN.{length, getD}
 use Rattle.lattice.proofs.Laws.Range.{not-both, and-left, and-right}
 use Rattle.session.specs.Program.{Program, programOf}
-use Rattle.session.specs.Questions.{verdictOf}
 use Rattle.session.specs.declared.Value.{Value}
 use Rattle.session.specs.declared.Value.the-variants.{Nil}
-use Rattle.session.specs.declared.Verdict.the-variants.{Accepted}
 use Rattle.session.proofs.Laws.Lists.{holds, fails, truth}
-use Rattle.scripts.specs.Limits.{maxFrames, maxScriptSteps}
+use Rattle.scripts.specs.Limits.{maxScriptSteps}
 use Rattle.scripts.specs.Ending.{isRunning}
 use Rattle.scripts.specs.Effect as effect
 use Rattle.scripts.specs.State as defined
@@ -24,9 +22,9 @@ use Rattle.scripts.specs.Valid.{Indexed}
 use Rattle.scripts.specs.declared.Ending.the-variants.{Finished, OutOfSteps}
 use Rattle.scripts.proofs.Laws.Settle.{concluded-pop, concluded-last, concluded-out}
 use Rattle.managers.specs.Frames.{intoOf, returnsOf, frameOf, asideOf, noWaiting, below, Waits}
-use Rattle.managers.specs.Core.{bare, standing, stackOf, managerOf, effectOf, steppedOf, settledOf, comesTo, isOver, isAsking, isNothing, isDone, Tall, Present, Sits}
-use Rattle.managers.specs.Moves.{causing, restacked, Asks, Popped, stoodAs, closedAs}
-use Rattle.managers.specs.Steps.{Leads, waitingFrames, Held, Advanced, isShut}
+use Rattle.managers.specs.Core.{bare, standing, stackOf, managerOf, effectOf, steppedOf, settledOf, comesTo, isOver, isAsking, isDone, Tall, Sits}
+use Rattle.managers.specs.Moves.{causing, restacked, Popped, stoodAs, closedAs}
+use Rattle.managers.specs.Steps.{waitingFrames, Held}
 use Rattle.managers.specs.declared.Core.{Core}
 use Rattle.managers.specs.declared.Manager.{Manager}
 use Rattle.managers.specs.declared.frames.Waiting.{Waiting}
@@ -34,7 +32,7 @@ use Rattle.managers.specs.declared.Effect.{Effect}
 use Rattle.managers.specs.declared.Effect.the-variants.{Nothing, End, Write, Read, Fork, Call, Pop}
 use Rattle.managers.proofs.Laws.Frames.{at-end, not-end, goes-there}
 use Rattle.managers.proofs.Laws.Turns.{below-popped, no-pops}
-use Rattle.managers.proofs.Laws.Advance.{Turning, stack-some, turning-level, turning-first}
+use Rattle.managers.proofs.Laws.Advance.{Turning, stack-some}
 
 pub asking-is : (e : Effect) → isAsking e ≡ true → (o : ℕ) × ((k : ℕ) × (e ≡ Read o k))
 asking-is Nothing a = absurd (not-both false a refl)

@@ -1,23 +1,22 @@
 -- A row of script steps is what the code's manager promises; so is a single one. Assumes nothing.
-use Prim.Native.Nat.{ℕ, suc, _+_, _-_, _≤_, _<_}
+use Prim.Native.Nat.{ℕ, _+_, _-_, _≤_, _<_}
 use mathlib.Core.Path.{_≡_, refl, sym, _∙_, ap, subst}
 use mathlib.Core.Bool.{Bool, true, false, _&&_}
 use mathlib.Core.List.{List}
 use native.Mathlib.Omega.{arith}
-use borrow.Author.Tests.{lt-ltb, ltb-false}
+use borrow.Author.Tests.{ltb-false}
 use lib.Dec.{ltb, leb}
 use Rattle.lattice.proofs.Laws.Range.{not-both}
 use Rattle.session.specs.Program.{Program, programOf}
 use Rattle.session.specs.declared.Value.{Value}
 use Rattle.session.proofs.Laws.Lists.{holds, fails, truth}
-use Rattle.scripts.specs.Limits.{maxScriptSteps}
 use Rattle.scripts.specs.Ending.{isRunning}
 use Rattle.scripts.specs.Effect as effect
 use Rattle.scripts.specs.State as defined
-use Rattle.scripts.specs.Manager.{topOf, top, nextStep, stepped}
-use Rattle.words.specs.Reads.{isOpen, shownIn, Sees}
+use Rattle.scripts.specs.Manager.{topOf, top, nextStep}
+use Rattle.words.specs.Reads.{isOpen, shownIn}
 use Rattle.managers.specs.Frames.{frameOf, below}
-use Rattle.managers.specs.Core.{managerOf, effectOf, steppedOf, comesTo, isOver, isAsking, isNothing, isDone, Present}
+use Rattle.managers.specs.Core.{managerOf, effectOf, steppedOf, isOver, isAsking, isNothing, isDone, Present}
 use Rattle.managers.specs.Moves.{causing, Asks, closedAs}
 use Rattle.managers.specs.Steps.{Leads, Held, Advanceable, Advanced, Stepped, isShut}
 use Rattle.managers.specs.declared.Core.{Core}

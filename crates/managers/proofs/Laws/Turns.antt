@@ -3,31 +3,26 @@ use Prim.Native.Nat.{ℕ, zero, suc, _+_, _-_, _≤_, _<_}
 use mathlib.Core.Path.{_≡_, refl, sym, _∙_, ap, subst}
 use mathlib.Core.Bool.{Bool, true, false, cond}
 use mathlib.Core.List.{List, [], _∷_}
-use native.Mathlib.Decide.{ℕ-discrete}
 use native.Mathlib.Omega.{arith}
 use borrow.Author.Tests.{eq-eqb, ne-eqb}
-use lib.Dec.{eqb}
 use lib.ListN.{length, getD, set}
 use lib.Seq.{getD-set-same, getD-set-other}
-use Rattle.lattice.proofs.Laws.Range.{not-both}
 use Rattle.session.specs.Program.{Program, programOf}
-use Rattle.session.specs.Questions.{verdictOf}
 use Rattle.session.specs.declared.Value.{Value}
 use Rattle.session.specs.declared.Value.the-variants.{Nil}
-use Rattle.session.specs.declared.Verdict.the-variants.{Accepted}
 use Rattle.session.proofs.Laws.Lists.{holds, fails, truth}
 use Rattle.scripts.specs.Limits.{maxScriptSteps}
 use Rattle.scripts.specs.Ending.{isRunning}
 use Rattle.scripts.specs.Effect as effect
 use Rattle.scripts.specs.State as defined
 use Rattle.scripts.specs.Frame.{frameFor, withRegister}
-use Rattle.scripts.specs.Manager.{isEnd, nextStep, popped, concluded, stepped}
+use Rattle.scripts.specs.Manager.{isEnd, nextStep, popped, concluded}
 use Rattle.scripts.proofs.Laws.Counts.{concluded-counts, popped-counts}
 use Rattle.scripts.proofs.Laws.Settle.{popped-to, concluded-pop, concluded-last, concluded-not, running-is}
 use Rattle.words.specs.Reads.{Sees}
 use Rattle.managers.specs.Frames.{intoOf, returnsOf, frameOf, asideOf, noWaiting, below}
-use Rattle.managers.specs.Core.{bare, standing, stackOf, comesTo, settledOf, isOver, isAsking, isDone, Sits}
-use Rattle.managers.specs.Moves.{causing, endingAs, finishedAs, restacked, Operable, Asks, Operated, Pushed, Popped}
+use Rattle.managers.specs.Core.{bare, standing, comesTo, settledOf, isOver, isAsking}
+use Rattle.managers.specs.Moves.{causing, endingAs, Operable, Operated, Pushed, Popped}
 use Rattle.managers.specs.Steps.{Leads}
 use Rattle.managers.specs.declared.Core.{Core}
 use Rattle.managers.specs.declared.frames.Waiting.{Waiting}
