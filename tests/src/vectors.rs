@@ -1,5 +1,6 @@
-//! The recorded calls in vectors/calls.txt, one a line after the session that
-//! they are about:
+//! The recorded calls in vectors/, one a line after the session that they are
+//! about. Those in sharp.txt are small, and each tells wrong readings of
+//! document 01 from the right one.
 //!
 //!     session RECORDS
 //!     shows RECORDS
@@ -26,13 +27,23 @@ pub struct Vector {
     pub expected: Outcome,
 }
 
+/// The files of recorded calls.
+const FILES: [&str; 2] = ["calls.txt", "sharp.txt"];
+
 /// Reads all vectors. An error names the file or the line at fault.
 pub fn read() -> Result<Vec<Vector>, String> {
-    let path = concat!(env!("CARGO_MANIFEST_DIR"), "/vectors/calls.txt");
-    let text = fs::read_to_string(path).map_err(|error| format!("{path}: {error}"))?;
+    let mut vectors = Vec::new();
+    for name in FILES {
+        read_file(name, &mut vectors)?;
+    }
+    Ok(vectors)
+}
+
+fn read_file(name: &str, vectors: &mut Vec<Vector>) -> Result<(), String> {
+    let path = format!("{}/vectors/{name}", env!("CARGO_MANIFEST_DIR"));
+    let text = fs::read_to_string(&path).map_err(|error| format!("{path}: {error}"))?;
     let mut session = Vec::new();
     let mut shown = Vec::new();
-    let mut vectors = Vec::new();
     for (i, line) in text.lines().enumerate() {
         let (first, rest) = line.split_once(' ').unwrap_or((line, ""));
         let parsed = match first {
@@ -42,7 +53,7 @@ pub fn read() -> Result<Vec<Vector>, String> {
         };
         parsed.ok_or_else(|| format!("{path}: line {} is damaged", i + 1))?;
     }
-    Ok(vectors)
+    Ok(())
 }
 
 fn call(kind: &str, rest: &str, session: &[u8], shown: &[u8]) -> Option<Vector> {

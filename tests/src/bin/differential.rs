@@ -25,7 +25,7 @@ use std::{env, fs, thread, time::Instant};
 const ENOUGH: u64 = 20_000;
 
 /// So many vectors are recorded.
-const VECTORS: usize = 2_264;
+const VECTORS: usize = 2_411;
 
 fn main() -> ExitCode {
     match run() {
@@ -88,8 +88,8 @@ fn known(sort: &str, cases: &[(impl Display, Vector)]) -> Result<(), String> {
     for (name, library) in libraries {
         for (i, (case, vector)) in cases.iter().enumerate() {
             let fill = Fill {
-                bytes: &[0xa5; 6_000],
-                words: &[0xdead_beef; 10_000],
+                bytes: &[0xa5; 10_000],
+                words: &[0xdead_beef; 20_000],
                 rest: &[0xdead_beef; 100],
                 guard: [0, GUARD][i % 2],
             };
