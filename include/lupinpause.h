@@ -4,8 +4,8 @@
  * Link libexports.a, which `rt staticlib exports` makes in target/staticlib/.
  *
  * Every function takes any bytes, of any length and content: no input makes it
- * trap or run for ever. It returns document 01's number: 0, or the lowest
- * question that says no:
+ * trap or run for ever. It returns a number: 0, or the first question that is
+ * answered by no (docs/FORMAT.md has them in full):
  *
  *    1 to 8   the session
  *    9        the clearance is no present level
