@@ -174,6 +174,11 @@ pub fn done(
     ensures { λ _. ⌜ StepDone (record { current = now (current .entry); ended = now (ended .entry); tallies = now (tallies .entry); queue = now (queue .entry); work = now (work .entry) }) (record { current = now (current .exit); ended = now (ended .exit); tallies = now (tallies .exit); queue = now (queue .exit); work = now (work .exit) }) level core ⌝ }
 {
     let effect = core.effect;
+    // Most steps do nothing outside: these are spared the call.
+    if let Effect::Nothing = effect {
+        settle(ended, tallies, queue, level, core);
+        return;
+    }
     perform(
         current,
         tallies,
