@@ -135,7 +135,7 @@ pub fn run_manager(
     if left == 0 {
         return core.ended(fork.stamp);
     }
-    let limit = managers::MAX_SCRIPT_STEPS;
+    let limit = scripts::MAX_SCRIPT_STEPS;
     let mut ending = core.ending;
     while scripts::is_running(ending) {
         // Every READ is answered by the fields: what was read before is never asked.

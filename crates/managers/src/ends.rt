@@ -1,11 +1,11 @@
 // Frames made and popped, and how a manager stands after that.
 use crate::Core;
 use crate::Effect;
-use crate::MAX_SCRIPT_STEPS;
 use crate::frames;
 use crate::frames::Frame;
 use crate::frames::Waiting;
 use scripts::Ending;
+use scripts::MAX_SCRIPT_STEPS;
 use session::Value;
 ghost use Prim.Native.Nat.{_<_};
 ghost use mathlib.Core.Path.{_≡_};

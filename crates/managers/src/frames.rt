@@ -1,9 +1,9 @@
 // Frames: the one on top of a manager, and those that wait below it.
-use crate::REGISTERS;
 use crate::values;
 use session::Step;
 use session::Value;
 use session::contents;
+use session::limits::REGISTERS;
 ghost use Prim.Native.Nat.{_+_, _<_};
 ghost use mathlib.Core.Path.{_≡_};
 ghost use mathlib.Core.Bool.{cond};

@@ -9,8 +9,10 @@ use frames::Frame;
 use frames::Waiting;
 use scripts::Ended;
 use scripts::Ending;
+use scripts::MAX_FRAMES;
 use session::Message;
 use session::Value;
+use session::limits::REGISTERS;
 ghost use Prim.Native.Nat.{_+_, _≤_, _<_};
 ghost use mathlib.Core.Path.{_≡_};
 ghost use mathlib.Core.Bool.{_&&_};
@@ -23,20 +25,8 @@ ghost use Rattle.managers.specs.Core.{managerOf, isNothing};
 ghost use Rattle.managers.specs.Moves.{causing};
 ghost use Rattle.managers.specs.Steps.{noManager, Held, Advanceable, Advanced, Stepped, keptOf};
 
-// How many frames a manager may have, and how many of them then wait below the top.
-pub const MAX_FRAMES: u8 = 8;
-
-pub const MAX_WAITING: usize = 7;
-
-// How many registers a frame has.
-pub const REGISTERS: u8 = 4;
-
-// How many script steps, writes that take effect and forks a manager may make.
-pub const MAX_SCRIPT_STEPS: u16 = 256;
-
-pub const MAX_WRITES: u8 = 16;
-
-pub const MAX_FORKS: u8 = 15;
+// How many frames of a manager wait below its top, at most.
+pub const MAX_WAITING: usize = MAX_FRAMES as usize - 1;
 
 // A message manager.
 pub struct Manager {

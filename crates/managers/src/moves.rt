@@ -1,13 +1,13 @@
 // What script steps make of a core.
 use crate::Core;
 use crate::Effect;
-use crate::MAX_FORKS;
-use crate::MAX_FRAMES;
-use crate::MAX_WRITES;
 use crate::frames;
 use crate::frames::Frame;
 use crate::values;
 use scripts::Ending;
+use scripts::MAX_FORKS;
+use scripts::MAX_FRAMES;
+use scripts::MAX_WRITES;
 use session::Value;
 ghost use Prim.Native.Nat.{_+_, _≤_, _<_};
 ghost use mathlib.Core.Path.{_≡_};

@@ -1,1 +1,15 @@
-// What a run of a session means: definitions and theorems, no code.
+// What a run is: definitions and theorems. Of code there are only the numbers that document 01 fixes for runs,
+// under the names that the definitions give them.
+use scripts::MAX_WRITES;
+use session::limits::MAX_LEVELS;
+use session::limits::MAX_OBJECTS;
+use session::limits::RECORD_BYTES;
+
+// How many forks a level keeps.
+pub const MAX_MANAGERS: usize = 32;
+
+// Question 10: two numbers for each write of each manager.
+pub const WORK_NUMBERS: usize = MAX_LEVELS * MAX_MANAGERS * MAX_WRITES as usize * 2;
+
+// Question 11: a record for each object, each manager and the reply.
+pub const RESULT_BYTES: usize = RECORD_BYTES * (MAX_OBJECTS + MAX_LEVELS * MAX_MANAGERS + 1);

@@ -4,7 +4,7 @@ use level_managers::tallies;
 use level_managers::tallies::Permit;
 use managers::Core;
 use managers::Effect;
-use managers::MAX_SCRIPT_STEPS;
+use scripts::MAX_SCRIPT_STEPS;
 ghost use mathlib.Core.Path.{_≡_};
 ghost use Rattle.scripts.specs.Valid.{Leveled};
 ghost use Rattle.level_managers.specs.Permits.{isGiven};

@@ -2,6 +2,7 @@
 pub mod contents;
 mod kinds;
 mod levels;
+pub mod limits;
 mod methods;
 mod objects;
 mod reader;

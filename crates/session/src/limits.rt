@@ -1,0 +1,28 @@
+// The numbers that document 01 fixes for sessions, under the names that the definitions give them.
+
+// The bytes of a record.
+pub const RECORD_BYTES: usize = 16;
+
+// Question 3: how many levels, objects and script steps there may be.
+pub const MAX_LEVELS: usize = 8;
+
+pub const MAX_OBJECTS: usize = 32;
+
+pub const MAX_STEPS: usize = 256;
+
+// Question 1: how many records there may be, the root message among them.
+pub const MAX_RECORDS: usize = MAX_LEVELS + MAX_OBJECTS + MAX_STEPS + 1;
+
+// Question 7: how many steps a method may have.
+pub const MAX_METHOD: usize = 16;
+
+// How many message names there are.
+pub const NAMES: usize = 16;
+
+// How many registers a frame has, and how many fields an object.
+pub const REGISTERS: u8 = 4;
+
+pub const FIELDS: usize = 3;
+
+// How many methods there may be, one for each object and name.
+pub const MAX_METHODS: usize = MAX_OBJECTS * NAMES;
