@@ -1,4 +1,7 @@
 -- What the words of a depth-first run say of it, and what its functions require and promise. No meaning rests on these. Assumes nothing.
+-- Laws: what a write and the end of a manager do to the words (`proofs/Laws/Kept`), what a script step did outside its manager done to them
+-- (`Perform`), a row of steps and what its last one does (`Step`: `SameEnd`), a manager's run as a loop over the steps that concern others
+-- (`Run`: `Looped`).
 use Prim.Native.Nat.{ℕ, _+_, _*_, _-_, _^_, _≤_, _<_}
 use mathlib.Core.Path.{_≡_}
 use mathlib.Core.Bool.{cond}

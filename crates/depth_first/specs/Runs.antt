@@ -1,4 +1,5 @@
 -- What the stages of a depth-first run promise each other. No meaning rests on these. Assumes nothing.
+-- Laws: the words at the start (`proofs/Laws/Start`), the whole run (`Whole`), the answer by the question that ends the call (`Answers`).
 use Prim.Native.Nat.{ℕ, _≤_}
 use mathlib.Core.Path.{_≡_}
 use mathlib.Core.List.{List, []}

@@ -1,4 +1,7 @@
 -- The message filter: what becomes of a message. Assumes nothing.
+-- Laws (`proofs/Laws/Fate`): the cases one by one (`fate-called`, `fate-blocked`, `fate-discarded`, `fate-forked`); a fork goes to a
+-- present level strictly above the manager's (`fate-rises`); a message upward from an object at the manager's level is forked at the
+-- receiver's (`fate-own`); the receiver lies under the sender, the manager or the level of the fork (`fate-covers`).
 use Prim.Native.Nat.{ℕ}
 use mathlib.Core.Bool.{cond}
 use lib.Dec.{eqb}

@@ -1,4 +1,9 @@
 -- Least upper bounds of levels 0 to n − 1 under a dominance test. Any n, any test. Assumes nothing.
+-- A greatest lower bound is a least upper bound of the reversed test.
+-- Laws (`proofs/Laws/Join`): `hasJoins` says yes exactly where each pair has a least upper bound (`joined`, `all-joined`); what passes
+-- questions 4 and 5 is a join semilattice (`semilattice`). A least upper bound is unique (`unique`, `join-is`), and the join commutes
+-- (`join-comm`). The join of m and l is m exactly where m dominates l (`join-same`), and else lies strictly above m (`join-strict`). A
+-- level dominates a join exactly where it dominates both levels (`join-below`).
 use Prim.Native.Nat.{ℕ, _<_}
 use mathlib.Core.Path.{_≡_}
 use mathlib.Core.Bool.{Bool, true, _&&_}

@@ -1,4 +1,5 @@
 -- Levels 0 to n − 1 under a dominance test: `dom i j` says that level i dominates level j. Any n, any test. Assumes nothing.
+-- Laws (`proofs/Laws/Order`): a dominance test passes `isOrder` exactly where it is a partial order (`order`, `is-order`).
 use Prim.Native.Nat.{ℕ, _<_}
 use mathlib.Core.Path.{_≡_}
 use mathlib.Core.Bool.{Bool, true, not, _&&_}

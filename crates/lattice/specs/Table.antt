@@ -1,4 +1,6 @@
 -- A level table: a mask for each level, and the questions of document 01 that are put of it. Assumes nothing.
+-- Laws (`proofs/Laws/Table`): a table that passes question 4 is a partial order (`partial-order`), in which only levels of the table
+-- dominate or are dominated (`upper-present`, `lower-present`); one that passes 4 and 5 is a join semilattice (`passed`).
 use Prim.Native.Nat.{ℕ, _/_, _%_, _^_}
 use mathlib.Core.Bool.{Bool, cond, _&&_}
 use mathlib.Core.List.{List}

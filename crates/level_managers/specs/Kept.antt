@@ -1,4 +1,5 @@
 -- What the words of a run say of its state. No meaning rests on these. Assumes nothing.
+-- Laws (`proofs/Laws/Told`): a change of the words of one level alone (`told-change`).
 use Prim.Native.Nat.{ℕ, _+_, _*_, _≤_, _<_}
 use mathlib.Core.Path.{_≡_}
 use mathlib.Core.Bool.{true, cond}

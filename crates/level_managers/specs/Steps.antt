@@ -1,4 +1,7 @@
 -- What a scheduler step does to the words of a run, stage by stage. No meaning rests on these. Assumes nothing.
+-- Laws: what a write, a fork that arrives, the end of a step and a start do to the words (`proofs/Laws/Write`, `Arrive`, `Settle`,
+-- `Begin`); the parts together are the definition's step (`Advance`, `Step`, `Made`: `step-said`); what is read is what the definition
+-- reads (`Reads`, `Script`), and stays, whatever the manager writes and forks (`Recall`).
 use Prim.Native.Nat.{ℕ, _+_, _-_, _^_, _≤_, _<_}
 use mathlib.Core.Path.{_≡_}
 use mathlib.Core.Bool.{true, false, cond}

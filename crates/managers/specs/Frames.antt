@@ -1,4 +1,5 @@
 -- The frames of the code's manager, as the definitions have them. No meaning rests on these. Assumes nothing.
+-- Laws (`proofs/Laws/Frames`): where a script's end is, by the count that a top keeps, and how a manager stands by it.
 use Prim.Native.Nat.{ℕ, zero, suc, _%_, _≤_, _<_}
 use mathlib.Core.Path.{_≡_}
 use mathlib.Core.Bool.{Bool}

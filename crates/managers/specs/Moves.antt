@@ -1,4 +1,6 @@
 -- What an operation of the code does to a core. No meaning rests on these. Assumes nothing.
+-- Laws: each move of a core is an operation of the definitions, counted, with the pops of its step (`proofs/Laws/Makes`), and so are the
+-- operations (`proofs/Laws/Operations`).
 use Prim.Native.Nat.{ℕ, suc, _+_, _-_, _≤_, _<_}
 use mathlib.Core.Path.{_≡_}
 use mathlib.Core.Bool.{Bool, true, false, cond}

@@ -1,4 +1,7 @@
 -- The script steps that the code's manager makes in a row. No meaning rests on these. Assumes nothing.
+-- How a row of steps is proved: the first loop of `advance` carries that the manager at its start leads to what the core comes to
+-- (`proofs/Laws/Advance`: `Turning`); the second, which makes the late pops, leaves that as it is (`Closing`: `Lowering`). At its end what
+-- the core comes to is the manager handed back (`Done`). One script step is the same with a limit of one more (`Leads`: `leads-one`).
 use Prim.Native.Nat.{ℕ, zero, suc, _+_, _^_, _≤_, _<_}
 use mathlib.Core.Path.{_≡_}
 use mathlib.Core.Bool.{Bool, true, false, not}

@@ -1,4 +1,6 @@
 -- The depth-first run. Assumes nothing.
+-- Laws: the depth-first run is a list of safe scheduler steps (`proofs/Laws/Deep/DeepRun`: `runs-forks`), so every list that finishes has
+-- its fields, histories and reply (`Root`: `same-result`). The run step by step: `proofs/Laws/Code/DepthFirst`.
 use Prim.Native.Nat.{ℕ, zero, suc, _+_}
 use mathlib.Core.Bool.{cond, _&&_}
 use mathlib.Core.List.{List, [], _∷_}

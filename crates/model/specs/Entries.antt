@@ -1,4 +1,6 @@
 -- The whole answers of the entries that run a session, for every input. Assumes nothing.
+-- Laws (`proofs/Laws/Reader/Answers`): what a finished answer says: its questions said yes, and these are its bytes (`finished-run`,
+-- `deep-bytes`).
 use Prim.Native.Nat.{ℕ}
 use mathlib.Core.Path.{_≡_}
 use mathlib.Core.Bool.{Bool, true, cond}

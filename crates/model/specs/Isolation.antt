@@ -1,4 +1,6 @@
 -- Isolation: a list of scheduler steps, and beside it what is left of it in the session emptied for a level c. Assumes nothing.
+-- Laws (`proofs/Laws/Reader/Isolation`): every list that finishes is isolated so (`isolated`, `struck-ends`); the struck list goes on to
+-- one that finishes, and nothing that c dominates changes (`finished-above`, `same-under-emptied`).
 use Prim.Native.Nat.{ℕ, _<_}
 use mathlib.Core.Path.{_≡_}
 use mathlib.Core.Bool.{true, false}

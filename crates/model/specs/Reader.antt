@@ -1,4 +1,6 @@
 -- What a reader of results compares. Assumes nothing.
+-- Law (`proofs/Laws/Reader/Shown`): what a reader cleared to c is shown of a list that finishes is what he is shown of the depth-first run
+-- of what c sees (`reader-sees`).
 use Prim.Native.Nat.{ℕ}
 use mathlib.Core.Path.{_≡_}
 use mathlib.Core.List.{List}

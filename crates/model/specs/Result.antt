@@ -1,4 +1,6 @@
 -- Result records. Assumes nothing.
+-- Laws (`proofs/Laws/Reader/Bytes`): what a reader finds in the bytes of a result, whatever the order of the level groups (`objects-found`,
+-- `histories-found`, `reply-found`, `same-bytes`).
 use Prim.Native.Nat.{ℕ, _+_, _*_, _/_, _%_, _^_}
 use mathlib.Core.Bool.{Bool, cond, _&&_}
 use mathlib.Core.List.{List, [], _∷_, _++_, map}

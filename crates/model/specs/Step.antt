@@ -1,4 +1,7 @@
 -- A scheduler step at a level: what the level sees, and what it does. Assumes nothing.
+-- Laws: what a step does depends on what its level sees alone, and a level that does not dominate its level does not see it
+-- (`proofs/Laws/Steps/Locality`). Every step keeps the invariant (`proofs/Laws/Invariant/Keeps`: `step-keeps`). What it comes to, made from
+-- the whole program and the whole state: `proofs/Laws/Code/Direct`.
 use Prim.Native.Nat.{ℕ}
 use mathlib.Core.Bool.{cond}
 use mathlib.Core.List.{List, [], _∷_}

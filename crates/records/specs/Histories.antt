@@ -1,4 +1,6 @@
 -- The histories of a run, kept in words: eight for each, by level and fork stamp. Assumes nothing.
+-- Laws: histories of other levels, of none, by number (`proofs/Laws/Histories`); the end stamp before a fork stamp, by the place that
+-- `rows::place` finds (`EndBefore`: `end-none`, `end-last`).
 use Prim.Native.Nat.{ℕ, _+_, _*_, _%_, _^_, _≤_, _<_}
 use mathlib.Core.Path.{_≡_}
 use mathlib.Core.Bool.{true, false, cond}

@@ -1,4 +1,7 @@
 -- The records of a run, written to a buffer. Assumes nothing.
+-- Laws: the bytes depend on the fields of present objects and on the histories of shown levels alone (`proofs/Laws/Depends`); they fit
+-- question 11's buffer (`Written`: `bytes-fit`); groups by rising number are in an order that document 01 leaves free (`Orders`:
+-- `by-number-shown`); bytes placed behind bytes (`Placed`: `placed-then`).
 use Prim.Native.Nat.{ℕ, _+_, _≤_, _<_}
 use mathlib.Core.Path.{_≡_}
 use mathlib.Core.Bool.{cond}

@@ -1,4 +1,6 @@
 -- What the functions of this crate require, and what they change. Assumes nothing.
+-- Laws: what lies outside the range of a change is as it was (`proofs/Laws/Outside`); a list into which an element is put at a place, said
+-- by places (`Insert`: `inserted-tab`).
 use Prim.Native.Nat.{ℕ, _+_, _*_, _≤_, _<_, min}
 use mathlib.Core.Path.{_≡_}
 use mathlib.Core.List.{List}

@@ -1,4 +1,6 @@
 -- Rows of equal width in a list of words, in order of their first words. Assumes nothing.
+-- A decoder of a crate above turns each row into its record. Laws (`proofs/Laws/Rows`): one that keeps the key turns rows put in by key
+-- into records put in by key (`decoded`), and rows that rise into records that rise (`decoded-rises`).
 use Prim.Native.Nat.{ℕ, _+_, _*_}
 use mathlib.Core.Path.{_≡_}
 use mathlib.Core.Bool.{true}

@@ -1,4 +1,6 @@
 -- A level that is run until it has no manager. No meaning rests on these. Assumes nothing.
+-- Laws: steps of one manager in a row, while its end may not be noted (`proofs/Laws/Lagging`); a manager that has advanced (`Going`), from
+-- its start to its end (`Next`); a level until it has no manager (`Level`).
 use Prim.Native.Nat.{ℕ, _+_, _<_}
 use mathlib.Core.Path.{_≡_}
 use mathlib.Core.Bool.{true, false}

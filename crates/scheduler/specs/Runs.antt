@@ -1,4 +1,6 @@
 -- What the stages of a run promise each other. No meaning rests on these. Assumes nothing.
+-- Laws: a timetable step by step (`proofs/Laws/Listed`: `Going`); the plain run, level after level (`Plain`: `Ran`); the session as read in
+-- (`Start`); the answers (`Answers`).
 use Prim.Native.Nat.{ℕ, _+_, _*_, _≤_, _<_}
 use mathlib.Core.Path.{_≡_}
 use mathlib.Core.Bool.{Bool, true, false}

@@ -1,4 +1,10 @@
 -- What a manager does: its start, and one script step. Assumes nothing.
+-- One step function serves every run: `stepped` is handed what a READ sees, and hands back the manager and its effect. The runs differ only
+-- in where a READ's value comes from and in where effects go.
+-- Laws: what a step counts (`proofs/Laws/Counts`), how a manager stands after it (`Endings`), what its effect concerns (`Effects`), the
+-- pops of a step one at a time (`Settle`). A step depends on the values that it reads, not on how they are found (`Reads`). Each frame is
+-- of an object that the manager's level dominates, so a manager takes nothing of what its level does not see (`Within`: `stepped-within`,
+-- `stepped-seen`).
 use Prim.Native.Nat.{ℕ, _+_}
 use mathlib.Core.Bool.{Bool, true, false, cond}
 use mathlib.Core.List.{List, [], _∷_}

@@ -1,4 +1,6 @@
 -- Which managers the code is called with: what its own contracts require. No meaning rests on these. Assumes nothing.
+-- Laws: what start and step leave is valid (`proofs/Laws/Valid`: `started-valid`, `stepped-valid`); what a step names, writes and forks
+-- concerns present objects, fields 0 to 2 and names 0 to 15 (`next-fits` and `next-present` of `Accepted`, `stepped-present` of `Valid`).
 use Prim.Native.Nat.{ℕ, _+_, _≤_, _<_, _^_}
 use mathlib.Core.Path.{_≡_}
 use mathlib.Core.Bool.{true}

@@ -1,4 +1,8 @@
 -- An accepted session emptied for a level. (Of other bytes this says nothing that is used.) Assumes nothing.
+-- Laws: an emptied accepted session is accepted (`proofs/Laws/EmptiedAccepted`). It has the same levels, objects' levels and root message
+-- (`proofs/Laws/Emptied`: `emptied-masks`, `emptied-count`, `emptied-level`, `emptied-root`), the same fields and methods of every object
+-- that the level dominates (`emptied-field`, `emptied-method`), and NIL fields and empty methods of the others (`emptied-field-hidden`,
+-- `emptied-method-hidden`).
 use Prim.Native.Nat.{ℕ, _-_}
 use mathlib.Core.Bool.{Bool, not, cond, _&&_}
 use mathlib.Core.List.{List, _++_, map}

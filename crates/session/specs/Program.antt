@@ -1,4 +1,6 @@
 -- What a run takes from an accepted session, as one value; and what of it a level may see. Assumes nothing.
+-- Law (`proofs/Laws/Program`): the program of a session emptied for a level is what that level sees of the session's program
+-- (`emptied-program`).
 use Prim.Native.Nat.{ℕ}
 use mathlib.Core.Bool.{cond}
 use mathlib.Core.List.{List}

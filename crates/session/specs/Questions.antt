@@ -1,4 +1,5 @@
 -- Questions 1 to 8 of document 01, in its order and words, and the verdict on a list of bytes. Assumes nothing.
+-- Laws (`proofs/Laws/Verdict`): a session is accepted exactly where all eight questions say yes (`accepted`, `all-yes`).
 use Prim.Native.Nat.{ℕ, _+_, _*_, _%_, _^_}
 use mathlib.Core.Bool.{Bool, false, cond, _&&_, _||_}
 use mathlib.Core.List.{List, [], _∷_}

@@ -1,4 +1,6 @@
 -- The versions of each level as numbers of the work slice. Assumes nothing.
+-- Laws: a version is read back from its two numbers (`proofs/Laws/Packing`: `version-back`); a longer log has the last version in front
+-- (`Log`: `log-more`); a change elsewhere, or in another level's log, leaves a log as it is (`log-before`, `log-after`, `log-others`).
 use Prim.Native.Nat.{ℕ, zero, suc, _+_, _*_, _/_, _%_, _^_, _≤_, _<_}
 use mathlib.Core.Bool.{cond}
 use mathlib.Core.List.{List, [], _∷_}

@@ -1,4 +1,6 @@
 -- The order of a log by write stamp. Assumes nothing.
+-- Laws (`proofs/Laws/Order`): a log whose versions, newest first, never rise in write stamp is in order (`stamps-rise`); in it the newest
+-- version up to a bound is the newest of those before the partition point (`newest-before`).
 use Prim.Native.Nat.{ℕ, _+_, _*_, _≤_, _<_}
 use mathlib.Core.List.{List}
 use Rattle.versions.specs.Log.{versionAt}

@@ -1,4 +1,6 @@
 -- The fields of a run, and those that a manager has read, kept in words. Assumes nothing.
+-- Laws (`proofs/Laws/Fields`): a value is read back from its two words (`value-back`); one field set, remembered or forgotten leaves the
+-- others (`field-set`, `field-remembered`, `field-forgotten`); all are filled (`fill-all`).
 use Prim.Native.Nat.{ℕ, _+_, _-_, _*_, _≤_, _<_}
 use mathlib.Core.Path.{_≡_}
 use mathlib.Core.Bool.{Bool, true, false, not, cond}

@@ -1,4 +1,6 @@
 -- Which words a change may touch. Assumes nothing.
+-- Laws (`proofs/Laws/Outside`): a store is a change within a range; changes within a range are changes within a wider one, and follow each
+-- other.
 use Prim.Native.Nat.{ℕ, _≤_, _<_}
 use mathlib.Core.Path.{_≡_}
 use mathlib.Core.List.{List}
