@@ -14,8 +14,9 @@
  *   12 to 14  a step of the timetable
  *   15        at the timetable's end a manager has not ended
  *
- * A slice is a pointer and the number of its elements. The pointer is not NULL
- * and is aligned for its type, also where the number is 0. No two slices of one
+ * A slice is a pointer and the number of its elements. The pointer is to so many
+ * elements, and aligned for their type. Where the number is 0 it may be NULL, or
+ * to no memory: nothing is read or written by way of it. No two slices of one
  * call overlap.
  *
  * After a run the slices hold this:
@@ -27,9 +28,18 @@
  *
  * Nothing beyond is written to. What `work` held before makes no difference.
  *
- * `rest` gets two numbers: the place, which is the position in the timetable of
- * the step that 12, 13 or 14 refuses and else 0, and the count of result bytes.
- * Where it has room for fewer than two it is left as it was.
+ * `place_and_count` gets two numbers: the place, which is the position in the
+ * timetable of the step that 12, 13 or 14 refuses and else 0, and the count of
+ * result bytes. Where it has room for fewer than two it is left as it was.
+ *
+ * Nothing is kept between calls, and no memory is allocated. Calls may be made at
+ * the same time where none of them writes to a slice of another.
+ *
+ * Stack: lupinpause_check takes less than 1 KB, lupinpause_run_timetable and
+ * lupinpause_run_plain some 32 KB, lupinpause_run_depth_first some 18 KB. The
+ * loader may take 4 KB more in a first call, to find memcpy and memset. All this
+ * is measured of the compiled library, on the sessions that take most, and is not
+ * proved. With LUPINPAUSE_STACK bytes left every call can be made.
  */
 #ifndef LUPINPAUSE_H
 #define LUPINPAUSE_H
@@ -37,10 +47,14 @@
 #include <stddef.h>
 #include <stdint.h>
 
-/* What a run asks for: numbers of `work`, bytes of `result`, numbers of `rest`. */
+/* What a run asks for: numbers of `work`, bytes of `result`, numbers of
+ * `place_and_count`. */
 #define LUPINPAUSE_WORK 8192
 #define LUPINPAUSE_RESULT 4624
-#define LUPINPAUSE_REST 2
+#define LUPINPAUSE_PLACE_AND_COUNT 2
+
+/* Bytes of stack that no call uses up, a first one included. */
+#define LUPINPAUSE_STACK 40960
 
 #ifdef __cplusplus
 extern "C" {
@@ -57,7 +71,7 @@ uint32_t lupinpause_run_timetable(
     size_t clearance,
     uint32_t *work, size_t work_length,
     uint8_t *result, size_t result_length,
-    uint32_t *rest, size_t rest_length);
+    uint32_t *place_and_count, size_t place_and_count_length);
 
 /* The plain run: each scheduler step by the lowest-numbered level that may step.
  * Never refused by 12 to 15. */
@@ -66,7 +80,7 @@ uint32_t lupinpause_run_plain(
     size_t clearance,
     uint32_t *work, size_t work_length,
     uint8_t *result, size_t result_length,
-    uint32_t *rest, size_t rest_length);
+    uint32_t *place_and_count, size_t place_and_count_length);
 
 /* The depth-first run: a fork runs whole before its sender continues. It asks
  * for no work slice, so it is never refused by 10, nor by 12 to 15. */
@@ -74,7 +88,7 @@ uint32_t lupinpause_run_depth_first(
     const uint8_t *session, size_t session_length,
     size_t clearance,
     uint8_t *result, size_t result_length,
-    uint32_t *rest, size_t rest_length);
+    uint32_t *place_and_count, size_t place_and_count_length);
 
 #ifdef __cplusplus
 }

@@ -1,20 +1,33 @@
 /* Calls the library from C by way of its header: session W of document 01, by
- * all three runs and the check, and refusals. */
+ * all three runs and the check; refusals; empty slices that are NULL; and how
+ * much stack the calls take. */
+
+#define _XOPEN_SOURCE 700
 
 #include "../../include/lupinpause.h"
 
 #include <stdio.h>
 #include <string.h>
+#include <ucontext.h>
 
 /* Room for any session: 297 records of 16 bytes. */
 static uint8_t session[297 * 16];
+static size_t length;
 
 static uint32_t work[LUPINPAUSE_WORK];
 static uint8_t result[LUPINPAUSE_RESULT];
 /* One more than asked for, to see that it stays. */
-static uint32_t rest[LUPINPAUSE_REST + 1];
+static uint32_t place_and_count[LUPINPAUSE_PLACE_AND_COUNT + 1];
 
 static const uint8_t six_and_six[] = {0, 0, 0, 0, 0, 0, 1, 1, 1, 1, 1, 1};
+
+/* Slices as two arguments. */
+#define SESSION session, length
+#define TIMETABLE six_and_six, sizeof six_and_six
+#define WORK work, LUPINPAUSE_WORK
+#define RESULT result, LUPINPAUSE_RESULT
+#define ANSWER place_and_count, LUPINPAUSE_PLACE_AND_COUNT
+#define NONE NULL, 0
 
 /* What a reader cleared to level 0 is shown. */
 static const uint8_t shown[] = {
@@ -40,10 +53,10 @@ static void expect_run(const char *what, uint32_t number, uint32_t wanted,
     uint32_t place, uint32_t written)
 {
     expect(what, number, wanted);
-    expect(what, rest[0], place);
-    expect(what, rest[1], written);
-    expect(what, rest[2], untouched);
-    memset(rest, 0xa5, sizeof rest);
+    expect(what, place_and_count[0], place);
+    expect(what, place_and_count[1], written);
+    expect(what, place_and_count[2], untouched);
+    memset(place_and_count, 0xa5, sizeof place_and_count);
 }
 
 static void expect_records(const char *what, uint32_t number)
@@ -56,48 +69,176 @@ static void expect_records(const char *what, uint32_t number)
     memset(result, 0xa5, sizeof result);
 }
 
-static void expect_refusals(size_t length)
+static void expect_refusals(void)
 {
-    expect_run("a first step by level 1", lupinpause_run_timetable(session, length,
-        six_and_six + 6, 6, 0, work, LUPINPAUSE_WORK,
-        result, LUPINPAUSE_RESULT, rest, LUPINPAUSE_REST), 13, 0, 0);
-    expect_run("a second step by level 1", lupinpause_run_timetable(session, length,
-        six_and_six + 5, 3, 0, work, LUPINPAUSE_WORK,
-        result, LUPINPAUSE_RESULT, rest, LUPINPAUSE_REST), 13, 1, 0);
-    expect_run("six steps", lupinpause_run_timetable(session, length,
-        six_and_six, 6, 0, work, LUPINPAUSE_WORK,
-        result, LUPINPAUSE_RESULT, rest, LUPINPAUSE_REST), 15, 0, 0);
-    expect_run("work too short", lupinpause_run_plain(session, length, 0,
-        work, LUPINPAUSE_WORK - 1, result, LUPINPAUSE_RESULT,
-        rest, LUPINPAUSE_REST), 10, 0, 0);
-    expect_run("result too short", lupinpause_run_depth_first(session, length, 0,
-        result, LUPINPAUSE_RESULT - 1, rest, LUPINPAUSE_REST), 11, 0, 0);
-    expect_run("no such clearance", lupinpause_run_depth_first(session, length, SIZE_MAX,
-        result, LUPINPAUSE_RESULT, rest, LUPINPAUSE_REST), 9, 0, 0);
-    expect_run("rest too short", lupinpause_run_depth_first(session, length, 2,
-        result, LUPINPAUSE_RESULT, rest, LUPINPAUSE_REST - 1), 9, untouched, untouched);
+    expect_run("a first step by level 1", lupinpause_run_timetable(SESSION,
+        six_and_six + 6, 6, 0, WORK, RESULT, ANSWER), 13, 0, 0);
+    expect_run("a second step by level 1", lupinpause_run_timetable(SESSION,
+        six_and_six + 5, 3, 0, WORK, RESULT, ANSWER), 13, 1, 0);
+    expect_run("six steps", lupinpause_run_timetable(SESSION,
+        six_and_six, 6, 0, WORK, RESULT, ANSWER), 15, 0, 0);
+    expect_run("work too short", lupinpause_run_plain(SESSION, 0,
+        work, LUPINPAUSE_WORK - 1, RESULT, ANSWER), 10, 0, 0);
+    expect_run("result too short", lupinpause_run_depth_first(SESSION, 0,
+        result, LUPINPAUSE_RESULT - 1, ANSWER), 11, 0, 0);
+    expect_run("no such clearance", lupinpause_run_depth_first(SESSION, SIZE_MAX,
+        RESULT, ANSWER), 9, 0, 0);
+    expect_run("room for one number", lupinpause_run_depth_first(SESSION, 2, RESULT,
+        place_and_count, LUPINPAUSE_PLACE_AND_COUNT - 1), 9, untouched, untouched);
+}
+
+/* Each slice of each entry in turn is NULL with length 0. */
+static void expect_empty(void)
+{
+    expect("check, no session", lupinpause_check(NONE), 1);
+    expect_run("timetabled, no session", lupinpause_run_timetable(NONE, TIMETABLE, 0,
+        WORK, RESULT, ANSWER), 1, 0, 0);
+    expect_run("plain, no session", lupinpause_run_plain(NONE, 0,
+        WORK, RESULT, ANSWER), 1, 0, 0);
+    expect_run("depth-first, no session", lupinpause_run_depth_first(NONE, 0,
+        RESULT, ANSWER), 1, 0, 0);
+    expect_run("timetabled, no timetable", lupinpause_run_timetable(SESSION, NONE, 0,
+        WORK, RESULT, ANSWER), 15, 0, 0);
+    expect_run("timetabled, no work", lupinpause_run_timetable(SESSION, TIMETABLE, 0,
+        NONE, RESULT, ANSWER), 10, 0, 0);
+    expect_run("plain, no work", lupinpause_run_plain(SESSION, 0,
+        NONE, RESULT, ANSWER), 10, 0, 0);
+    expect_run("timetabled, no result", lupinpause_run_timetable(SESSION, TIMETABLE, 0,
+        WORK, NONE, ANSWER), 11, 0, 0);
+    expect_run("plain, no result", lupinpause_run_plain(SESSION, 0,
+        WORK, NONE, ANSWER), 11, 0, 0);
+    expect_run("depth-first, no result", lupinpause_run_depth_first(SESSION, 0,
+        NONE, ANSWER), 11, 0, 0);
+    expect("timetabled, no answer", lupinpause_run_timetable(SESSION, TIMETABLE, 0,
+        WORK, RESULT, NONE), 0);
+    expect("plain, no answer", lupinpause_run_plain(SESSION, 0, WORK, RESULT, NONE), 0);
+    expect("depth-first, no answer", lupinpause_run_depth_first(SESSION, 0,
+        RESULT, NONE), 0);
+}
+
+static void put_record(int kind, int b1, int b2, int b3, int b6)
+{
+    const uint8_t record[16] = {(uint8_t)kind, (uint8_t)b1, (uint8_t)b2, (uint8_t)b3,
+        0, 0, (uint8_t)b6, 0, 0, 0, 0, 0, 0, 0, 0, 0};
+    memcpy(session + length, record, sizeof record);
+    length += sizeof record;
+}
+
+/* Eight levels, each over the one before, with an object each. Every object sends
+ * to the one above it, and the last to the first: the depth-first run is as deep
+ * as it can be. */
+static void put_chain(void)
+{
+    length = 0;
+    for (int i = 0; i < 8; i++)
+        put_record(1, i, (2 << i) - 1, 0, 0);
+    for (int i = 0; i < 8; i++)
+        put_record(2, i, i, 0, 0);
+    for (int i = 0; i < 8; i++)
+        put_record(3, i, 0, 6, (i + 1) % 8);
+    put_record(4, 0, 0, 0, 0);
+}
+
+/* Level 7 over 1 to 6, each of them over 0, with an object each. A manager at
+ * level 1 runs object 0, which sends to objects 2 to 6: in these script steps a
+ * least upper bound is searched for. */
+static void put_fan(void)
+{
+    length = 0;
+    put_record(1, 0, 1, 0, 0);
+    for (int i = 1; i < 7; i++)
+        put_record(1, i, 1 | 1 << i, 0, 0);
+    put_record(1, 7, 0xff, 0, 0);
+    for (int i = 0; i < 8; i++)
+        put_record(2, i, i, 0, 0);
+    for (int i = 2; i < 7; i++)
+        put_record(3, 0, 0, 6, i);
+    put_record(3, 1, 0, 6, 0);
+    put_record(4, 1, 0, 0, 0);
+}
+
+static uint32_t number;
+
+static void check(void)
+{
+    number = lupinpause_check(SESSION);
+}
+
+static void run_timetable(void)
+{
+    /* The root's level is 1 or 0; 15 while the forks wait. */
+    static const uint8_t ones[] = {1, 1, 1, 1, 1, 1, 1};
+    static const uint8_t zeros[] = {0, 0};
+    number = session[length - 15] == 1
+        ? lupinpause_run_timetable(SESSION, ones, sizeof ones, 7, WORK, RESULT, ANSWER)
+        : lupinpause_run_timetable(SESSION, zeros, sizeof zeros, 7, WORK, RESULT, ANSWER);
+}
+
+static void run_plain(void)
+{
+    number = lupinpause_run_plain(SESSION, 7, WORK, RESULT, ANSWER);
+}
+
+static void run_depth_first(void)
+{
+    number = lupinpause_run_depth_first(SESSION, 7, RESULT, ANSWER);
+}
+
+static uint8_t stack[4 * LUPINPAUSE_STACK];
+
+/* Makes a call on a stack of its own, and sees up to where that was written to. */
+static void expect_stack(const char *what, void (*call)(void), uint32_t wanted)
+{
+    static ucontext_t here, there;
+    memset(stack, 0xa5, sizeof stack);
+    getcontext(&there);
+    there.uc_stack.ss_sp = stack;
+    there.uc_stack.ss_size = sizeof stack;
+    there.uc_link = &here;
+    makecontext(&there, call, 0);
+    swapcontext(&here, &there);
+    expect(what, number, wanted);
+    size_t left = 0;
+    while (left < sizeof stack && stack[left] == 0xa5)
+        left++;
+    if (sizeof stack - left > LUPINPAUSE_STACK) {
+        fprintf(stderr, "%s: %u bytes of stack\n", what, (unsigned)(sizeof stack - left));
+        failures++;
+    }
+}
+
+static void expect_stacks(const char *what)
+{
+    expect_stack(what, check, 0);
+    expect_stack(what, run_timetable, 15);
+    expect_stack(what, run_plain, 0);
+    expect_stack(what, run_depth_first, 0);
 }
 
 int main(int count, char **arguments)
 {
+    /* First, so that the loader's part in a first call is seen. */
+    put_chain();
+    expect_stacks("eight levels");
+    put_fan();
+    expect_stacks("bounds searched for");
+
     FILE *file = count == 2 ? fopen(arguments[1], "rb") : NULL;
     if (file == NULL) {
         fprintf(stderr, "the argument is session W\n");
         return 2;
     }
-    size_t length = fread(session, 1, sizeof session, file);
+    length = fread(session, 1, sizeof session, file);
     fclose(file);
-    memset(rest, 0xa5, sizeof rest);
+    memset(place_and_count, 0xa5, sizeof place_and_count);
 
-    expect("check", lupinpause_check(session, length), 0);
+    expect("check", lupinpause_check(SESSION), 0);
     expect("check cut short", lupinpause_check(session, length - 1), 1);
-    expect_records("plain", lupinpause_run_plain(session, length, 0,
-        work, LUPINPAUSE_WORK, result, LUPINPAUSE_RESULT, rest, LUPINPAUSE_REST));
-    expect_records("timetabled", lupinpause_run_timetable(session, length,
-        six_and_six, sizeof six_and_six, 0,
-        work, LUPINPAUSE_WORK, result, LUPINPAUSE_RESULT, rest, LUPINPAUSE_REST));
-    expect_records("depth-first", lupinpause_run_depth_first(session, length, 0,
-        result, LUPINPAUSE_RESULT, rest, LUPINPAUSE_REST));
-    expect_refusals(length);
+    expect_records("plain", lupinpause_run_plain(SESSION, 0, WORK, RESULT, ANSWER));
+    expect_records("timetabled", lupinpause_run_timetable(SESSION, TIMETABLE, 0,
+        WORK, RESULT, ANSWER));
+    expect_records("depth-first", lupinpause_run_depth_first(SESSION, 0, RESULT, ANSWER));
+    expect_refusals();
+    expect_empty();
     return failures != 0;
 }
