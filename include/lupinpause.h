@@ -36,10 +36,11 @@
  * the same time where none of them writes to a slice of another.
  *
  * Stack: lupinpause_check takes less than 1 KB, lupinpause_run_timetable and
- * lupinpause_run_plain some 32 KB, lupinpause_run_depth_first some 18 KB. The
- * loader may take 4 KB more in a first call, to find memcpy and memset. All this
- * is measured of the compiled library, on the sessions that take most, and is not
- * proved. With LUPINPAUSE_STACK bytes left every call can be made.
+ * lupinpause_run_plain some 32 KB, lupinpause_run_depth_first some 18 KB. In a
+ * first call the loader may take more, to find memcpy and memset: 3 KB where it
+ * was measured. All this is measured of the compiled library, on the sessions
+ * that take most, and is not proved. With LUPINPAUSE_STACK bytes left every call
+ * can be made.
  */
 #ifndef LUPINPAUSE_H
 #define LUPINPAUSE_H
@@ -54,7 +55,7 @@
 #define LUPINPAUSE_PLACE_AND_COUNT 2
 
 /* Bytes of stack that no call uses up, a first one included. */
-#define LUPINPAUSE_STACK 40960
+#define LUPINPAUSE_STACK 49152
 
 #ifdef __cplusplus
 extern "C" {
