@@ -2,7 +2,7 @@
 //! broken rule and each limit occurred.
 
 use crate::clearances;
-use crate::limits::{REST_LENGTH, RESULT_LENGTH, WORK_LENGTH};
+use crate::limits::{PLACE_AND_COUNT_LENGTH, RESULT_LENGTH, WORK_LENGTH};
 use crate::request::{Outcome, Request, Run};
 use crate::sessions::rules::Rule;
 use crate::tally::Totals;
@@ -14,7 +14,7 @@ const PLAIN: &str = "plain run, answer";
 const TIMETABLED: &str = "timetabled run, answer";
 const WORK: &str = "work slice, length";
 const RESULT: &str = "result buffer, length";
-const REST: &str = "rest, length";
+const PLACE_AND_COUNT: &str = "place_and_count, length";
 
 pub struct Counts {
     /// Calls by a number of theirs.
@@ -36,7 +36,7 @@ impl Counts {
             (TIMETABLED, (0..=15).collect::<Vec<usize>>()),
             (WORK, (WORK_LENGTH - 1..=WORK_LENGTH + 1).collect()),
             (RESULT, (RESULT_LENGTH - 1..=RESULT_LENGTH + 1).collect()),
-            (REST, (0..=REST_LENGTH + 1).collect()),
+            (PLACE_AND_COUNT, (0..=PLACE_AND_COUNT_LENGTH + 1).collect()),
         ];
         let calls = numbers
             .into_iter()
@@ -66,7 +66,7 @@ impl Counts {
             self.add_call(WORK, lengths.work);
         }
         self.add_call(RESULT, lengths.result);
-        self.add_call(REST, lengths.rest);
+        self.add_call(PLACE_AND_COUNT, lengths.place_and_count);
     }
 
     fn add_call(&mut self, name: &'static str, number: usize) {

@@ -14,8 +14,8 @@ extern "C" {
         work_length: usize,
         result: *mut u8,
         result_length: usize,
-        rest: *mut u32,
-        rest_length: usize,
+        place_and_count: *mut u32,
+        place_and_count_length: usize,
     ) -> u32;
     fn lupinpause_run_plain(
         session: *const u8,
@@ -25,8 +25,8 @@ extern "C" {
         work_length: usize,
         result: *mut u8,
         result_length: usize,
-        rest: *mut u32,
-        rest_length: usize,
+        place_and_count: *mut u32,
+        place_and_count_length: usize,
     ) -> u32;
     fn lupinpause_run_depth_first(
         session: *const u8,
@@ -34,15 +34,15 @@ extern "C" {
         clearance: usize,
         result: *mut u8,
         result_length: usize,
-        rest: *mut u32,
-        rest_length: usize,
+        place_and_count: *mut u32,
+        place_and_count_length: usize,
     ) -> u32;
 }
 
 pub struct Compiled;
 
-// An empty slice's pointer is aligned and not null, which is all that the
-// header asks for. It may be to no memory, so any use of it is a fault.
+// An empty slice has a pointer that is not null, though the header allows it:
+// it may be to no memory, so any use of it is a fault.
 impl Library for Compiled {
     fn check(&self, session: &[u8]) -> u32 {
         // SAFETY: the pointer is to `session.len()` readable bytes, which stay
@@ -58,7 +58,7 @@ impl Library for Compiled {
         clearance: usize,
         work: &mut [u32],
         result: &mut [u8],
-        rest: &mut [u32],
+        place_and_count: &mut [u32],
     ) -> u32 {
         // SAFETY: each pointer is to as many values as the length beside it
         // says; they stay borrowed during the call, the session and the
@@ -74,8 +74,8 @@ impl Library for Compiled {
                 work.len(),
                 result.as_mut_ptr(),
                 result.len(),
-                rest.as_mut_ptr(),
-                rest.len(),
+                place_and_count.as_mut_ptr(),
+                place_and_count.len(),
             )
         }
     }
@@ -86,7 +86,7 @@ impl Library for Compiled {
         clearance: usize,
         work: &mut [u32],
         result: &mut [u8],
-        rest: &mut [u32],
+        place_and_count: &mut [u32],
     ) -> u32 {
         // SAFETY: as for the timetabled run.
         unsafe {
@@ -98,8 +98,8 @@ impl Library for Compiled {
                 work.len(),
                 result.as_mut_ptr(),
                 result.len(),
-                rest.as_mut_ptr(),
-                rest.len(),
+                place_and_count.as_mut_ptr(),
+                place_and_count.len(),
             )
         }
     }
@@ -109,7 +109,7 @@ impl Library for Compiled {
         session: &[u8],
         clearance: usize,
         result: &mut [u8],
-        rest: &mut [u32],
+        place_and_count: &mut [u32],
     ) -> u32 {
         // SAFETY: as for the timetabled run.
         unsafe {
@@ -119,8 +119,8 @@ impl Library for Compiled {
                 clearance,
                 result.as_mut_ptr(),
                 result.len(),
-                rest.as_mut_ptr(),
-                rest.len(),
+                place_and_count.as_mut_ptr(),
+                place_and_count.len(),
             )
         }
     }

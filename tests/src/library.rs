@@ -28,10 +28,10 @@ impl Answer {
         }
     }
 
-    /// Answers as an entry does: place and count go to `rest` if it has room
+    /// Answers as an entry does: place and count go to `place_and_count` if it has room
     /// for both.
-    pub fn give(self, rest: &mut [u32]) -> u32 {
-        if let [place, count, ..] = rest {
+    pub fn give(self, place_and_count: &mut [u32]) -> u32 {
+        if let [place, count, ..] = place_and_count {
             *place = self.place as u32;
             *count = self.count as u32;
         }
@@ -50,7 +50,7 @@ pub trait Library {
         clearance: usize,
         work: &mut [u32],
         result: &mut [u8],
-        rest: &mut [u32],
+        place_and_count: &mut [u32],
     ) -> u32;
 
     fn run_plain(
@@ -59,7 +59,7 @@ pub trait Library {
         clearance: usize,
         work: &mut [u32],
         result: &mut [u8],
-        rest: &mut [u32],
+        place_and_count: &mut [u32],
     ) -> u32;
 
     fn run_depth_first(
@@ -67,6 +67,6 @@ pub trait Library {
         session: &[u8],
         clearance: usize,
         result: &mut [u8],
-        rest: &mut [u32],
+        place_and_count: &mut [u32],
     ) -> u32;
 }

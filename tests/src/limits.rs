@@ -25,5 +25,5 @@ pub const KEPT_MAX: usize = 32;
 pub const WORK_LENGTH: usize = 8192;
 /// Bytes of the result buffer that a run asks for.
 pub const RESULT_LENGTH: usize = 4624;
-/// Numbers of `rest` that a run asks for: place and count.
-pub const REST_LENGTH: usize = 2;
+/// Numbers of `place_and_count` that a run asks for: place and count.
+pub const PLACE_AND_COUNT_LENGTH: usize = 2;

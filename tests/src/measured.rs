@@ -1,7 +1,7 @@
 //! What is measured: four sessions and the four entries.
 
 use crate::library::{Answer, Library};
-use crate::limits::{REST_LENGTH, RESULT_LENGTH, WORK_LENGTH};
+use crate::limits::{PLACE_AND_COUNT_LENGTH, RESULT_LENGTH, WORK_LENGTH};
 use crate::random::Random;
 use crate::reference::Session;
 use crate::sessions::Fixed;
@@ -53,7 +53,7 @@ impl Case {
 pub struct Buffers {
     work: Vec<u32>,
     result: Vec<u8>,
-    rest: [u32; REST_LENGTH],
+    place_and_count: [u32; PLACE_AND_COUNT_LENGTH],
 }
 
 impl Buffers {
@@ -61,13 +61,13 @@ impl Buffers {
         Buffers {
             work: vec![0; WORK_LENGTH],
             result: vec![0; RESULT_LENGTH],
-            rest: [0; REST_LENGTH],
+            place_and_count: [0; PLACE_AND_COUNT_LENGTH],
         }
     }
 
     /// The answer of a call that gave this number, and the result.
     pub fn answer(&self, number: u32) -> (Answer, &[u8]) {
-        let [place, count] = self.rest.map(|number| number as usize);
+        let [place, count] = self.place_and_count.map(|number| number as usize);
         let answer = Answer {
             number,
             place,
@@ -87,7 +87,7 @@ fn plain(library: &dyn Library, case: &Case, lent: &mut Buffers) -> u32 {
         case.clearance,
         &mut lent.work,
         &mut lent.result,
-        &mut lent.rest,
+        &mut lent.place_and_count,
     )
 }
 
@@ -98,7 +98,7 @@ fn timetabled(library: &dyn Library, case: &Case, lent: &mut Buffers) -> u32 {
         case.clearance,
         &mut lent.work,
         &mut lent.result,
-        &mut lent.rest,
+        &mut lent.place_and_count,
     )
 }
 
@@ -107,6 +107,6 @@ fn depth_first(library: &dyn Library, case: &Case, lent: &mut Buffers) -> u32 {
         &case.session,
         case.clearance,
         &mut lent.result,
-        &mut lent.rest,
+        &mut lent.place_and_count,
     )
 }

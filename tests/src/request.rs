@@ -2,7 +2,7 @@
 
 use crate::guarded::Guarded;
 use crate::library::{Answer, Library};
-use crate::limits::{REST_LENGTH, RESULT_LENGTH, WORK_LENGTH};
+use crate::limits::{PLACE_AND_COUNT_LENGTH, RESULT_LENGTH, WORK_LENGTH};
 use crate::reader;
 
 #[derive(Clone, Debug)]
@@ -18,14 +18,14 @@ pub enum Run {
 pub struct Lengths {
     pub work: usize,
     pub result: usize,
-    pub rest: usize,
+    pub place_and_count: usize,
 }
 
 impl Lengths {
     pub const ENOUGH: Lengths = Lengths {
         work: WORK_LENGTH,
         result: RESULT_LENGTH,
-        rest: REST_LENGTH,
+        place_and_count: PLACE_AND_COUNT_LENGTH,
     };
 }
 
@@ -87,7 +87,7 @@ pub struct Fill<'a> {
     pub bytes: &'a [u8],
     pub words: &'a [u32],
     /// Never 0, as most places and many counts are.
-    pub rest: &'a [u32],
+    pub place_and_count: &'a [u32],
     /// Guard values on each side of what is lent.
     pub guard: usize,
 }
@@ -128,16 +128,20 @@ fn perform_run(
     };
     let mut list = Guarded::new(list, fill.bytes, fill.guard);
     let mut call = |lent: &mut Lent| {
-        let (session, result, rest) = (session.slice(), lent.result.slice(), lent.rest.slice());
+        let (session, result, place_and_count) = (
+            session.slice(),
+            lent.result.slice(),
+            lent.place_and_count.slice(),
+        );
         match (run, &mut lent.work) {
             (Run::Timetabled(_), Some(work)) => {
                 let (list, work) = (list.slice(), work.slice());
-                library.run_timetable(session, list, clearance, work, result, rest)
+                library.run_timetable(session, list, clearance, work, result, place_and_count)
             }
             (Run::Plain, Some(work)) => {
-                library.run_plain(session, clearance, work.slice(), result, rest)
+                library.run_plain(session, clearance, work.slice(), result, place_and_count)
             }
-            _ => library.run_depth_first(session, clearance, result, rest),
+            _ => library.run_depth_first(session, clearance, result, place_and_count),
         }
     };
     let work_length = match run {
@@ -152,7 +156,7 @@ fn perform_run(
 struct Lent<'a> {
     work: Option<Guarded<'a, u32>>,
     result: Guarded<'a, u8>,
-    rest: Guarded<'a, u32>,
+    place_and_count: Guarded<'a, u32>,
 }
 
 /// Makes a run and looks at what it wrote.
@@ -166,29 +170,39 @@ fn lend(
     let mut lent = Lent {
         work: work_length.map(words),
         result: Guarded::new(&fill.bytes[..lengths.result], fill.bytes, fill.guard),
-        rest: Guarded::new(&fill.rest[..lengths.rest], fill.rest, fill.guard),
+        place_and_count: Guarded::new(
+            &fill.place_and_count[..lengths.place_and_count],
+            fill.place_and_count,
+            fill.guard,
+        ),
     };
     let number = call(&mut lent);
-    let answer = if lengths.rest < REST_LENGTH {
-        demand(lent.rest.is_kept_but(0), "rest is too short and changed")?;
+    let answer = if lengths.place_and_count < PLACE_AND_COUNT_LENGTH {
+        demand(
+            lent.place_and_count.is_kept_but(0),
+            "place_and_count is too short and changed",
+        )?;
         // Only a call with more room tells place and count.
         let enough = Lengths {
-            rest: REST_LENGTH,
+            place_and_count: PLACE_AND_COUNT_LENGTH,
             ..lengths
         };
         let more = lend(work_length, enough, fill, call)?;
-        demand(more.answer.number == number, "the length of rest matters")?;
+        demand(
+            more.answer.number == number,
+            "the length of place_and_count matters",
+        )?;
         more.answer
     } else {
         demand(
-            lent.rest.is_kept_but(REST_LENGTH),
-            "rest changed beyond place and count",
+            lent.place_and_count.is_kept_but(PLACE_AND_COUNT_LENGTH),
+            "place_and_count changed beyond place and count",
         )?;
-        let rest = lent.rest.first(REST_LENGTH);
+        let place_and_count = lent.place_and_count.first(PLACE_AND_COUNT_LENGTH);
         Answer {
             number,
-            place: rest[0] as usize,
-            count: rest[1] as usize,
+            place: place_and_count[0] as usize,
+            count: place_and_count[1] as usize,
         }
     };
     look_at_buffers(&lent, &answer)?;

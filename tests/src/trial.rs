@@ -99,7 +99,7 @@ impl<'a> Trial<'a> {
         let fill = Fill {
             bytes: &self.bytes[start..],
             words: &self.words[self.random.below(4)][start..],
-            rest: &self.words[0][start..],
+            place_and_count: &self.words[0][start..],
             guard: self.random.pick(&[0, GUARD]),
         };
         let outcome = perform(library, session, request, fill);
@@ -180,7 +180,7 @@ impl<'a> Trial<'a> {
     /// A run with enough room, but for place and count.
     fn finishing(&mut self, run: Run, clearance: usize) -> Request {
         let lengths = Lengths {
-            rest: self.rest_length(),
+            place_and_count: self.place_and_count_length(),
             ..Lengths::ENOUGH
         };
         Request::Run {
@@ -190,7 +190,7 @@ impl<'a> Trial<'a> {
         }
     }
 
-    fn rest_length(&mut self) -> usize {
+    fn place_and_count_length(&mut self) -> usize {
         self.random.pick(&[0, 1, 2, 2, 3, 3])
     }
 
@@ -255,7 +255,7 @@ impl<'a> Trial<'a> {
             let lengths = Lengths {
                 work: WORK_LENGTH + self.random.below(3),
                 result: RESULT_LENGTH + self.random.below(3),
-                rest: self.rest_length(),
+                place_and_count: self.place_and_count_length(),
             };
             let request = Request::Run {
                 run: Run::Timetabled(timetable),
@@ -290,14 +290,14 @@ impl<'a> Trial<'a> {
     }
 
     fn any_lengths(&mut self, run: Run, clearance: usize) -> Request {
-        let rest = self.rest_length();
+        let place_and_count = self.place_and_count_length();
         let random = &mut self.random;
         let work = WORK_LENGTH + 1 - random.below(3);
         let result = RESULT_LENGTH + 1 - random.below(3);
         let lengths = Lengths {
             work: random.pick(&[0, 1, work, work, work, 9000]),
             result: random.pick(&[0, 16, result, result, result, 5000]),
-            rest,
+            place_and_count,
         };
         Request::Run {
             run,

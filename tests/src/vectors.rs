@@ -16,7 +16,7 @@
 //! LIST has levels with a comma between, 7x3 being three times 7.
 
 use crate::library::Answer;
-use crate::limits::REST_LENGTH;
+use crate::limits::PLACE_AND_COUNT_LENGTH;
 use crate::request::{Lengths, Outcome, Request, Run};
 use std::fs;
 
@@ -108,7 +108,7 @@ fn request(kind: &str, timetable: Vec<u8>, numbers: &[usize]) -> Option<(Request
     let lengths = Lengths {
         work,
         result,
-        rest: REST_LENGTH,
+        place_and_count: PLACE_AND_COUNT_LENGTH,
     };
     let request = Request::Run {
         run,

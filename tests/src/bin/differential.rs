@@ -90,7 +90,7 @@ fn known(sort: &str, cases: &[(impl Display, Vector)]) -> Result<(), String> {
             let fill = Fill {
                 bytes: &[0xa5; 10_000],
                 words: &[0xdead_beef; 20_000],
-                rest: &[0xdead_beef; 100],
+                place_and_count: &[0xdead_beef; 100],
                 guard: [0, GUARD][i % 2],
             };
             perform(library, &vector.session, &vector.request, fill)

@@ -92,17 +92,17 @@ impl Library for Reference {
         clearance: usize,
         work: &mut [u32],
         result: &mut [u8],
-        rest: &mut [u32],
+        place_and_count: &mut [u32],
     ) -> u32 {
         let session = match accept(session, clearance, Some(work.len()), result.len()) {
             Ok(session) => session,
-            Err(refusal) => return refusal.give(rest),
+            Err(refusal) => return refusal.give(place_and_count),
         };
         let outcome = timetabled(&session, timetable, &mut Tally::idle());
         work[..WORK_LENGTH].fill(0);
         match outcome {
-            Ok(outcome) => show(&outcome, &session, clearance, result).give(rest),
-            Err(refusal) => refusal.give(rest),
+            Ok(outcome) => show(&outcome, &session, clearance, result).give(place_and_count),
+            Err(refusal) => refusal.give(place_and_count),
         }
     }
 
@@ -112,15 +112,15 @@ impl Library for Reference {
         clearance: usize,
         work: &mut [u32],
         result: &mut [u8],
-        rest: &mut [u32],
+        place_and_count: &mut [u32],
     ) -> u32 {
         let session = match accept(session, clearance, Some(work.len()), result.len()) {
             Ok(session) => session,
-            Err(refusal) => return refusal.give(rest),
+            Err(refusal) => return refusal.give(place_and_count),
         };
         let outcome = plain(&session, &mut Tally::idle());
         work[..WORK_LENGTH].fill(0);
-        show(&outcome, &session, clearance, result).give(rest)
+        show(&outcome, &session, clearance, result).give(place_and_count)
     }
 
     fn run_depth_first(
@@ -128,13 +128,13 @@ impl Library for Reference {
         session: &[u8],
         clearance: usize,
         result: &mut [u8],
-        rest: &mut [u32],
+        place_and_count: &mut [u32],
     ) -> u32 {
         let session = match accept(session, clearance, None, result.len()) {
             Ok(session) => session,
-            Err(refusal) => return refusal.give(rest),
+            Err(refusal) => return refusal.give(place_and_count),
         };
         let outcome = depth_first(&session, &mut Tally::idle());
-        show(&outcome, &session, clearance, result).give(rest)
+        show(&outcome, &session, clearance, result).give(place_and_count)
     }
 }

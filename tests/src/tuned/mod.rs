@@ -48,16 +48,16 @@ impl Library for Tuned {
         clearance: usize,
         work: &mut [u32],
         result: &mut [u8],
-        rest: &mut [u32],
+        place_and_count: &mut [u32],
     ) -> u32 {
         let tables = match accept(session, clearance, work.len(), result.len()) {
             Ok(tables) => tables,
-            Err(number) => return Answer::refused(number, 0).give(rest),
+            Err(number) => return Answer::refused(number, 0).give(place_and_count),
         };
         let work = &mut work[..WORK_LENGTH];
         let answer = scheduled::run_timetable(&tables, timetable, clearance, work, result);
         work.fill(0);
-        answer.give(rest)
+        answer.give(place_and_count)
     }
 
     fn run_plain(
@@ -66,16 +66,16 @@ impl Library for Tuned {
         clearance: usize,
         work: &mut [u32],
         result: &mut [u8],
-        rest: &mut [u32],
+        place_and_count: &mut [u32],
     ) -> u32 {
         let tables = match accept(session, clearance, work.len(), result.len()) {
             Ok(tables) => tables,
-            Err(number) => return Answer::refused(number, 0).give(rest),
+            Err(number) => return Answer::refused(number, 0).give(place_and_count),
         };
         let work = &mut work[..WORK_LENGTH];
         let answer = scheduled::run_plain(&tables, clearance, work, result);
         work.fill(0);
-        answer.give(rest)
+        answer.give(place_and_count)
     }
 
     fn run_depth_first(
@@ -83,12 +83,12 @@ impl Library for Tuned {
         session: &[u8],
         clearance: usize,
         result: &mut [u8],
-        rest: &mut [u32],
+        place_and_count: &mut [u32],
     ) -> u32 {
         let answer = match accept(session, clearance, WORK_LENGTH, result.len()) {
             Ok(tables) => depth_first::run(&tables, clearance, result),
             Err(number) => Answer::refused(number, 0),
         };
-        answer.give(rest)
+        answer.give(place_and_count)
     }
 }
