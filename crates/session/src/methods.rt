@@ -11,8 +11,8 @@ ghost use mathlib.Core.Path.{_≡_};
 ghost use mathlib.Core.Bool.{_&&_, _||_};
 ghost use Prim.Native.Nat.{_+_, _-_, _≤_, _<_};
 ghost use lib.Dec.{ltb};
+ghost use Rattle.lattice.specs.Range.{all};
 ghost use Rattle.session.specs.Limits.{registers, names, maxSteps, maxMethod};
-ghost use Rattle.session.specs.Lists.{every};
 ghost use Rattle.session.specs.Record.{recordAt, recordCount, zeroAt, between, from};
 ghost use Rattle.session.specs.Parts.{keyOf};
 ghost use Rattle.session.specs.Questions.{operandsFit, unusedBytes, stepValid, scriptsValid};
@@ -123,13 +123,13 @@ fn method_end(session: &[u8], r: usize, end: usize) -> usize
     end
 }
 
-// Whether the steps of one method, from record `first` up to `end`, are valid among so many objects.
-fn is_method_valid(session: &[u8], first: usize, end: usize, objects: usize) -> bool
-    requires { ⌜ (first ≤ end) × (end ≤ first + maxMethod) × (end ≤ recordCount (now session)) ⌝ }
-    ensures { λ x. ⌜ x ≡ every (stepValid objects (end - first)) (recordsFrom (now (session .entry)) first (end - first)) ⌝ }
+// Whether the steps of one method, `count` records from `first` on, are valid among so many objects.
+fn is_method_valid(session: &[u8], first: usize, count: usize, objects: usize) -> bool
+    requires { ⌜ (first + count ≤ recordCount (now session)) × (count ≤ maxMethod) ⌝ }
+    ensures { λ x. ⌜ x ≡ all count (λ i. stepValid objects count (recordAt (now (session .entry)) (first + i))) ⌝ }
 {
-    for r in first..end {
-        if !is_valid(session, r, objects, end - first) {
+    for i in 0..count {
+        if !is_valid(session, first + i, objects, count) {
             return false;
         }
     }
@@ -156,10 +156,11 @@ pub fn are_valid(session: &[u8], first: usize, end: usize, objects: usize) -> bo
     let mut at = first;
     while at < end {
         let next = method_end(session, at, end);
-        if MAX_METHOD < next - at {
+        let count = next - at;
+        if MAX_METHOD < count {
             return false;
         }
-        if !is_method_valid(session, at, next, objects) {
+        if !is_method_valid(session, at, count, objects) {
             return false;
         }
         if falls(session, at, next, end) {
