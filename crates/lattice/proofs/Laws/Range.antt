@@ -89,24 +89,24 @@ all-fails n p i h q = go (all n p) refl
     go false e = refl
 
 -- a loop that tests the numbers below n in turn and ends at the first that fails: i of them have passed
-abbrev pub Passed : ℕ → (ℕ → Bool) → ℕ → Type 0
-Passed n p i = (i ≤ n) × (all i p ≡ true)
+abbrev pub Tested : ℕ → (ℕ → Bool) → ℕ → Type 0
+Tested n p i = (i ≤ n) × (all i p ≡ true)
 
 module _ (n : ℕ) (p : ℕ → Bool) where
-  pub passed-none : Passed n p 0
+  pub tested-none : Tested n p 0
   unfolding all
-  passed-none = (omega arith, refl)
+  tested-none = (omega arith, refl)
 
   -- r is what the code tested
-  pub passed-more : (i : ℕ) (r : Bool) → Passed n p i → i < n → r ≡ p i → not r ≡ false → Passed n p (i + 1)
+  pub tested-more : (i : ℕ) (r : Bool) → Tested n p i → i < n → r ≡ p i → not r ≡ false → Tested n p (i + 1)
   unfolding all
-  passed-more i r h l e t = (omega arith, rw add-one (and-both (all i p) (p i) (h .1) (sym e ∙ not-false r t)))
+  tested-more i r h l e t = (omega arith, rw add-one (and-both (all i p) (p i) (h .1) (sym e ∙ not-false r t)))
 
-  pub passed-fails : (i : ℕ) (r : Bool) → i < n → r ≡ p i → not r ≡ true → false ≡ all n p
-  passed-fails i r l e t = sym (all-fails n p i l (sym e ∙ not-true r t))
+  pub tested-fails : (i : ℕ) (r : Bool) → i < n → r ≡ p i → not r ≡ true → false ≡ all n p
+  tested-fails i r l e t = sym (all-fails n p i l (sym e ∙ not-true r t))
 
-  pub passed-all : (i : ℕ) → Passed n p i → n ≤ i → true ≡ all n p
-  passed-all i h l = let z : i ≡ n = omega arith in rw z at (sym (h .1))
+  pub tested-all : (i : ℕ) → Tested n p i → n ≤ i → true ≡ all n p
+  tested-all i h l = let z : i ≡ n = omega arith in rw z at (sym (h .1))
 
 -- where one test is two, so is the test of all
 pub all-both : (n : ℕ) (p q r : ℕ → Bool) → ((i : ℕ) → r i ≡ (p i && q i)) → all n r ≡ (all n p && all n q)

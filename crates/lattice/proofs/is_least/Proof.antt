@@ -8,14 +8,14 @@ use lib.ListN.{length}
 use Rattle.lattice.specs.Range.{implies}
 use Rattle.lattice.specs.Join.{isUpper}
 use Rattle.lattice.specs.Table.{dominates}
-use Rattle.lattice.proofs.Laws.Range.{Passed, passed-none, passed-more, passed-fails, passed-all}
+use Rattle.lattice.proofs.Laws.Range.{Tested, tested-none, tested-more, tested-fails, tested-all}
 use Rattle.lattice.proofs.Laws.Join.{least-no-upper, least-undercut, least-every}
 use Rattle.lattice.proofs.is_least.Statement.{statement}
 use Rattle.lattice.proofs.is_least.Tie as tie
 
 abbrev Inv-loop : tie.InvT-loop
 Inv-loop masks a b u v₀ v-end v =
-    Passed (length masks) (λ w. implies (isUpper (dominates masks) a b w) (dominates masks w u)) v
+    Tested (length masks) (λ w. implies (isUpper (dominates masks) a b w) (dominates masks w u)) v
 
 abbrev μ-loop : tie.MeasureT-loop
 μ-loop masks a b u v₀ v-end v = length masks - v
@@ -30,7 +30,7 @@ returns c =
     (sym (c .before .is-upper .ensures) ∙ not-true _ (c .if1 .taken)))
 
 loop-holds : tie.Need-loop-holds Inv-loop μ-loop
-loop-holds c = passed-none _ _
+loop-holds c = tested-none _ _
 
 undercuts-requires : tie.Need-undercuts-requires Inv-loop μ-loop
 undercuts-requires c κs = search needs
@@ -39,7 +39,7 @@ returns-2 : tie.Need-returns-2 Inv-loop μ-loop
 returns-2 c =
     let g = c .before .before .before .before .before .before .before .args in
     sym (least-undercut (length (g .masks .now)) (dominates (g .masks .now)) (g .a) (g .b) (g .u)
-    (sym (passed-fails _ _ (c .before .before .before .loop .v) _ (c .before .before .loop-test .taken) refl
+    (sym (tested-fails _ _ (c .before .before .before .loop .v) _ (c .before .before .loop-test .taken) refl
     (sym (c .before .undercuts .ensures) ∙ c .if2 .taken))))
 
 add-v : tie.Need-add-v Inv-loop μ-loop
@@ -50,7 +50,7 @@ loop-less c = omega arith
 
 loop-again : tie.Need-loop-again Inv-loop μ-loop
 loop-again c =
-    passed-more _ _ _ _ (c .before .before .before .loop .inv) (c .before .before .loop-test .taken) refl
+    tested-more _ _ _ _ (c .before .before .before .loop .inv) (c .before .before .loop-test .taken) refl
     (sym (c .before .undercuts .ensures) ∙ c .if2 .left)
 
 returns-3 : tie.Need-returns-3 Inv-loop μ-loop
@@ -58,7 +58,7 @@ returns-3 c =
     let g = c .before .before .before .before .before .args in
     sym (least-every (length (g .masks .now)) (dominates (g .masks .now)) (g .a) (g .b) (g .u)
     (sym (c .before .before .before .is-upper .ensures) ∙ not-false _ (c .before .before .if1 .left))
-    (sym (passed-all _ _ _ (c .before .loop .inv) (c .loop-test .left))))
+    (sym (tested-all _ _ _ (c .before .loop .inv) (c .loop-test .left))))
 
 pub is-least-spec : {M : Type 1} → statement M
 is-least-spec =

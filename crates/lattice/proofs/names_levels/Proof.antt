@@ -7,20 +7,20 @@ use lib.Dec.{ltb}
 use lib.ListN.{length, getD}
 use Rattle.lattice.specs.Order.{reflexive}
 use Rattle.lattice.specs.Table.{dominates, namesPresent}
-use Rattle.lattice.proofs.Laws.Range.{and-both, and-fails-left, and-fails-right, Passed, passed-none, passed-more, passed-fails, passed-all}
+use Rattle.lattice.proofs.Laws.Range.{and-both, and-fails-left, and-fails-right, Tested, tested-none, tested-more, tested-fails, tested-all}
 use Rattle.lattice.proofs.names_levels.Statement.{statement}
 use Rattle.lattice.proofs.names_levels.Tie as tie
 
 abbrev Inv-loop : tie.InvT-loop
 Inv-loop masks n i₀ i =
-    Passed (length masks) (λ k. ltb (getD masks k 0) (2 ^ length masks)) i
-    × Passed (length masks) (λ k. dominates masks k k) i
+    Tested (length masks) (λ k. ltb (getD masks k 0) (2 ^ length masks)) i
+    × Tested (length masks) (λ k. dominates masks k k) i
 
 abbrev μ-loop : tie.MeasureT-loop
 μ-loop masks n i₀ i = length masks - i
 
 loop-holds : tie.Need-loop-holds Inv-loop μ-loop
-loop-holds c = (passed-none _ _, passed-none _ _)
+loop-holds c = (tested-none _ _, tested-none _ _)
 
 mul-names-below : tie.Need-mul-names-below Inv-loop μ-loop
 mul-names-below c = search needs
@@ -37,7 +37,7 @@ returns c =
     let masks = c .before .before .before .before .before .before .args .masks .now in
     let n = length masks in
     sym (and-fails-left (namesPresent masks) (reflexive n (dominates masks))
-    (sym (passed-fails n _ _ _ (c .before .before .before .loop-test .taken) (c .before .names-below .ensures) (c .if1 .taken))))
+    (sym (tested-fails n _ _ _ (c .before .before .before .loop-test .taken) (c .before .names-below .ensures) (c .if1 .taken))))
 
 dominates-requires : tie.Need-dominates-requires Inv-loop μ-loop
 dominates-requires c κs = search needs
@@ -48,7 +48,7 @@ returns-2 c =
     let masks = c .before .before .before .before .before .before .before .before .args .masks .now in
     let n = length masks in
     sym (and-fails-right (namesPresent masks) (reflexive n (dominates masks))
-    (sym (passed-fails n (λ k. dominates masks k k) _ _ (c .before .before .before .before .before .loop-test .taken)
+    (sym (tested-fails n (λ k. dominates masks k k) _ _ (c .before .before .before .before .before .loop-test .taken)
     (c .before .dominates .ensures) (c .if2 .taken))))
 
 add-i : tie.Need-add-i Inv-loop μ-loop
@@ -61,8 +61,8 @@ loop-again : tie.Need-loop-again Inv-loop μ-loop
 loop-again c =
     let at = c .before .before .before .before .before .before .loop in
     let test = c .before .before .before .before .before .loop-test .taken in (
-      passed-more _ _ _ _ (at .inv .0) test (c .before .before .before .names-below .ensures) (c .before .before .if1 .left),
-      passed-more _ _ _ _ (at .inv .1) test (c .before .dominates .ensures) (c .if2 .left),
+      tested-more _ _ _ _ (at .inv .0) test (c .before .before .before .names-below .ensures) (c .before .before .if1 .left),
+      tested-more _ _ _ _ (at .inv .1) test (c .before .dominates .ensures) (c .if2 .left),
     )
 
 returns-3 : tie.Need-returns-3 Inv-loop μ-loop
@@ -71,8 +71,8 @@ returns-3 c =
     let masks = c .before .before .before .args .masks .now in
     let n = length masks in
     sym (and-both (namesPresent masks) (reflexive n (dominates masks))
-    (sym (passed-all n _ _ (c .before .loop .inv .0) (c .loop-test .left)))
-    (sym (passed-all n _ _ (c .before .loop .inv .1) (c .loop-test .left))))
+    (sym (tested-all n _ _ (c .before .loop .inv .0) (c .loop-test .left)))
+    (sym (tested-all n _ _ (c .before .loop .inv .1) (c .loop-test .left))))
 
 pub names-levels-spec : {M : Type 1} → statement M
 names-levels-spec =

@@ -6,19 +6,19 @@ use native.Mathlib.Omega.{arith}
 use borrow.Author.Needs.{needs}
 use borrow.Author.Tests.{eq-eqb, ne-eqb}
 use lib.Dec.{eqb}
-use Rattle.lattice.proofs.Laws.Range.{Passed, passed-none, passed-more, passed-fails, passed-all}
+use Rattle.lattice.proofs.Laws.Range.{Tested, tested-none, tested-more, tested-fails, tested-all}
 use Rattle.session.specs.Record.{recordAt, numberOf}
 use Rattle.session.proofs.levels.is_numbered.Statement.{statement}
 use Rattle.session.proofs.levels.is_numbered.Tie as tie
 
 abbrev Inv-loop : tie.InvT-loop
-Inv-loop session first count i₀ i = Passed count (λ k. eqb (numberOf (recordAt session (first + k))) k) i
+Inv-loop session first count i₀ i = Tested count (λ k. eqb (numberOf (recordAt session (first + k))) k) i
 
 abbrev μ-loop : tie.MeasureT-loop
 μ-loop session first count i₀ i = count - i
 
 loop-holds : tie.Need-loop-holds Inv-loop μ-loop
-loop-holds c = passed-none _ _
+loop-holds c = tested-none _ _
 
 add-byte-at : tie.Need-add-byte-at Inv-loop μ-loop
 add-byte-at c = omega arith
@@ -31,7 +31,7 @@ cast-if1 c = search needs
 
 returns : tie.Need-returns Inv-loop μ-loop
 returns c =
-    passed-fails _ _ (c .before .before .before .loop .i) _ (c .before .before .loop-test .taken) refl
+    tested-fails _ _ (c .before .before .before .loop .i) _ (c .before .before .loop-test .taken) refl
     (ap not (ne-eqb _ _ (λ z. c .if1 .taken (c .before .byte-at .ensures ∙ z))))
 
 add-i : tie.Need-add-i Inv-loop μ-loop
@@ -42,11 +42,11 @@ loop-less c = omega arith
 
 loop-again : tie.Need-loop-again Inv-loop μ-loop
 loop-again c =
-    passed-more _ _ _ _ (c .before .before .before .loop .inv) (c .before .before .loop-test .taken) refl
+    tested-more _ _ _ _ (c .before .before .before .loop .inv) (c .before .before .loop-test .taken) refl
     (ap not (eq-eqb _ _ (sym (c .before .byte-at .ensures) ∙ c .if1 .left)))
 
 returns-2 : tie.Need-returns-2 Inv-loop μ-loop
-returns-2 c = passed-all _ _ _ (c .before .loop .inv) (c .loop-test .left)
+returns-2 c = tested-all _ _ _ (c .before .loop .inv) (c .loop-test .left)
 
 pub is-numbered-spec : {M : Type 1} → statement M
 is-numbered-spec =

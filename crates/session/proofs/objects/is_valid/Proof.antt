@@ -7,7 +7,7 @@ use borrow.Author.Needs.{needs}
 use borrow.Author.Tests.{lt-ltb, le-ltb}
 use lib.Dec.{ltb}
 use Rattle.lattice.specs.Range.{all}
-use Rattle.lattice.proofs.Laws.Range.{and-both, and-fails-left, and-fails-right, Passed, passed-none, passed-more, passed-fails, passed-all}
+use Rattle.lattice.proofs.Laws.Range.{and-both, and-fails-left, and-fails-right, Tested, tested-none, tested-more, tested-fails, tested-all}
 use Rattle.session.specs.Record.{Record, recordAt, byteOf, levelByte}
 use Rattle.session.specs.Questions.{fieldValid, objectValid}
 use Rattle.session.proofs.objects.is_valid.Statement.{statement}
@@ -32,7 +32,7 @@ module _ (levels : ℕ) (rec : Record) where
   object-right h g f = and-both _ _ (and-both _ _ (lt-ltb (levelByte rec) levels h) (lt-ltb (byteOf rec 3) 8 g)) f
 
 abbrev Inv-loop : tie.InvT-loop
-Inv-loop session r levels k₀ k = Passed 3 (fieldValid (recordAt session r)) k
+Inv-loop session r levels k₀ k = Tested 3 (fieldValid (recordAt session r)) k
 
 abbrev μ-loop : tie.MeasureT-loop
 μ-loop session r levels k₀ k = 3 - k
@@ -53,7 +53,7 @@ returns-2 : tie.Need-returns-2 Inv-loop μ-loop
 returns-2 c = sym (mask-high _ _ (rw (c .before .byte-at2 .ensures) at (c .if2 .taken)))
 
 loop-holds : tie.Need-loop-holds Inv-loop μ-loop
-loop-holds c = passed-none _ _
+loop-holds c = tested-none _ _
 
 is-field-valid-requires : tie.Need-is-field-valid-requires Inv-loop μ-loop
 is-field-valid-requires c κs = search needs
@@ -61,7 +61,7 @@ is-field-valid-requires c κs = search needs
 returns-3 : tie.Need-returns-3 Inv-loop μ-loop
 returns-3 c =
     sym (field-wrong _ _
-    (sym (passed-fails _ _ _ _ (c .before .before .loop-test .taken) (c .before .is-field-valid .ensures) (c .if3 .taken))))
+    (sym (tested-fails _ _ _ _ (c .before .before .loop-test .taken) (c .before .is-field-valid .ensures) (c .if3 .taken))))
 
 add-k : tie.Need-add-k Inv-loop μ-loop
 add-k c = omega arith
@@ -71,7 +71,7 @@ loop-less c = omega arith
 
 loop-again : tie.Need-loop-again Inv-loop μ-loop
 loop-again c =
-    passed-more _ _ _ _ (c .before .before .before .loop .inv) (c .before .before .loop-test .taken) (c .before .is-field-valid .ensures) (c .if3 .left)
+    tested-more _ _ _ _ (c .before .before .before .loop .inv) (c .before .before .loop-test .taken) (c .before .is-field-valid .ensures) (c .if3 .left)
 
 returns-4 : tie.Need-returns-4 Inv-loop μ-loop
 returns-4 c =
@@ -79,7 +79,7 @@ returns-4 c =
     sym (object-right _ _
     (rw (tested .before .before .before .byte-at .ensures) at (tested .before .before .if1 .left))
     (rw (tested .before .byte-at2 .ensures) at (tested .if2 .left))
-    (sym (passed-all _ _ _ (c .before .loop .inv) (c .loop-test .left))))
+    (sym (tested-all _ _ _ (c .before .loop .inv) (c .loop-test .left))))
 
 pub is-valid-spec : {M : Type 1} → statement M
 is-valid-spec =
