@@ -1,9 +1,10 @@
--- Sessions computed by the definitions: document 01's session W and M8, W with one fault for each question, W emptied for level 0.
+-- Sessions computed by the definitions: document 01's session W and M8, W with one fault for each question, W emptied for level 0,
+-- and the whole bytes of a session emptied for a level with others above and beside it.
 -- Assumes nothing.
 use Prim.Native.Nat.{ℕ, _+_, _*_}
 use mathlib.Core.Path.{_≡_, refl}
-use mathlib.Core.List.{List, [], _∷_}
-use lib.ListN.{length, take, set}
+use mathlib.Core.List.{List, [], _∷_, _++_}
+use lib.ListN.{length, take, drop, set}
 use Rattle.lattice.specs.Range.{all, first}
 use Rattle.lattice.specs.Order.{reflexive, antisymmetric, transitive, isOrder}
 use Rattle.lattice.specs.Join.{isLeast, join, hasJoins}
@@ -26,6 +27,43 @@ number s = numberOfVerdict (verdictOf s)
 abbrev with : ℕ → ℕ → ℕ → List ℕ
 with r k v = set sessionW (16 * r + k) v
 
+-- level 3 over 1 and 2, and these over 0. Objects 0 to 3 at levels 2, 0, 3 and 1 hold values and have scripts; object 1 sends to
+-- object 0, which the root message goes to, with the number 6
+abbrev diamond : List ℕ
+diamond =
+    1 ∷ 0 ∷ 1 ∷ 0 ∷ 0 ∷ 0 ∷ 0 ∷ 0 ∷ 0 ∷ 0 ∷ 0 ∷ 0 ∷ 0 ∷ 0 ∷ 0 ∷ 0
+    ∷ 1 ∷ 1 ∷ 3 ∷ 0 ∷ 0 ∷ 0 ∷ 0 ∷ 0 ∷ 0 ∷ 0 ∷ 0 ∷ 0 ∷ 0 ∷ 0 ∷ 0 ∷ 0
+    ∷ 1 ∷ 2 ∷ 5 ∷ 0 ∷ 0 ∷ 0 ∷ 0 ∷ 0 ∷ 0 ∷ 0 ∷ 0 ∷ 0 ∷ 0 ∷ 0 ∷ 0 ∷ 0
+    ∷ 1 ∷ 3 ∷ 15 ∷ 0 ∷ 0 ∷ 0 ∷ 0 ∷ 0 ∷ 0 ∷ 0 ∷ 0 ∷ 0 ∷ 0 ∷ 0 ∷ 0 ∷ 0
+    ∷ 2 ∷ 0 ∷ 2 ∷ 5 ∷ 7 ∷ 0 ∷ 0 ∷ 0 ∷ 0 ∷ 0 ∷ 0 ∷ 0 ∷ 4 ∷ 3 ∷ 2 ∷ 1
+    ∷ 2 ∷ 1 ∷ 0 ∷ 1 ∷ 5 ∷ 0 ∷ 0 ∷ 0 ∷ 0 ∷ 0 ∷ 0 ∷ 0 ∷ 0 ∷ 0 ∷ 0 ∷ 0
+    ∷ 2 ∷ 2 ∷ 3 ∷ 2 ∷ 0 ∷ 0 ∷ 0 ∷ 0 ∷ 9 ∷ 0 ∷ 0 ∷ 0 ∷ 0 ∷ 0 ∷ 0 ∷ 0
+    ∷ 2 ∷ 3 ∷ 1 ∷ 4 ∷ 0 ∷ 0 ∷ 0 ∷ 0 ∷ 0 ∷ 0 ∷ 0 ∷ 0 ∷ 6 ∷ 0 ∷ 0 ∷ 0
+    ∷ 3 ∷ 0 ∷ 0 ∷ 7 ∷ 0 ∷ 0 ∷ 0 ∷ 0 ∷ 0 ∷ 0 ∷ 0 ∷ 0 ∷ 0 ∷ 0 ∷ 0 ∷ 0
+    ∷ 3 ∷ 1 ∷ 0 ∷ 6 ∷ 0 ∷ 0 ∷ 0 ∷ 0 ∷ 0 ∷ 0 ∷ 0 ∷ 0 ∷ 0 ∷ 0 ∷ 0 ∷ 0
+    ∷ 3 ∷ 1 ∷ 0 ∷ 7 ∷ 0 ∷ 0 ∷ 0 ∷ 0 ∷ 0 ∷ 0 ∷ 0 ∷ 0 ∷ 0 ∷ 0 ∷ 0 ∷ 0
+    ∷ 3 ∷ 2 ∷ 3 ∷ 4 ∷ 1 ∷ 1 ∷ 0 ∷ 0 ∷ 0 ∷ 0 ∷ 0 ∷ 0 ∷ 0 ∷ 0 ∷ 0 ∷ 0
+    ∷ 3 ∷ 3 ∷ 0 ∷ 5 ∷ 0 ∷ 2 ∷ 0 ∷ 0 ∷ 0 ∷ 0 ∷ 0 ∷ 0 ∷ 0 ∷ 0 ∷ 0 ∷ 0
+    ∷ 4 ∷ 0 ∷ 0 ∷ 1 ∷ 6 ∷ 0 ∷ 0 ∷ 0 ∷ 0 ∷ 0 ∷ 0 ∷ 0 ∷ 0 ∷ 0 ∷ 0 ∷ 0
+    ∷ []
+
+-- emptied for level 1, which dominates levels 0 and 1: objects 0 and 2 keep kind, number and level, and have neither fields nor scripts
+abbrev diamondFor1 : List ℕ
+diamondFor1 =
+    1 ∷ 0 ∷ 1 ∷ 0 ∷ 0 ∷ 0 ∷ 0 ∷ 0 ∷ 0 ∷ 0 ∷ 0 ∷ 0 ∷ 0 ∷ 0 ∷ 0 ∷ 0
+    ∷ 1 ∷ 1 ∷ 3 ∷ 0 ∷ 0 ∷ 0 ∷ 0 ∷ 0 ∷ 0 ∷ 0 ∷ 0 ∷ 0 ∷ 0 ∷ 0 ∷ 0 ∷ 0
+    ∷ 1 ∷ 2 ∷ 5 ∷ 0 ∷ 0 ∷ 0 ∷ 0 ∷ 0 ∷ 0 ∷ 0 ∷ 0 ∷ 0 ∷ 0 ∷ 0 ∷ 0 ∷ 0
+    ∷ 1 ∷ 3 ∷ 15 ∷ 0 ∷ 0 ∷ 0 ∷ 0 ∷ 0 ∷ 0 ∷ 0 ∷ 0 ∷ 0 ∷ 0 ∷ 0 ∷ 0 ∷ 0
+    ∷ 2 ∷ 0 ∷ 2 ∷ 0 ∷ 0 ∷ 0 ∷ 0 ∷ 0 ∷ 0 ∷ 0 ∷ 0 ∷ 0 ∷ 0 ∷ 0 ∷ 0 ∷ 0
+    ∷ 2 ∷ 1 ∷ 0 ∷ 1 ∷ 5 ∷ 0 ∷ 0 ∷ 0 ∷ 0 ∷ 0 ∷ 0 ∷ 0 ∷ 0 ∷ 0 ∷ 0 ∷ 0
+    ∷ 2 ∷ 2 ∷ 3 ∷ 0 ∷ 0 ∷ 0 ∷ 0 ∷ 0 ∷ 0 ∷ 0 ∷ 0 ∷ 0 ∷ 0 ∷ 0 ∷ 0 ∷ 0
+    ∷ 2 ∷ 3 ∷ 1 ∷ 4 ∷ 0 ∷ 0 ∷ 0 ∷ 0 ∷ 0 ∷ 0 ∷ 0 ∷ 0 ∷ 6 ∷ 0 ∷ 0 ∷ 0
+    ∷ 3 ∷ 1 ∷ 0 ∷ 6 ∷ 0 ∷ 0 ∷ 0 ∷ 0 ∷ 0 ∷ 0 ∷ 0 ∷ 0 ∷ 0 ∷ 0 ∷ 0 ∷ 0
+    ∷ 3 ∷ 1 ∷ 0 ∷ 7 ∷ 0 ∷ 0 ∷ 0 ∷ 0 ∷ 0 ∷ 0 ∷ 0 ∷ 0 ∷ 0 ∷ 0 ∷ 0 ∷ 0
+    ∷ 3 ∷ 3 ∷ 0 ∷ 5 ∷ 0 ∷ 2 ∷ 0 ∷ 0 ∷ 0 ∷ 0 ∷ 0 ∷ 0 ∷ 0 ∷ 0 ∷ 0 ∷ 0
+    ∷ 4 ∷ 0 ∷ 0 ∷ 1 ∷ 6 ∷ 0 ∷ 0 ∷ 0 ∷ 0 ∷ 0 ∷ 0 ∷ 0 ∷ 0 ∷ 0 ∷ 0 ∷ 0
+    ∷ []
+
 pub record Examples : Type 0 where
   w : number sessionW ≡ 0
   w-levels : masksOf sessionW ≡ 0x01 ∷ 0x03 ∷ []
@@ -39,12 +77,14 @@ pub record Examples : Type 0 where
   cut-short : number (take 239 sessionW) ≡ 1
   root-missing : number (take 224 sessionW) ≡ 2
   unknown-kind : number (with 14 0 5) ≡ 2
+  two-roots : number (sessionW ++ drop 224 sessionW) ≡ 2
   kinds-fall : number (with 2 0 3) ≡ 2
   level-misnumbered : number (with 1 1 0) ≡ 3
   level-padding : number (with 1 15 1) ≡ 3
   own-bit-missing : number (with 1 2 0x01) ≡ 4
   no-bound : number (with 1 2 0x02) ≡ 5
   level-absent : number (with 2 2 2) ≡ 6
+  mask-8 : number (with 3 3 8) ≡ 6
   nil-not-0 : number (with 3 7 1) ≡ 6
   unknown-operation : number (with 4 3 8) ≡ 7
   jump-too-far : number (set (with 4 3 3) (16 * 4 + 5) 6) ≡ 7
@@ -52,12 +92,16 @@ pub record Examples : Type 0 where
   number-unused : number (with 8 8 1) ≡ 7
   names-fall : number (with 4 2 1) ≡ 7
   root-absent : number (with 14 1 2) ≡ 8
+  tag-2 : number (with 14 3 2) ≡ 8
   nil-parameter-not-0 : number (with 14 4 1) ≡ 8
   -- emptied for level 0: object 1 has no fields and no script, all else stays
   emptied-accepted : number (emptied 0 sessionW) ≡ 0
   emptied-length : length (emptied 0 sessionW) ≡ 16 * 12
   emptied-method : methodOf (emptied 0 sessionW) 1 0 ≡ []
   emptied-for-1 : emptied 1 sessionW ≡ sessionW
+  diamond-accepted : number diamond ≡ 0
+  -- levels above it and beside it are hidden
+  emptied-whole : emptied 1 diamond ≡ diamondFor1
 
 pub examples : Examples
 unfolding all first reflexive antisymmetric transitive isOrder isLeast join hasJoins dominates namesPresent isOrdered every select risingFrom countsFrom tab joined recordAt recordsOf wordOf zeroAt stepOf ofKind masksOf methodRecords question1 kindsRise question2 question3 objectValid question6 operandsFit unusedBytes stepValid scriptValid scriptsValid rootValid firstNo verdictOf methodOf stays blanked emptied sessionW
@@ -75,12 +119,14 @@ examples =
       cut-short = refl;
       root-missing = refl;
       unknown-kind = refl;
+      two-roots = refl;
       kinds-fall = refl;
       level-misnumbered = refl;
       level-padding = refl;
       own-bit-missing = refl;
       no-bound = refl;
       level-absent = refl;
+      mask-8 = refl;
       nil-not-0 = refl;
       unknown-operation = refl;
       jump-too-far = refl;
@@ -88,9 +134,12 @@ examples =
       number-unused = refl;
       names-fall = refl;
       root-absent = refl;
+      tag-2 = refl;
       nil-parameter-not-0 = refl;
       emptied-accepted = refl;
       emptied-length = refl;
       emptied-method = refl;
       emptied-for-1 = refl;
+      diamond-accepted = refl;
+      emptied-whole = refl;
     }

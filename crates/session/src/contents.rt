@@ -9,6 +9,10 @@ use crate::Value;
 use crate::Verdict;
 use crate::kinds;
 use crate::levels;
+use crate::limits::MAX_METHODS;
+use crate::limits::NAMES;
+use crate::limits::RECORD_BYTES;
+use crate::places;
 use crate::record;
 ghost use mathlib.Core.Path.{_≡_};
 ghost use mathlib.Core.List.{_++_};
@@ -25,7 +29,7 @@ pub fn level_table(session: &[u8], masks: &mut [u16]) -> usize
     requires { ⌜ (verdictOf (now session) ≡ Verdict.Accepted) × (maxLevels ≤ length (now masks)) ⌝ }
     ensures { λ r. ⌜ (r ≡ levelCount (now (session .entry))) × (now (masks .exit) ≡ masksOf (now (session .entry)) ++ drop (levelCount (now (session .entry))) (now (masks .entry))) ⌝ }
 {
-    let levels = kinds::count_below(session, 0, 2);
+    let levels = kinds::count_below(session, 0, kinds::OBJECT_RECORD);
     levels::fill_masks(session, levels, masks);
     levels
 }
@@ -63,8 +67,13 @@ pub fn index_methods(session: &[u8], index: &mut [u16])
     let layout = kinds::count_kinds(session);
     let mut at = layout.levels + layout.objects;
     let end = at + layout.steps;
-    for slot in 0..513 {
-        at = method_start(session, at, end, 256 * (slot / 16) + slot % 16);
+    for slot in 0..MAX_METHODS + 1 {
+        at = method_start(
+            session,
+            at,
+            end,
+            record::KEY_OBJECT * (slot / NAMES) + slot % NAMES,
+        );
         index[slot] = at as u16;
     }
 }
@@ -74,7 +83,7 @@ pub fn level_of(session: &[u8], masks: &[u16], object: usize) -> usize
     requires { ⌜ (verdictOf (now session) ≡ Verdict.Accepted) × (now masks ≡ masksOf (now session)) × (object < objectCount (now session)) ⌝ }
     ensures { λ r. ⌜ r ≡ levelOf (now (session .entry)) object ⌝ }
 {
-    record::byte_at(session, masks.len() + object, 2) as usize
+    record::byte_at(session, masks.len() + object, places::LEVEL) as usize
 }
 
 // What field `k` of an object holds at first.
@@ -83,9 +92,9 @@ pub fn field_of(session: &[u8], masks: &[u16], object: usize, k: usize) -> Value
     ensures { λ r. ⌜ r ≡ fieldOf (now (session .entry)) object k ⌝ }
 {
     let r = masks.len() + object;
-    let mask = record::byte_at(session, r, 3);
+    let mask = record::byte_at(session, r, places::FIELD_MASK);
     if (mask >> k) % 2 == 1 {
-        Value::Number(record::word_at(session, r, 4 + 4 * k))
+        Value::Number(record::word_at(session, r, places::FIRST_FIELD + places::WORD_BYTES * k))
     } else {
         Value::Nil
     }
@@ -97,7 +106,7 @@ pub fn method_of(session: &[u8], index: &[u16], object: usize, name: usize) -> M
     requires { ⌜ (verdictOf (now session) ≡ Verdict.Accepted) × (now index ≡ indexOf (now session)) × (object < objectCount (now session)) × (name < names) ⌝ }
     ensures { λ r. ⌜ MethodAt (now (session .entry)) object name (r .start) (r .count) ⌝ }
 {
-    let slot = 16 * object + name;
+    let slot = NAMES * object + name;
     let start = index[slot] as usize;
     let end = index[slot + 1] as usize;
     let count = end - start;
@@ -121,11 +130,11 @@ pub fn root(session: &[u8]) -> Message
     requires { ⌜ verdictOf (now session) ≡ Verdict.Accepted ⌝ }
     ensures { λ r. ⌜ r ≡ rootOf (now (session .entry)) ⌝ }
 {
-    let r = session.len() / 16 - 1;
-    let object = record::byte_at(session, r, 1);
-    let name = record::byte_at(session, r, 2);
-    if record::byte_at(session, r, 3) == 1 {
-        let parameter = Value::Number(record::word_at(session, r, 4));
+    let r = session.len() / RECORD_BYTES - 1;
+    let object = record::byte_at(session, r, places::OBJECT);
+    let name = record::byte_at(session, r, places::NAME);
+    if record::byte_at(session, r, places::TAG) == places::NUMBER_TAG {
+        let parameter = Value::Number(record::word_at(session, r, places::PARAMETER));
         Message {
             object,
             name,

@@ -1,5 +1,9 @@
 // Question 3: how many records there are of each kind, and their numbers. And the level table, of
 // which questions 4 and 5 are put.
+use crate::limits::MAX_LEVELS;
+use crate::limits::MAX_OBJECTS;
+use crate::limits::MAX_STEPS;
+use crate::places;
 use crate::record;
 ghost use mathlib.Core.Path.{_≡_};
 ghost use mathlib.Core.Bool.{true};
@@ -19,7 +23,7 @@ fn is_numbered(session: &[u8], first: usize, count: usize) -> bool
     ensures { λ x. ⌜ x ≡ all count (λ i. eqb (numberOf (recordAt (now (session .entry)) (first + i))) i) ⌝ }
 {
     for i in 0..count {
-        if record::byte_at(session, first + i, 1) as usize != i {
+        if record::byte_at(session, first + i, places::NUMBER) as usize != i {
             return false;
         }
     }
@@ -32,7 +36,7 @@ fn is_padded(session: &[u8], count: usize) -> bool
     ensures { λ x. ⌜ x ≡ all count (λ i. zeroAt (from 3) (recordAt (now (session .entry)) i)) ⌝ }
 {
     for i in 0..count {
-        if !record::is_unused(session, i, 3) {
+        if !record::is_unused(session, i, places::MASK_END) {
             return false;
         }
     }
@@ -45,13 +49,13 @@ pub fn are_numbered(session: &[u8], levels: usize, objects: usize, steps: usize)
     requires { ⌜ Counted (now session) levels objects steps ⌝ }
     ensures { λ x. ⌜ x ≡ question3 (now (session .entry)) ⌝ }
 {
-    if 8 < levels {
+    if MAX_LEVELS < levels {
         return false;
     }
-    if 32 < objects {
+    if MAX_OBJECTS < objects {
         return false;
     }
-    if 256 < steps {
+    if MAX_STEPS < steps {
         return false;
     }
     if !is_numbered(session, 0, levels) {
@@ -69,6 +73,6 @@ pub fn fill_masks(session: &[u8], levels: usize, masks: &mut [u16])
     ensures { λ _. ⌜ now (masks .exit) ≡ tab levels (λ i. maskOf (recordAt (now (session .entry)) i)) ++ drop levels (now (masks .entry)) ⌝ }
 {
     for i in 0..levels {
-        masks[i] = record::byte_at(session, i, 2) as u16;
+        masks[i] = record::byte_at(session, i, places::MASK) as u16;
     }
 }

@@ -5,15 +5,20 @@ mod levels;
 pub mod limits;
 mod methods;
 mod objects;
+mod places;
 mod reader;
 mod record;
 mod root;
 
+use crate::limits::MAX_LEVELS;
+use crate::limits::MAX_RECORDS;
+use crate::limits::RECORD_BYTES;
 ghost use mathlib.Core.Path.{_≡_};
 ghost use mathlib.Core.Bool.{true};
 ghost use lib.ListN.{drop};
 ghost use Prim.Native.Nat.{_≤_};
 ghost use Rattle.lattice.specs.Table as table;
+ghost use Rattle.session.specs.Limits.{maxLevels};
 ghost use Rattle.session.specs.Parts.{levelCount, masksOf};
 ghost use Rattle.session.specs.Questions.{kindsRise, question1, question2, asked, firstNo, verdictOf, numberOfVerdict};
 ghost use Rattle.session.specs.Reading.{Counted};
@@ -104,10 +109,10 @@ fn check_contents(session: &[u8], levels: usize, objects: usize, steps: usize) -
 
 // What the questions about a level table say of the session's.
 fn check_table(session: &[u8], levels: usize) -> lattice::Verdict
-    requires { ⌜ (kindsRise (now session) ≡ true) × (levels ≡ levelCount (now session)) × (levels ≤ 16) ⌝ }
+    requires { ⌜ (kindsRise (now session) ≡ true) × (levels ≡ levelCount (now session)) × (levels ≤ maxLevels) ⌝ }
     ensures { λ x. ⌜ x ≡ table.verdictOf (masksOf (now (session .entry))) ⌝ }
 {
-    let mut masks = [0u16; 16];
+    let mut masks = [0u16; MAX_LEVELS];
     levels::fill_masks(session, levels, &mut masks);
     lattice::check(&masks[..levels])
 }
@@ -134,13 +139,13 @@ fn is_whole(session: &[u8]) -> bool
     ensures { λ x. ⌜ x ≡ question1 (now (session .entry)) ⌝ }
 {
     let n = session.len();
-    if n % 16 != 0 {
+    if n % RECORD_BYTES != 0 {
         return false;
     }
-    if n / 16 < 1 {
+    if n / RECORD_BYTES < 1 {
         return false;
     }
-    n / 16 <= 297
+    n / RECORD_BYTES <= MAX_RECORDS
 }
 
 // Checks a session: what questions 1 to 8 say of any bytes, of any length and content.

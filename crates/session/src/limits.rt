@@ -16,13 +16,18 @@ pub const MAX_RECORDS: usize = MAX_LEVELS + MAX_OBJECTS + MAX_STEPS + 1;
 // Question 7: how many steps a method may have.
 pub const MAX_METHOD: usize = 16;
 
-// How many message names there are.
+// How many message names there are. A byte is compared with `NAME_COUNT`.
 pub const NAMES: usize = 16;
+
+pub const NAME_COUNT: u8 = NAMES as u8;
 
 // How many registers a frame has, and how many fields an object.
 pub const REGISTERS: u8 = 4;
 
 pub const FIELDS: usize = 3;
+
+// Question 6: how many masks of fields there are, one bit for each field.
+pub const FIELD_MASKS: u8 = 1 << FIELDS;
 
 // How many methods there may be, one for each object and name.
 pub const MAX_METHODS: usize = MAX_OBJECTS * NAMES;

@@ -1,30 +1,38 @@
 // Question 7: the script steps.
 use crate::Step;
+use crate::limits::FIELDS;
+use crate::limits::MAX_METHOD;
+use crate::limits::NAME_COUNT;
+use crate::limits::REGISTERS;
+use crate::places;
 use crate::reader;
 use crate::record;
 ghost use mathlib.Core.Path.{_≡_};
 ghost use mathlib.Core.Bool.{_&&_, _||_};
 ghost use Prim.Native.Nat.{_+_, _-_, _≤_, _<_};
 ghost use lib.Dec.{ltb};
-ghost use Rattle.session.specs.Limits.{registers, names, maxSteps};
-ghost use Rattle.session.specs.Lists.{every};
+ghost use Rattle.lattice.specs.Range.{all};
+ghost use Rattle.session.specs.Limits.{registers, names, maxSteps, maxMethod};
 ghost use Rattle.session.specs.Record.{recordAt, recordCount, zeroAt, between, from};
 ghost use Rattle.session.specs.Parts.{keyOf};
 ghost use Rattle.session.specs.Questions.{operandsFit, unusedBytes, stepValid, scriptsValid};
 ghost use Rattle.session.specs.Reading.{methodEnd, recordsFrom};
 
-// Whether `a` is a register, `b` is below `limit`, and the bytes of record `r` from 6 on are 0.
+// What bounds an operand that is a register.
+const REGISTER_LIMIT: usize = REGISTERS as usize;
+
+// Whether `a` is a register, `b` is below `limit`, and the bytes of record `r` from operand c on are 0.
 fn are_two_valid(session: &[u8], r: usize, a: u8, b: u8, limit: usize) -> bool
     requires { ⌜ r < recordCount (now session) ⌝ }
     ensures { λ x. ⌜ x ≡ (ltb a registers && ltb b limit && zeroAt (from 6) (recordAt (now (session .entry)) r)) ⌝ }
 {
-    if 4 <= a {
+    if REGISTERS <= a {
         return false;
     }
     if limit <= b as usize {
         return false;
     }
-    record::is_unused(session, r, 6)
+    record::is_unused(session, r, places::OPERAND_C)
 }
 
 // The operands of SET.
@@ -32,11 +40,11 @@ fn are_set_valid(session: &[u8], r: usize, a: u8) -> bool
     requires { ⌜ r < recordCount (now session) ⌝ }
     ensures { λ x. ⌜ x ≡ (ltb a registers && zeroAt (λ k. between 5 8 k || from 12 k) (recordAt (now (session .entry)) r)) ⌝ }
 {
-    if 4 <= a {
+    if REGISTERS <= a {
         return false;
     }
-    if record::are_unused(session, r, 5, 8) {
-        record::is_word_unused(session, r, 12)
+    if record::are_unused(session, r, places::OPERAND_B, places::OPERAND_N) {
+        record::is_word_unused(session, r, places::LAST_WORD)
     } else {
         false
     }
@@ -47,16 +55,16 @@ fn are_send_valid(session: &[u8], r: usize, objects: usize, a: u8, b: u8, c: u8)
     requires { ⌜ r < recordCount (now session) ⌝ }
     ensures { λ x. ⌜ x ≡ (ltb a registers && ltb b names && ltb c objects && zeroAt (from 7) (recordAt (now (session .entry)) r)) ⌝ }
 {
-    if 4 <= a {
+    if REGISTERS <= a {
         return false;
     }
-    if 16 <= b {
+    if NAME_COUNT <= b {
         return false;
     }
     if objects <= c as usize {
         return false;
     }
-    record::is_unused(session, r, 7)
+    record::is_unused(session, r, places::OPERANDS_END)
 }
 
 // The operands of QUIT.
@@ -64,10 +72,10 @@ fn are_quit_valid(session: &[u8], r: usize, a: u8) -> bool
     requires { ⌜ r < recordCount (now session) ⌝ }
     ensures { λ x. ⌜ x ≡ (ltb a registers && zeroAt (from 5) (recordAt (now (session .entry)) r)) ⌝ }
 {
-    if 4 <= a {
+    if REGISTERS <= a {
         return false;
     }
-    record::is_unused(session, r, 5)
+    record::is_unused(session, r, places::OPERAND_B)
 }
 
 // The operands of a step in record `r`, among so many objects and in a method of `count` steps.
@@ -78,10 +86,10 @@ fn are_operands_valid(session: &[u8], r: usize, objects: usize, count: usize, st
     match step {
         Step::End => false,
         Step::Set { a, n: _ } => are_set_valid(session, r, a),
-        Step::Add { a, b } => are_two_valid(session, r, a, b, 4),
+        Step::Add { a, b } => are_two_valid(session, r, a, b, REGISTER_LIMIT),
         Step::Jump { a, b } => are_two_valid(session, r, a, b, count + 1),
-        Step::Read { a, b } => are_two_valid(session, r, a, b, 3),
-        Step::Write { a, b } => are_two_valid(session, r, a, b, 3),
+        Step::Read { a, b } => are_two_valid(session, r, a, b, FIELDS),
+        Step::Write { a, b } => are_two_valid(session, r, a, b, FIELDS),
         Step::Send { a, b, c } => are_send_valid(session, r, objects, a, b, c),
         Step::Quit { a } => are_quit_valid(session, r, a),
     }
@@ -92,10 +100,10 @@ fn is_valid(session: &[u8], r: usize, objects: usize, count: usize) -> bool
     requires { ⌜ (r < recordCount (now session)) × (count ≤ maxSteps) ⌝ }
     ensures { λ x. ⌜ x ≡ stepValid objects count (recordAt (now (session .entry)) r) ⌝ }
 {
-    if objects <= record::byte_at(session, r, 1) as usize {
+    if objects <= record::byte_at(session, r, places::OBJECT) as usize {
         return false;
     }
-    if 16 <= record::byte_at(session, r, 2) {
+    if NAME_COUNT <= record::byte_at(session, r, places::NAME) {
         return false;
     }
     are_operands_valid(session, r, objects, count, record::step_in(session, r))
@@ -115,13 +123,13 @@ fn method_end(session: &[u8], r: usize, end: usize) -> usize
     end
 }
 
-// Whether the steps of one method, from record `first` up to `end`, are valid among so many objects.
-fn is_method_valid(session: &[u8], first: usize, end: usize, objects: usize) -> bool
-    requires { ⌜ (first ≤ end) × (end ≤ first + 16) × (end ≤ recordCount (now session)) ⌝ }
-    ensures { λ x. ⌜ x ≡ every (stepValid objects (end - first)) (recordsFrom (now (session .entry)) first (end - first)) ⌝ }
+// Whether the steps of one method, `count` records from `first` on, are valid among so many objects.
+fn is_method_valid(session: &[u8], first: usize, count: usize, objects: usize) -> bool
+    requires { ⌜ (first + count ≤ recordCount (now session)) × (count ≤ maxMethod) ⌝ }
+    ensures { λ x. ⌜ x ≡ all count (λ i. stepValid objects count (recordAt (now (session .entry)) (first + i))) ⌝ }
 {
-    for r in first..end {
-        if !is_valid(session, r, objects, end - first) {
+    for i in 0..count {
+        if !is_valid(session, first + i, objects, count) {
             return false;
         }
     }
@@ -148,10 +156,11 @@ pub fn are_valid(session: &[u8], first: usize, end: usize, objects: usize) -> bo
     let mut at = first;
     while at < end {
         let next = method_end(session, at, end);
-        if 16 < next - at {
+        let count = next - at;
+        if MAX_METHOD < count {
             return false;
         }
-        if !is_method_valid(session, at, next, objects) {
+        if !is_method_valid(session, at, count, objects) {
             return false;
         }
         if falls(session, at, next, end) {

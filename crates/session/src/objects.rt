@@ -1,21 +1,25 @@
 // Question 6: the objects.
+use crate::limits::FIELD_MASKS;
+use crate::limits::FIELDS;
+use crate::places;
 use crate::record;
 ghost use mathlib.Core.Path.{_≡_};
 ghost use Prim.Native.Nat.{_+_, _≤_, _<_};
 ghost use Rattle.lattice.specs.Range.{all};
+ghost use Rattle.session.specs.Limits.{fields};
 ghost use Rattle.session.specs.Record.{recordAt, recordCount};
 ghost use Rattle.session.specs.Questions.{fieldValid, objectValid};
 
 // Whether field `k` of the object in record `r` holds a number, or is NIL with its bytes 0.
 fn is_field_valid(session: &[u8], r: usize, k: usize) -> bool
-    requires { ⌜ (r < recordCount (now session)) × (k < 3) ⌝ }
+    requires { ⌜ (r < recordCount (now session)) × (k < fields) ⌝ }
     ensures { λ x. ⌜ x ≡ fieldValid (recordAt (now (session .entry)) r) k ⌝ }
 {
-    let mask = record::byte_at(session, r, 3);
+    let mask = record::byte_at(session, r, places::FIELD_MASK);
     if (mask >> k) % 2 == 1 {
         true
     } else {
-        record::is_word_unused(session, r, 4 + 4 * k)
+        record::is_word_unused(session, r, places::FIRST_FIELD + places::WORD_BYTES * k)
     }
 }
 
@@ -24,13 +28,13 @@ fn is_valid(session: &[u8], r: usize, levels: usize) -> bool
     requires { ⌜ r < recordCount (now session) ⌝ }
     ensures { λ x. ⌜ x ≡ objectValid levels (recordAt (now (session .entry)) r) ⌝ }
 {
-    if levels <= record::byte_at(session, r, 2) as usize {
+    if levels <= record::byte_at(session, r, places::LEVEL) as usize {
         return false;
     }
-    if 8 <= record::byte_at(session, r, 3) {
+    if FIELD_MASKS <= record::byte_at(session, r, places::FIELD_MASK) {
         return false;
     }
-    for k in 0..3 {
+    for k in 0..FIELDS {
         if !is_field_valid(session, r, k) {
             return false;
         }

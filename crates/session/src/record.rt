@@ -1,11 +1,38 @@
 // One record of a session: its bytes, its words, its (object, name), the test that unused bytes are 0,
 // and its step.
 use crate::Step;
+use crate::limits::RECORD_BYTES;
+use crate::places;
 ghost use mathlib.Core.Path.{_≡_};
 ghost use Prim.Native.Nat.{_+_, _≤_, _<_};
 ghost use Rattle.session.specs.Limits.{recordBytes};
 ghost use Rattle.session.specs.Record.{recordAt, recordCount, byteOf, wordOf, zeroAt, between, from, stepOf};
 ghost use Rattle.session.specs.Parts.{keyOf};
+
+// "Operations: 1 SET .. 7 QUIT".
+const SET: u8 = 1;
+
+const ADD: u8 = 2;
+
+const JUMP: u8 = 3;
+
+const READ: u8 = 4;
+
+const WRITE: u8 = 5;
+
+const SEND: u8 = 6;
+
+const QUIT: u8 = 7;
+
+// "Numbers are little-endian": what the second, third and fourth byte of a number are worth.
+const SECOND: u32 = 1 << 8;
+
+const THIRD: u32 = 1 << 16;
+
+const FOURTH: u32 = 1 << 24;
+
+// What a step's object is worth in the number that stands for (object, name).
+pub const KEY_OBJECT: usize = 1 << 8;
 
 // A byte as a 32-bit number.
 fn wide(b: u8) -> u32
@@ -19,7 +46,7 @@ pub fn byte_at(session: &[u8], r: usize, k: usize) -> u8
     requires { ⌜ (r < recordCount (now session)) × (k < recordBytes) ⌝ }
     ensures { λ x. ⌜ x ≡ byteOf (recordAt (now (session .entry)) r) k ⌝ }
 {
-    session[16 * r + k]
+    session[RECORD_BYTES * r + k]
 }
 
 // The pair (object, name) of the step in record `r`, as one number.
@@ -27,9 +54,9 @@ pub fn key_at(session: &[u8], r: usize) -> usize
     requires { ⌜ r < recordCount (now session) ⌝ }
     ensures { λ x. ⌜ x ≡ keyOf (recordAt (now (session .entry)) r) ⌝ }
 {
-    let object = byte_at(session, r, 1) as usize;
-    let name = byte_at(session, r, 2) as usize;
-    256 * object + name
+    let object = byte_at(session, r, places::OBJECT) as usize;
+    let name = byte_at(session, r, places::NAME) as usize;
+    KEY_OBJECT * object + name
 }
 
 // The 32-bit number in the bytes from `k` on of record `r`.
@@ -41,7 +68,7 @@ pub fn word_at(session: &[u8], r: usize, k: usize) -> u32
     let b1 = wide(byte_at(session, r, k + 1));
     let b2 = wide(byte_at(session, r, k + 2));
     let b3 = wide(byte_at(session, r, k + 3));
-    b0 + 256 * b1 + 65536 * b2 + 16777216 * b3
+    b0 + SECOND * b1 + THIRD * b2 + FOURTH * b3
 }
 
 // Whether the bytes from `a` up to `e` of record `r` are 0.
@@ -65,18 +92,18 @@ pub fn is_word_unused(session: &[u8], r: usize, k: usize) -> bool
     word_at(session, r, k) == 0
 }
 
-// Whether the bytes from `a` on of record `r` are 0, where `a` is at most 8.
+// Whether the bytes from `a` on of record `r` are 0, where `a` is no further on than the third word.
 pub fn is_unused(session: &[u8], r: usize, a: usize) -> bool
     requires { ⌜ (r < recordCount (now session)) × (a ≤ 8) ⌝ }
     ensures { λ x. ⌜ x ≡ zeroAt (from a) (recordAt (now (session .entry)) r) ⌝ }
 {
-    if !are_unused(session, r, a, 8) {
+    if !are_unused(session, r, a, places::THIRD_WORD) {
         return false;
     }
-    if !is_word_unused(session, r, 8) {
+    if !is_word_unused(session, r, places::THIRD_WORD) {
         return false;
     }
-    is_word_unused(session, r, 12)
+    is_word_unused(session, r, places::LAST_WORD)
 }
 
 // The script step that record `r` is.
@@ -84,24 +111,24 @@ pub fn step_in(session: &[u8], r: usize) -> Step
     requires { ⌜ r < recordCount (now session) ⌝ }
     ensures { λ x. ⌜ x ≡ stepOf (recordAt (now (session .entry)) r) ⌝ }
 {
-    let a = byte_at(session, r, 4);
-    let b = byte_at(session, r, 5);
-    let op = byte_at(session, r, 3);
+    let a = byte_at(session, r, places::OPERAND_A);
+    let b = byte_at(session, r, places::OPERAND_B);
+    let op = byte_at(session, r, places::OPERATION);
     match op {
-        1 => Step::Set {
+        SET => Step::Set {
             a,
-            n: word_at(session, r, 8),
+            n: word_at(session, r, places::OPERAND_N),
         },
-        2 => Step::Add { a, b },
-        3 => Step::Jump { a, b },
-        4 => Step::Read { a, b },
-        5 => Step::Write { a, b },
-        6 => Step::Send {
+        ADD => Step::Add { a, b },
+        JUMP => Step::Jump { a, b },
+        READ => Step::Read { a, b },
+        WRITE => Step::Write { a, b },
+        SEND => Step::Send {
             a,
             b,
-            c: byte_at(session, r, 6),
+            c: byte_at(session, r, places::OPERAND_C),
         },
-        7 => Step::Quit { a },
+        QUIT => Step::Quit { a },
         _ => Step::End,
     }
 }

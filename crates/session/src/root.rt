@@ -1,4 +1,6 @@
 // Question 8: the root message.
+use crate::limits::NAME_COUNT;
+use crate::places;
 use crate::record;
 ghost use mathlib.Core.Path.{_≡_};
 ghost use mathlib.Core.Bool.{_||_};
@@ -12,10 +14,10 @@ fn is_parameter_valid(session: &[u8], r: usize) -> bool
     requires { ⌜ r < recordCount (now session) ⌝ }
     ensures { λ x. ⌜ x ≡ (eqb (byteOf (recordAt (now (session .entry)) r) 3) 1 || zeroAt (between 4 8) (recordAt (now (session .entry)) r)) ⌝ }
 {
-    if record::byte_at(session, r, 3) == 1 {
+    if record::byte_at(session, r, places::TAG) == places::NUMBER_TAG {
         true
     } else {
-        record::is_word_unused(session, r, 4)
+        record::is_word_unused(session, r, places::PARAMETER)
     }
 }
 
@@ -24,17 +26,17 @@ pub fn is_valid(session: &[u8], r: usize, objects: usize) -> bool
     requires { ⌜ r < recordCount (now session) ⌝ }
     ensures { λ x. ⌜ x ≡ rootValid objects (recordAt (now (session .entry)) r) ⌝ }
 {
-    if objects <= record::byte_at(session, r, 1) as usize {
+    if objects <= record::byte_at(session, r, places::OBJECT) as usize {
         return false;
     }
-    if 16 <= record::byte_at(session, r, 2) {
+    if NAME_COUNT <= record::byte_at(session, r, places::NAME) {
         return false;
     }
-    if 1 < record::byte_at(session, r, 3) {
+    if places::NUMBER_TAG < record::byte_at(session, r, places::TAG) {
         return false;
     }
     if !is_parameter_valid(session, r) {
         return false;
     }
-    record::is_unused(session, r, 8)
+    record::is_unused(session, r, places::PARAMETER_END)
 }

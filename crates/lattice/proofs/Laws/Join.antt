@@ -48,13 +48,13 @@ module _ (n : ℕ) (dom : Dominance) where
   unfolding isLeast
   least-no-upper a b u e = and-fails-left (isUpper dom a b u) _ e
 
-  pub least-undercut : (a b u v : ℕ) → v < n → implies (isUpper dom a b v) (dom v u) ≡ false → isLeast n dom a b u ≡ false
+  pub least-undercut : (a b u : ℕ) → all n (λ v. implies (isUpper dom a b v) (dom v u)) ≡ false → isLeast n dom a b u ≡ false
   unfolding isLeast
-  least-undercut a b u v h e = and-fails-right (isUpper dom a b u) _ (all-fails n _ v h e)
+  least-undercut a b u e = and-fails-right (isUpper dom a b u) _ e
 
-  pub least-every : (a b u : ℕ) → isUpper dom a b u ≡ true → ((v : ℕ) → v < n → implies (isUpper dom a b v) (dom v u) ≡ true) → isLeast n dom a b u ≡ true
+  pub least-every : (a b u : ℕ) → isUpper dom a b u ≡ true → all n (λ v. implies (isUpper dom a b v) (dom v u)) ≡ true → isLeast n dom a b u ≡ true
   unfolding isLeast
-  least-every a b u e f = and-both (isUpper dom a b u) _ e (all-every n _ f)
+  least-every a b u e f = and-both (isUpper dom a b u) _ e f
 
   -- `join`, made by a search from level 0 up
   pub join-le : (a b : ℕ) → join n dom a b ≤ n

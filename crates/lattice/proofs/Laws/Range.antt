@@ -1,9 +1,11 @@
 -- Laws of tests: the halves of `&&`, and what `all` and `first` say of the numbers below n. Assumes nothing.
-use Prim.Native.Nat.{ℕ, zero, suc, _-_, _≤_, _<_}
+use Prim.Native.Nat.{ℕ, zero, suc, _+_, _-_, _≤_, _<_}
 use mathlib.Core.Path.{_≡_, refl, sym, _∙_, ap₂}
 use mathlib.Core.Bool.{Bool, true, false, not, cond, _&&_, true≢false, false≢true}
 use native.Mathlib.Omega.{arith}
 use native.Mathlib.Decide.{decLt}
+use native.Mathlib.Numerals.{add-one}
+use borrow.Author.Tests.{not-true, not-false}
 use Rattle.lattice.specs.Range.{implies, all, first}
 
 pub and-left : (a b : Bool) → (a && b) ≡ true → a ≡ true
@@ -85,6 +87,26 @@ all-fails n p i h q = go (all n p) refl
     go : (b : Bool) → all n p ≡ b → b ≡ false
     go true e = absurd (not-both (p i) (all-each n p e i h) q)
     go false e = refl
+
+-- a loop that tests the numbers below n in turn and ends at the first that fails: i of them have passed
+abbrev pub Tested : ℕ → (ℕ → Bool) → ℕ → Type 0
+Tested n p i = (i ≤ n) × (all i p ≡ true)
+
+module _ (n : ℕ) (p : ℕ → Bool) where
+  pub tested-none : Tested n p 0
+  unfolding all
+  tested-none = (omega arith, refl)
+
+  -- r is what the code tested
+  pub tested-more : (i : ℕ) (r : Bool) → Tested n p i → i < n → r ≡ p i → not r ≡ false → Tested n p (i + 1)
+  unfolding all
+  tested-more i r h l e t = (omega arith, rw add-one (and-both (all i p) (p i) (h .1) (sym e ∙ not-false r t)))
+
+  pub tested-fails : (i : ℕ) (r : Bool) → i < n → r ≡ p i → not r ≡ true → false ≡ all n p
+  tested-fails i r l e t = sym (all-fails n p i l (sym e ∙ not-true r t))
+
+  pub tested-all : (i : ℕ) → Tested n p i → n ≤ i → true ≡ all n p
+  tested-all i h l = let z : i ≡ n = omega arith in rw z at (sym (h .1))
 
 -- where one test is two, so is the test of all
 pub all-both : (n : ℕ) (p q r : ℕ → Bool) → ((i : ℕ) → r i ≡ (p i && q i)) → all n r ≡ (all n p && all n q)

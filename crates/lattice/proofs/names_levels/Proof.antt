@@ -1,30 +1,26 @@
 -- `lattice::names_levels` meets its contract. The invariant: each mask passed names only present levels, and its own. Assumes nothing.
-use Prim.Native.Nat.{ℕ, _≤_, _<_, _-_, _^_}
-use mathlib.Core.Path.{_≡_, sym, _∙_}
-use mathlib.Core.Bool.{true}
+use Prim.Native.Nat.{_-_, _^_}
+use mathlib.Core.Path.{sym}
 use native.Mathlib.Omega.{arith}
-use borrow.Author.Count.{below-none, below-more}
 use borrow.Author.Needs.{needs}
-use borrow.Author.Tests.{not-true, not-false}
 use lib.Dec.{ltb}
 use lib.ListN.{length, getD}
 use Rattle.lattice.specs.Order.{reflexive}
 use Rattle.lattice.specs.Table.{dominates, namesPresent}
-use Rattle.lattice.proofs.Laws.Range.{and-both, and-fails-left, and-fails-right, all-every, all-fails}
+use Rattle.lattice.proofs.Laws.Range.{and-both, and-fails-left, and-fails-right, Tested, tested-none, tested-more, tested-fails, tested-all}
 use Rattle.lattice.proofs.names_levels.Statement.{statement}
 use Rattle.lattice.proofs.names_levels.Tie as tie
 
 abbrev Inv-loop : tie.InvT-loop
 Inv-loop masks n i₀ i =
-    (i ≤ length masks)
-    × ((k : ℕ) → k < i → ltb (getD masks k 0) (2 ^ length masks) ≡ true)
-    × ((k : ℕ) → k < i → dominates masks k k ≡ true)
+    Tested (length masks) (λ k. ltb (getD masks k 0) (2 ^ length masks)) i
+    × Tested (length masks) (λ k. dominates masks k k) i
 
 abbrev μ-loop : tie.MeasureT-loop
 μ-loop masks n i₀ i = length masks - i
 
 loop-holds : tie.Need-loop-holds Inv-loop μ-loop
-loop-holds c = (omega arith, below-none _, below-none _)
+loop-holds c = (tested-none _ _, tested-none _ _)
 
 mul-names-below : tie.Need-mul-names-below Inv-loop μ-loop
 mul-names-below c = search needs
@@ -41,9 +37,7 @@ returns c =
     let masks = c .before .before .before .before .before .before .args .masks .now in
     let n = length masks in
     sym (and-fails-left (namesPresent masks) (reflexive n (dominates masks))
-    (all-fails n (λ k. ltb (getD masks k 0) (2 ^ n)) (c .before .before .before .before .loop .i)
-    (c .before .before .before .loop-test .taken)
-    (sym (c .before .names-below .ensures) ∙ not-true _ (c .if1 .taken))))
+    (sym (tested-fails n _ _ _ (c .before .before .before .loop-test .taken) (c .before .names-below .ensures) (c .if1 .taken))))
 
 dominates-requires : tie.Need-dominates-requires Inv-loop μ-loop
 dominates-requires c κs = search needs
@@ -54,9 +48,8 @@ returns-2 c =
     let masks = c .before .before .before .before .before .before .before .before .args .masks .now in
     let n = length masks in
     sym (and-fails-right (namesPresent masks) (reflexive n (dominates masks))
-    (all-fails n (λ k. dominates masks k k) (c .before .before .before .before .before .before .loop .i)
-    (c .before .before .before .before .before .loop-test .taken)
-    (sym (c .before .dominates .ensures) ∙ not-true _ (c .if2 .taken))))
+    (sym (tested-fails n (λ k. dominates masks k k) _ _ (c .before .before .before .before .before .loop-test .taken)
+    (c .before .dominates .ensures) (c .if2 .taken))))
 
 add-i : tie.Need-add-i Inv-loop μ-loop
 add-i c = omega arith
@@ -66,10 +59,10 @@ loop-less c = omega arith
 
 loop-again : tie.Need-loop-again Inv-loop μ-loop
 loop-again c =
-    let at = c .before .before .before .before .before .before .loop in (
-      omega arith,
-      below-more _ _ (at .inv .1) (sym (c .before .before .before .names-below .ensures) ∙ not-false _ (c .before .before .if1 .left)),
-      below-more _ _ (at .inv .2) (sym (c .before .dominates .ensures) ∙ not-false _ (c .if2 .left)),
+    let at = c .before .before .before .before .before .before .loop in
+    let test = c .before .before .before .before .before .loop-test .taken in (
+      tested-more _ _ _ _ (at .inv .0) test (c .before .before .before .names-below .ensures) (c .before .before .if1 .left),
+      tested-more _ _ _ _ (at .inv .1) test (c .before .dominates .ensures) (c .if2 .left),
     )
 
 returns-3 : tie.Need-returns-3 Inv-loop μ-loop
@@ -78,8 +71,8 @@ returns-3 c =
     let masks = c .before .before .before .args .masks .now in
     let n = length masks in
     sym (and-both (namesPresent masks) (reflexive n (dominates masks))
-    (all-every n _ (λ k h. c .before .loop .inv .1 k (omega arith)))
-    (all-every n _ (λ k h. c .before .loop .inv .2 k (omega arith))))
+    (sym (tested-all n _ _ (c .before .loop .inv .0) (c .loop-test .left)))
+    (sym (tested-all n _ _ (c .before .loop .inv .1) (c .loop-test .left))))
 
 pub names-levels-spec : {M : Type 1} → statement M
 names-levels-spec =

@@ -6,7 +6,7 @@ use mathlib.Core.List.{List, [], _∷_}
 use native.Mathlib.Omega.{arith}
 use borrow.Author.Tests.{not-true}
 use lib.ListN.{length, getD}
-use Rattle.lattice.proofs.Laws.Range.{and-left, and-right, and-both, and-fails-left, and-fails-right}
+use Rattle.lattice.proofs.Laws.Range.{and-left, and-right, and-both}
 use Rattle.session.specs.Lists.{every, select, tab}
 
 -- a Bool with the equation that says what it is
@@ -31,12 +31,6 @@ module _ {A : Type 0} (p : A → Bool) where
   every-all d [] f = refl
   every-all d (x ∷ xs) f =
       and-both (p x) (every p xs) (f zero (omega arith)) (every-all d xs (λ i h. f (suc i) (omega arith)))
-
-  pub every-fails : (d : A) (xs : List A) (i : ℕ) → i < length xs → p (getD xs i d) ≡ false → every p xs ≡ false
-  unfolding every
-  every-fails d [] i h e = absurd (omega arith)
-  every-fails d (x ∷ xs) zero h e = and-fails-left (p x) (every p xs) e
-  every-fails d (x ∷ xs) (suc i) h e = and-fails-right (p x) (every p xs) (every-fails d xs i (omega arith) e)
 
   -- `select`, at an element that passes and at one that does not
   pub select-yes : (x : A) (xs : List A) → p x ≡ true → select p (x ∷ xs) ≡ x ∷ select p xs

@@ -64,7 +64,7 @@ module _ (s : List ℕ) (k : kindsRise s ≡ true) where
   masks-are = sym (map-is maskOf [] (levelRecords s) ∙ tab-ext (levelCount s) _ _ (λ i h. ap maskOf (level-is s k i h)))
 
 -- questions 6 to 8, by record numbers
-module _ (s : List ℕ) (q : question2 s ≡ true) (levels objects steps : ℕ) (n : Counted s levels objects steps) where
+module _ {s : List ℕ} (q : question2 s ≡ true) {levels objects steps : ℕ} (n : Counted s levels objects steps) where
   pub question6-is : all objects (λ i. objectValid levels (recordAt s (levels + i))) ≡ question6 s
   unfolding question6
   question6-is = rw (n .levels-are, n .objects-are) (sym (every-objects s (kinds-rise s q) (objectValid (levelCount s))))

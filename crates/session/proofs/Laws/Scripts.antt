@@ -10,10 +10,10 @@ use borrow.Author.Tests.{leb-true, le-leb, ltb-true, lt-ltb, eqb-true, eqb-false
 use lib.Arith.{lt-of-le-ne}
 use lib.Dec.{eqb, leb, ltb}
 use lib.ListN.{length, getD}
-use Rattle.lattice.specs.Range.{first}
-use Rattle.lattice.proofs.Laws.Range.{and-left, and-right, and-both, refuted, not-both, first-le, first-passes, first-before, first-at, first-none}
+use Rattle.lattice.specs.Range.{all, first}
+use Rattle.lattice.proofs.Laws.Range.{and-left, and-right, and-both, refuted, not-both, all-each, all-every, first-le, first-passes, first-before, first-at, first-none}
 use Rattle.session.specs.Limits.{maxMethod}
-use Rattle.session.specs.Lists.{every, risingFrom}
+use Rattle.session.specs.Lists.{risingFrom}
 use Rattle.session.specs.Record.{Record, recordAt}
 use Rattle.session.specs.Parts.{keyOf, ofMethod}
 use Rattle.session.specs.Questions.{stepValid, scriptValid, methodsValid, scriptsValid}
@@ -206,15 +206,13 @@ module _ (s : List ℕ) (objects a e : ℕ) where
         leb-true (methodEnd s at e - at) maxMethod (and-left _ _ (passes t 0 (omega (arith, after)))) in
         omega arith
 
-    pub methods-wrong : every (stepValid objects (methodEnd s at e - at)) (recordsFrom s at (methodEnd s at e - at)) ≡ false
+    pub methods-wrong : all (methodEnd s at e - at) (λ j. stepValid objects (methodEnd s at e - at) (recordAt s (at + j))) ≡ false
         → scriptsValid objects (recordsFrom s a (e - a)) ≡ false
     methods-wrong g =
         let n = methodEnd s at e - at in
         refuted (scriptsValid objects (recordsFrom s a (e - a))) λ t.
-        not-both (every (stepValid objects n) (recordsFrom s at n))
-        (every-all (stepValid objects n) [] (recordsFrom s at n) λ j l.
-        let k : j < n = rw (from-length s at n) at l in
-        rw (from-at s at n j k) (and-right (leb n maxMethod) (stepValid objects n (recordAt s (at + j))) (passes t j k)))
+        not-both (all n (λ j. stepValid objects n (recordAt s (at + j))))
+        (all-every n _ λ j l. and-right (leb n maxMethod) (stepValid objects n (recordAt s (at + j))) (passes t j l))
         g
 
     pub methods-falls : (ltb (methodEnd s at e) e && ltb (keyAt s (methodEnd s at e)) (keyAt s at)) ≡ true
@@ -242,7 +240,7 @@ module _ (s : List ℕ) (objects a e : ℕ) where
     ]
 
     -- otherwise the walk goes on behind the method
-    pub methods-more : methodEnd s at e - at ≤ maxMethod → every (stepValid objects (methodEnd s at e - at)) (recordsFrom s at (methodEnd s at e - at)) ≡ true
+    pub methods-more : methodEnd s at e - at ≤ maxMethod → all (methodEnd s at e - at) (λ j. stepValid objects (methodEnd s at e - at) (recordAt s (at + j))) ≡ true
         → (ltb (methodEnd s at e) e && ltb (keyAt s (methodEnd s at e)) (keyAt s at)) ≡ false
         → Methods s objects a e (methodEnd s at e)
     methods-more g t f =
@@ -263,7 +261,7 @@ module _ (s : List ℕ) (objects a e : ℕ) where
                 from-at s a (e - a) i (omega (arith, within, m .low)) ∙ ap (recordAt s) j in
                 rw there (test rising (a + i - at) lt
                 ∙ and-both (leb n maxMethod) _ (le-leb n maxMethod g)
-                (rw (from-at s at n (a + i - at) lt) at (every-each (stepValid objects n) [] (recordsFrom s at n) t (a + i - at) (rw (from-length s at n) lt))))
+                (all-each n (λ j. stepValid objects n (recordAt s (at + j))) t (a + i - at) lt))
           ];
           start = λ rising l i k. run-next (recordsFrom s a (e - a)) rising (at - a) (methodEnd s at e - a) (run rising) (omega (arith, from-length s a (e - a), m .low, after)) i k;
         }

@@ -21,8 +21,8 @@ loop-holds c =
 method-end-requires : tie.Need-method-end-requires Inv-loop μ-loop
 method-end-requires c κs = (c .loop-test .taken, c .before .before .before .pre .1)
 
-sub-if1 : tie.Need-sub-if1 Inv-loop μ-loop
-sub-if1 c =
+sub-count : tie.Need-sub-count Inv-loop μ-loop
+sub-count c =
     let s = c .before .before .before .before in
     omega (arith, c .method-end .ensures, end-after (s .args .session .now) (c .before .before .loop .at) (s .args .end) (c .before .loop-test .taken))
 
@@ -98,7 +98,7 @@ are-valid-spec =
     μ-loop
     loop-holds
     method-end-requires
-    sub-if1
+    sub-count
     returns
     is-method-valid-requires
     returns-2

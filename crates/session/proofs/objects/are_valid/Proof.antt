@@ -1,25 +1,20 @@
 -- `session::objects::are_valid` meets its contract. The invariant: the objects passed are valid. Assumes nothing.
-use Prim.Native.Nat.{ℕ, _+_, _≤_, _<_, _-_}
-use mathlib.Core.Path.{_≡_, sym, _∙_}
-use mathlib.Core.Bool.{true}
+use Prim.Native.Nat.{_+_, _-_}
 use native.Mathlib.Omega.{arith}
-use borrow.Author.Count.{below-none, below-more}
-use borrow.Author.Tests.{not-true, not-false}
-use Rattle.lattice.proofs.Laws.Range.{all-every, all-fails}
+use Rattle.lattice.proofs.Laws.Range.{Tested, tested-none, tested-more, tested-fails, tested-all}
 use Rattle.session.specs.Record.{recordAt}
 use Rattle.session.specs.Questions.{objectValid}
 use Rattle.session.proofs.objects.are_valid.Statement.{statement}
 use Rattle.session.proofs.objects.are_valid.Tie as tie
 
 abbrev Inv-loop : tie.InvT-loop
-Inv-loop session first count levels i₀ i =
-    (i ≤ count) × ((k : ℕ) → k < i → objectValid levels (recordAt session (first + k)) ≡ true)
+Inv-loop session first count levels i₀ i = Tested count (λ k. objectValid levels (recordAt session (first + k))) i
 
 abbrev μ-loop : tie.MeasureT-loop
 μ-loop session first count levels i₀ i = count - i
 
 loop-holds : tie.Need-loop-holds Inv-loop μ-loop
-loop-holds c = (omega arith, below-none _)
+loop-holds c = tested-none _ _
 
 add-is-valid : tie.Need-add-is-valid Inv-loop μ-loop
 add-is-valid c = omega arith
@@ -28,9 +23,7 @@ is-valid-requires : tie.Need-is-valid-requires Inv-loop μ-loop
 is-valid-requires c κs = omega arith
 
 returns : tie.Need-returns Inv-loop μ-loop
-returns c =
-    sym (all-fails _ _ (c .before .before .before .loop .i) (c .before .before .loop-test .taken)
-    (sym (c .before .is-valid .ensures) ∙ not-true _ (c .if1 .taken)))
+returns c = tested-fails _ _ _ _ (c .before .before .loop-test .taken) (c .before .is-valid .ensures) (c .if1 .taken)
 
 add-i : tie.Need-add-i Inv-loop μ-loop
 add-i c = omega arith
@@ -39,13 +32,11 @@ loop-less : tie.Need-loop-less Inv-loop μ-loop
 loop-less c = omega arith
 
 loop-again : tie.Need-loop-again Inv-loop μ-loop
-loop-again c = (
-  omega arith,
-  below-more _ _ (c .before .before .before .loop .inv .1) (sym (c .before .is-valid .ensures) ∙ not-false _ (c .if1 .left)),
-)
+loop-again c =
+    tested-more _ _ _ _ (c .before .before .before .loop .inv) (c .before .before .loop-test .taken) (c .before .is-valid .ensures) (c .if1 .left)
 
 returns-2 : tie.Need-returns-2 Inv-loop μ-loop
-returns-2 c = sym (all-every _ _ (λ k h. c .before .loop .inv .1 k (omega arith)))
+returns-2 c = tested-all _ _ _ (c .before .loop .inv) (c .loop-test .left)
 
 pub are-valid-spec : {M : Type 1} → statement M
 are-valid-spec =
