@@ -32,12 +32,12 @@ const NUMBER: usize = 5;
 // From here on, for each level, the write stamp that an ancestor there had at its fork.
 const CARRIED: usize = 6;
 
-// How many words a fork has, and how many those of all levels have: forkWords, queueWords.
+// How many words a fork has, and the forks of all levels: forkWords, queueWords.
 pub const FORK_WORDS: usize = CARRIED + MAX_LEVELS;
 
 pub const QUEUE_WORDS: usize = FORK_WORDS * (MAX_MANAGERS * MAX_LEVELS);
 
-// How many numbers have 8 bits, and how many 16.
+// How many numbers fit in 8 bits, and how many in 16.
 const BYTES: u32 = 256;
 
 const HALVES: u32 = 65536;

@@ -21,36 +21,11 @@ use Rattle.model.specs.Fork.{Fork}
 use Rattle.model.specs.History as model
 use Rattle.model.specs.History.{History}
 use Rattle.rows.specs.Rows.{rowsAt, keyOf}
-use Rattle.records.specs.Limits.{rowWords, levelWords, historyWords}
+use Rattle.records.specs.Limits.{stampPlace, endingPlace, writesPlace, firstPlace, lastPlace, stepsPlace, tagPlace, numberPlace, rowWords, levelWords, historyWords}
 
 -- "Endings: 0 stack empty; 1 the 256th step left frames; 2 a seventeenth write"
 abbrev pub endingOf : ℕ → Ending
 endingOf n = cond (eqb n 0) Finished (cond (eqb n 1) OutOfSteps OutOfWrites)
-
--- the words of a history: its fork stamp, which is the row's key, ending, writes, first and last write stamp, script steps, and the reply's tag and number
-abbrev pub stampPlace : ℕ
-stampPlace = 0
-
-abbrev pub endingPlace : ℕ
-endingPlace = 1
-
-abbrev pub writesPlace : ℕ
-writesPlace = 2
-
-abbrev pub firstPlace : ℕ
-firstPlace = 3
-
-abbrev pub lastPlace : ℕ
-lastPlace = 4
-
-abbrev pub stepsPlace : ℕ
-stepsPlace = 5
-
-abbrev pub tagPlace : ℕ
-tagPlace = 6
-
-abbrev pub numberPlace : ℕ
-numberPlace = 7
 
 -- the history in a row; its writes are a byte
 unfoldable pub historyOfRow : List ℕ → History

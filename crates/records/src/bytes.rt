@@ -25,7 +25,7 @@ const HISTORY_KIND: u8 = 6;
 
 const REPLY_KIND: u8 = 7;
 
-// How many bytes there are, and from which bit on a number's second, third and fourth byte stand.
+// How many numbers fit in a byte, and from which bit on a number's second, third and fourth byte stand.
 const BYTES: u32 = 256;
 
 const SECOND: u32 = 8;

@@ -31,12 +31,12 @@ const MAX_VERSIONS: usize = MAX_MANAGERS * MAX_WRITES as usize;
 const LOG_NUMBERS: usize = MAX_VERSIONS * VERSION_NUMBERS;
 
 // What one more is worth in a version's first number, of the write stamp, the field and the object:
-// stampUnit, fieldUnit, objectUnit. Below the write stamp stands the tag.
-const STAMP: u32 = 1 << 1;
+// stampUnit, fieldUnit, objectUnit. Below the write stamp stands the tag; it has 16 bits, the field 2.
+const STAMP: u32 = 2;
 
-const FIELD: u32 = 1 << 17;
+const FIELD: u32 = STAMP << 16;
 
-const OBJECT: u32 = 1 << 19;
+const OBJECT: u32 = FIELD << 2;
 
 // What a version's first number holds for its object and field.
 fn key_of(object: u8, field: u8) -> u32

@@ -1,12 +1,12 @@
 -- `queues::child_row` meets its contract. The invariant: what the first j levels carry is copied. Assumes nothing.
 use Prim.Native.Nat.{_+_, _-_, _≤_}
-use mathlib.Core.Path.{_≡_, sym, _∙_, ap}
+use mathlib.Core.Path.{_≡_, _∙_, ap}
 use native.Mathlib.Omega.{arith}
 use borrow.Author.Needs.{needs}
 use lib.ListN.{set}
 use Rattle.session.specs.Limits.{maxLevels}
 use Rattle.session.specs.declared.Message.{Message}
-use Rattle.queues.specs.Queue.{carriedPlace, forkPlace, rowOf, carriedAt}
+use Rattle.queues.specs.Queue.{carriedPlace, rowOf, carriedAt}
 use Rattle.queues.proofs.Laws.Row.{set-carried, partRow, part-none, part-more, part-all, child-row}
 use Rattle.queues.proofs.child_row.Statement.{statement}
 use Rattle.queues.proofs.child_row.Tie as tie

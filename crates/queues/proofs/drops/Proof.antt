@@ -1,4 +1,4 @@
--- `queues::drops` meets its contract: of a full level the last one that waits, at the last place, says it. Assumes nothing.
+-- `queues::drops` meets its contract: a full level drops a fork unless the last one that waits, at the last place, has a greater stamp. Assumes nothing.
 use mathlib.Core.Path.{sym}
 use native.Mathlib.Omega.{arith}
 use Rattle.queues.proofs.Laws.Queue.{dropped-roomy, dropped-started, dropped-last}

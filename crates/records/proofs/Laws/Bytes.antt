@@ -10,8 +10,8 @@ use Rattle.scripts.specs.Ending.{numberOfEnding}
 use Rattle.scripts.specs.Value.{tag, numberIn}
 use Rattle.model.specs.Result.{bytes2, bytes4, objectRecord, historyRecord, replyRecord}
 use Rattle.rows.specs.Rows.{rowAt}
-use Rattle.records.specs.Limits.{rowWords}
-use Rattle.records.specs.Histories.{stampPlace, endingPlace, writesPlace, firstPlace, lastPlace, stepsPlace, endingOf, historyOfRow}
+use Rattle.records.specs.Limits.{stampPlace, endingPlace, writesPlace, firstPlace, lastPlace, stepsPlace, rowWords}
+use Rattle.records.specs.Histories.{endingOf, historyOfRow}
 
 -- four bytes, one by one
 bytes-are : (a : List ℕ) → length a ≡ 4 → getD a 0 0 ∷ getD a 1 0 ∷ getD a 2 0 ∷ getD a 3 0 ∷ [] ≡ a

@@ -1,5 +1,5 @@
 -- The end stamp before a fork stamp, by the place that the fork stamp has among histories. Assumes nothing.
-use Prim.Native.Nat.{ℕ, zero, suc, _+_, _-_, _*_, _≤_, _<_}
+use Prim.Native.Nat.{ℕ, zero, suc, _+_, _-_, _≤_, _<_}
 use mathlib.Core.Path.{_≡_, refl, sym, _∙_, ap}
 use mathlib.Core.Bool.{true}
 use mathlib.Core.List.{List, [], _∷_, map}
@@ -16,8 +16,8 @@ use Rattle.model.specs.History.{endBefore}
 use Rattle.rows.specs.Rows.{rowAt}
 use Rattle.rows.specs.Change.{Place}
 use Rattle.rows.proofs.Laws.Rows.{row-key}
-use Rattle.records.specs.Limits.{rowWords}
-use Rattle.records.specs.Histories.{lastPlace, historyOfRow, levelPlace, historyPlace, historiesAt, InOrder}
+use Rattle.records.specs.Limits.{lastPlace, rowWords}
+use Rattle.records.specs.Histories.{historyOfRow, levelPlace, historyPlace, historiesAt, InOrder}
 use Rattle.records.proofs.Laws.Histories.{stamp-key, historyAt, histories-tab}
 
 module _ {A : Type 0} (key last : A → ℕ) (x : ℕ) where

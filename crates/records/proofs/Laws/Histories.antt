@@ -1,7 +1,7 @@
 -- Histories kept in words: one row, one more history, and those of other levels. Assumes nothing.
 use Prim.Native.Nat.{ℕ, zero, suc, _+_, _*_, _%_, _^_, _≤_, _<_}
 use mathlib.Core.Path.{_≡_, refl, sym, _∙_, ap}
-use mathlib.Core.Bool.{true, false, true≢false}
+use mathlib.Core.Bool.{false, true≢false}
 use mathlib.Core.List.{List, [], _∷_, map}
 use native.Mathlib.Nat.{min-eq-left, mod-eq-of-lt}
 use native.Mathlib.Decide.{decLt}

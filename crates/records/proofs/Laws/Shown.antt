@@ -21,7 +21,8 @@ use Rattle.model.specs.Limits.{maxManagers}
 use Rattle.model.specs.History.{History}
 use Rattle.model.specs.Result.{objectRecord, historyRecord, replyRecord, replyOf}
 use Rattle.rows.specs.Rows.{rowAt, rowsAt}
-use Rattle.records.specs.Histories.{tagPlace, numberPlace, historyOfRow, historyPlace, historiesAt}
+use Rattle.records.specs.Limits.{tagPlace, numberPlace}
+use Rattle.records.specs.Histories.{historyOfRow, historyPlace, historiesAt}
 use Rattle.records.specs.Writing.{shownObject, shownLevel, shownReply, Placed}
 use Rattle.records.proofs.Laws.Histories.{map-tab, historyAt, histories-tab}
 use Rattle.records.proofs.Laws.Placed.{placed-none}
