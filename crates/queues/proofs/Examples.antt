@@ -11,7 +11,7 @@ use Rattle.model.specs.Limits.{maxManagers}
 use Rattle.model.specs.Lists.{inserted, lastOr}
 use Rattle.model.specs.Fork.{Fork, rootFork}
 use Rattle.rows.specs.Rows.{rowAt, rowsAt}
-use Rattle.queues.specs.Queue.{forkPlace, forkOfRow, rowOf, forkAt, forksAt, ForksRise, isDropped}
+use Rattle.queues.specs.Queue.{forkPlace, forkOfRow, rowOf, rowOfChild, forkAt, forksAt, ForksRise, isDropped}
 
 abbrev root : Message
 root = record { object = 3; name = 15; parameter = Nil }
@@ -23,8 +23,8 @@ sent = record { object = 2; name = 1; parameter = Number 7 }
 abbrev child : Fork
 child = record { stamp = 0x10000000; depth = 1; seen = 0 ∷ 4 ∷ 0 ∷ []; message = sent }
 
-abbrev childRow : List ℕ
-childRow = 0x10000000 ∷ 1 ∷ 2 ∷ 1 ∷ 1 ∷ 7 ∷ 0 ∷ 4 ∷ replicate 6 0
+abbrev sentRow : List ℕ
+sentRow = 0x10000000 ∷ 1 ∷ 2 ∷ 1 ∷ 1 ∷ 7 ∷ 0 ∷ 4 ∷ replicate 6 0
 
 -- at level 0 thirty have started, and two wait
 abbrev queue : List ℕ
@@ -35,7 +35,9 @@ stampsOf = map (λ f. f .stamp)
 
 pub record Examples : Type 0 where
   root-back : forkOfRow 3 (rowOf 0 0 root) ≡ rootFork 3 root
-  child-back : forkAt 3 (rowOf 0 0 root ++ childRow) 0 1 ≡ child
+  -- the root's manager at level 1 made it
+  child-made : rowOfChild (replicate (forkPlace 1 0) 0 ++ rowOf 0 0 root) 1 0 0x10000000 1 4 sent ≡ sentRow
+  child-back : forkAt 3 (rowOf 0 0 root ++ sentRow) 0 1 ≡ child
   rise : ForksRise queue 0 30 2
   -- of three there is room for those of the two smallest stamps
   kept : stampsOf (take (maxManagers - 30) (inserted (λ f. f .stamp) (forkOfRow 1 (rowOf 0x20000000 1 sent)) (forksAt 1 queue 0 30 2))) ≡ 0x10000000 ∷ 0x20000000 ∷ []
@@ -50,6 +52,7 @@ unfolding tab risingFrom inserted lastOr rowAt rowsAt forkOfRow forkAt forksAt i
 examples =
     record {
       root-back = refl;
+      child-made = refl;
       child-back = refl;
       rise = refl;
       kept = refl;

@@ -1,4 +1,4 @@
--- The forks of each level, kept in words: 14 for each, 32 of them for each level. Assumes nothing.
+-- The forks of each level, kept in words: `forkWords` for each, `maxManagers` of them for each level. Assumes nothing.
 -- The number of levels n, which says how many write stamps a fork carries, is a parameter: contracts hold for any n, up to 8 where a row is
 -- made. A fork that starts is not moved: only the count of those that started grows.
 -- Laws: a fork is read back from its row (`proofs/Laws/Row`: `root-row`, `child-row`); a child's stamp by a shift (`Stamp`: `child-is`);
@@ -19,11 +19,32 @@ use Rattle.words.specs.Fields.{valueOf}
 use Rattle.model.specs.Limits.{maxManagers}
 use Rattle.model.specs.Lists.{inserted, lastOr}
 use Rattle.model.specs.Fork.{Fork, rootFork}
-use Rattle.rows.specs.Rows.{rowAt, rowsAt, Rising}
+use Rattle.rows.specs.Rows.{rowAt, rowsAt, keyOf, Rising}
 
 -- a fork's words: stamp, depth, object, name, the parameter's tag and number, and a write stamp for each level
+abbrev pub stampPlace : ℕ
+stampPlace = 0
+
+abbrev pub depthPlace : ℕ
+depthPlace = 1
+
+abbrev pub objectPlace : ℕ
+objectPlace = 2
+
+abbrev pub namePlace : ℕ
+namePlace = 3
+
+abbrev pub tagPlace : ℕ
+tagPlace = 4
+
+abbrev pub numberPlace : ℕ
+numberPlace = 5
+
+abbrev pub carriedPlace : ℕ
+carriedPlace = 6
+
 abbrev pub forkWords : ℕ
-forkWords = 6 + maxLevels
+forkWords = carriedPlace + maxLevels
 
 -- those of all levels: "A level keeps the 32 forks of smallest stamp"
 abbrev pub queueWords : ℕ
@@ -37,22 +58,39 @@ forkPlace l i = forkWords * (maxManagers * l + i)
 unfoldable pub forkOfRow : ℕ → List ℕ → Fork
 forkOfRow n row =
     record {
-      stamp = getD row 0 0;
-      depth = getD row 1 0 % 2 ^ 8;
-      seen = tab n (λ j. getD row (6 + j) 0 % 2 ^ 16);
-      message = record { object = getD row 2 0 % 2 ^ 8; name = getD row 3 0 % 2 ^ 8; parameter = valueOf (getD row 4 0) (getD row 5 0) };
+      stamp = getD row stampPlace 0;
+      depth = getD row depthPlace 0 % 2 ^ 8;
+      seen = tab n (λ j. getD row (carriedPlace + j) 0 % 2 ^ 16);
+      message =
+          record {
+            object = getD row objectPlace 0 % 2 ^ 8;
+            name = getD row namePlace 0 % 2 ^ 8;
+            parameter = valueOf (getD row tagPlace 0) (getD row numberPlace 0);
+          };
     }
 
--- the row of a fork with a stamp, a depth and a message, that carries no write stamp
-abbrev pub rowOf : ℕ → ℕ → Message → List ℕ
-rowOf stamp depth message =
+-- the row of a fork with a stamp, a depth and a message, that carries these write stamps, one for each level
+abbrev pub rowWith : ℕ → ℕ → Message → List ℕ → List ℕ
+rowWith stamp depth message carried =
     stamp
     ∷ depth
     ∷ message .object
     ∷ message .name
     ∷ tag (message .parameter)
     ∷ numberIn (message .parameter)
-    ∷ replicate maxLevels 0
+    ∷ carried
+
+-- and of one that carries none
+abbrev pub rowOf : ℕ → ℕ → Message → List ℕ
+rowOf stamp depth message = rowWith stamp depth message (replicate maxLevels 0)
+
+-- the write stamps that fork i of level l carries
+abbrev pub carriedAt : List ℕ → ℕ → ℕ → List ℕ
+carriedAt ws l i = rowAt ws (forkPlace l i + carriedPlace) maxLevels
+
+-- the row of a fork made by the manager of fork i of level l: it carries what that one carries, and for l this write stamp
+abbrev pub rowOfChild : List ℕ → ℕ → ℕ → ℕ → ℕ → ℕ → Message → List ℕ
+rowOfChild ws l i stamp depth carried message = rowWith stamp depth message (set (carriedAt ws l i) l carried)
 
 -- fork i of level l
 unfoldable pub forkAt : ℕ → List ℕ → ℕ → ℕ → Fork
@@ -97,9 +135,14 @@ unfoldable pub isDropped : ℕ → List Fork → ℕ → Bool
 isDropped started waiting stamp =
     leb maxManagers (started + length waiting) && leb (lastOr 0 (map (λ y. y .stamp) waiting)) stamp
 
--- a fork arrived at level l: of those that wait and this one the first are kept for which there is room. No other fork is touched
+-- a fork arrived at level l: of the rows that wait and this one the first are kept for which there is room, and no other word is touched.
+-- So it is with the forks in them, and those that started and those of other levels stay
 pub record Arrived (ws ws' : List ℕ) (l started waiting : ℕ) (row : List ℕ) (count : ℕ) : Type 0 where
   pub number : count ≡ min (waiting + 1) (maxManagers - started)
+  pub rows :
+      rowsAt ws' (forkPlace l started) forkWords count
+      ≡ take (maxManagers - started) (inserted keyOf row (rowsAt ws (forkPlace l started) forkWords waiting))
+  pub untouched : Outside ws ws' (forkPlace l started) (forkPlace l (started + count))
   pub forks : (n : ℕ) → forksAt n ws' l started count ≡ take (maxManagers - started) (inserted (λ y. y .stamp) (forkOfRow n row) (forksAt n ws l started waiting))
   pub rises : ForksRise ws' l started count
   pub before : (n i : ℕ) → i < started → forkAt n ws' l i ≡ forkAt n ws l i

@@ -1,6 +1,8 @@
 // Result records: kinds 5, 6 and 7 as bytes, from the fields and histories of a run kept in words.
 mod bytes;
 pub mod histories;
+pub mod limits;
+mod places;
 mod shown;
 
 ghost use Rattle.records.specs.Writing.{resultIn, bytesIn, Ready, Written};

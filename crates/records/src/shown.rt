@@ -1,8 +1,10 @@
 // The records that a clearance is shown, written to a buffer one after the other. Each function writes
 // from `at` on and returns the place behind what it wrote.
 use crate::bytes;
+use crate::places;
 use session::Value;
 use session::contents;
+use session::limits::RECORD_BYTES;
 use words::values;
 ghost use mathlib.Core.Path.{_≡_};
 ghost use mathlib.Core.List.{map};
@@ -21,14 +23,14 @@ ghost use Rattle.records.specs.Histories.{historiesAt, endedIn, Historie
 ghost use Rattle.records.specs.Writing.{shownObject, shownLevel, shownReply, Placed};
 
 // Writes one record.
-fn put(result: &mut [u8], at: usize, bytes: &[u8; 16]) -> usize
+fn put(result: &mut [u8], at: usize, bytes: &[u8; RECORD_BYTES]) -> usize
     requires { ⌜ (length (now bytes) ≡ recordBytes) × (at + recordBytes ≤ length (now result)) ⌝ }
     ensures { λ next. ⌜ Placed (now (bytes .entry)) at (now (result .entry)) (now (result .exit)) next ⌝ }
 {
-    for i in 0..16 {
+    for i in 0..RECORD_BYTES {
         result[at + i] = bytes[i];
     }
-    at + 16
+    at + RECORD_BYTES
 }
 
 // Writes an object's record, if the clearance dominates its level.
@@ -138,8 +140,8 @@ fn first_reply(histories: &[u32], level: usize, count: usize) -> Value
     if count == 0 {
         return Value::Nil;
     }
-    let at = 256 * level;
-    values::value_of(histories[at + 6], histories[at + 7])
+    let at = places::place_of(level, 0);
+    values::value_of(histories[at + places::TAG], histories[at + places::NUMBER])
 }
 
 // Writes the root's reply, if the clearance dominates its level.
@@ -148,15 +150,16 @@ pub fn write_reply(
     histories: &[u32],
     counts: &[usize],
     clearance: usize,
-    level: usize,
+    root_level: usize,
     result: &mut [u8],
     at: usize,
 ) -> usize
-    requires { ⌜ HistoriesReady (now histories) (now counts) × (level < maxLevels) × (at + recordBytes ≤ length (now result)) ⌝ }
-    ensures { λ next. ⌜ Placed (shownReply (dominates (now (masks .entry))) (endedIn (now (histories .entry)) (now (counts .entry))) clearance level) at (now (result .entry)) (now (result .exit)) next ⌝ }
+    requires { ⌜ HistoriesReady (now histories) (now counts) × («root_level» < maxLevels) × (at + recordBytes ≤ length (now result)) ⌝ }
+    ensures { λ next. ⌜ Placed (shownReply (dominates (now (masks .entry))) (endedIn (now (histories .entry)) (now (counts .entry))) clearance «root_level») at (now (result .entry)) (now (result .exit)) next ⌝ }
 {
-    if lattice::dominates(masks, clearance, level) {
-        let made = bytes::reply_record(level, first_reply(histories, level, counts[level]));
+    if lattice::dominates(masks, clearance, root_level) {
+        let reply = first_reply(histories, root_level, counts[root_level]);
+        let made = bytes::reply_record(root_level, reply);
         put(result, at, &made)
     } else {
         at

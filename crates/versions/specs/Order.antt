@@ -3,11 +3,11 @@
 -- version up to a bound is the newest of those before the partition point (`newest-before`).
 use Prim.Native.Nat.{ℕ, _+_, _*_, _≤_, _<_}
 use mathlib.Core.List.{List}
-use Rattle.versions.specs.Log.{versionAt}
+use Rattle.versions.specs.Log.{versionNumbers, versionAt}
 
 -- the write stamp of version i, counted from the oldest on, of the log that starts at a place
 abbrev pub stampAt : List ℕ → ℕ → ℕ → ℕ
-stampAt work start i = versionAt work (start + 2 * i) .stamp
+stampAt work start i = versionAt work (start + versionNumbers * i) .stamp
 
 -- the write stamps of its n versions, from the oldest on, never fall
 abbrev pub StampsRise : List ℕ → ℕ → ℕ → Type 0

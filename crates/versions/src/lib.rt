@@ -2,7 +2,11 @@
 //
 // Each level has a log of its own. A write adds a version to its end, and write stamps never fall. So a
 // read finds which versions are not above its bound by halving, and goes through those backward.
+use model::MAX_MANAGERS;
+use model::WORK_NUMBERS;
+use scripts::MAX_WRITES;
 use session::Value;
+use words::values;
 ghost use mathlib.Core.Path.{_≡_};
 ghost use lib.Dec.{ltb};
 ghost use Prim.Native.Nat.{_+_, _≤_, _<_};
@@ -11,21 +15,28 @@ ghost use Rattle.session.specs.Limits.{maxLevels};
 ghost use Rattle.model.specs.Limits.{workNumbers};
 ghost use Rattle.model.specs.Level.{newestTo};
 ghost use Rattle.model.specs.Entries.{cleared};
-ghost use Rattle.versions.specs.Log.{maxVersions, logStart, keyOf, versionAt, logOf, Within};
+ghost use Rattle.versions.specs.Log.{numberPlace, maxVersions, logStart, keyOf, versionAt, logOf, Within};
 ghost use Rattle.versions.specs.Order.{stampAt, StampsRise, PartitionPoint};
 ghost use Rattle.versions.specs.Changes.{Appended};
 
-// How many numbers a level's log has: two for each version that fits.
-const LOG_NUMBERS: usize = 1024;
+// How many numbers a version has, and which of them is the value's number. The other one, the first,
+// holds the rest: versionNumbers, numberPlace.
+const VERSION_NUMBERS: usize = 2;
 
-// How many numbers the logs of all levels have.
-const WORK_NUMBERS: usize = 8192;
+const NUMBER: usize = 1;
 
-// What one object more is worth in a version's first number.
-const OBJECT: u32 = 524288;
+// How many versions a level has room for, and how many numbers its log has: maxVersions, logNumbers.
+const MAX_VERSIONS: usize = MAX_MANAGERS * MAX_WRITES as usize;
 
-// What one field more is worth there.
-const FIELD: u32 = 131072;
+const LOG_NUMBERS: usize = MAX_VERSIONS * VERSION_NUMBERS;
+
+// What one more is worth in a version's first number, of the write stamp, the field and the object:
+// stampUnit, fieldUnit, objectUnit. Below the write stamp stands the tag; it has 16 bits, the field 2.
+const STAMP: u32 = 2;
+
+const FIELD: u32 = STAMP << 16;
+
+const OBJECT: u32 = FIELD << 2;
 
 // What a version's first number holds for its object and field.
 fn key_of(object: u8, field: u8) -> u32
@@ -47,42 +58,29 @@ pub fn append(
     requires { ⌜ Within (now work) level (count + 1) field ⌝ }
     ensures { λ _. ⌜ Appended (now (work .entry)) (now (work .exit)) level count (record { stamp = stamp; object = object; field = field; value = value }) ⌝ }
 {
-    let at = LOG_NUMBERS * level + 2 * count;
-    let packed = key_of(object, field) + 2 * stamp as u32;
-    match value {
-        Value::Nil => {
-            work[at] = packed;
-            work[at + 1] = 0;
-        }
-        Value::Number(number) => {
-            work[at] = packed + 1;
-            work[at + 1] = number;
-        }
-    }
+    let at = LOG_NUMBERS * level + VERSION_NUMBERS * count;
+    work[at] = key_of(object, field) + STAMP * stamp as u32 + values::tag_of(value) as u32;
+    work[at + NUMBER] = values::number_in(value);
 }
 
 // The value of the version at a place.
 fn value_at(work: &[u32], at: usize) -> Value
-    requires { ⌜ at + 1 < length (now work) ⌝ }
+    requires { ⌜ at + numberPlace < length (now work) ⌝ }
     ensures { λ r. ⌜ r ≡ versionAt (now (work .entry)) at .value ⌝ }
 {
-    if work[at] % 2 == 1 {
-        Value::Number(work[at + 1])
-    } else {
-        Value::Nil
-    }
+    values::value_of(work[at] % STAMP, work[at + NUMBER])
 }
 
 // Whether version `i`, counted from the oldest on, of the log of a level is above a write stamp.
 //
-// Below its field and object, a version's first number holds the write stamp and the tag: at most
-// 2 * bound + 1 exactly where the version is not above the bound.
+// Below its field and object, a version's first number holds the write stamp and the tag, which is at
+// most 1: so at most STAMP * bound + 1 exactly where the version is not above the bound.
 fn is_above(work: &[u32], level: usize, i: usize, bound: u16) -> bool
     requires { ⌜ (level < maxLevels) × (i < maxVersions) × (workNumbers ≤ length (now work)) ⌝ }
     ensures { λ r. ⌜ r ≡ ltb bound (stampAt (now (work .entry)) (logStart level) i) ⌝ }
 {
-    let span = 2 * bound as u32 + 1;
-    work[LOG_NUMBERS * level + 2 * i] % FIELD > span
+    let span = STAMP * bound as u32 + 1;
+    work[LOG_NUMBERS * level + VERSION_NUMBERS * i] % FIELD > span
 }
 
 // How many versions, the oldest ones, of the log of a level, which has `count` versions, are not above a
@@ -129,9 +127,9 @@ pub fn newest_to(
     let mut n = count_to(work, level, count, bound);
     while 0 < n {
         n -= 1;
-        let packed = work[start + 2 * n];
+        let packed = work[start + VERSION_NUMBERS * n];
         if std::num::wrapping_sub_u32(packed, key) < FIELD {
-            return value_at(work, start + 2 * n);
+            return value_at(work, start + VERSION_NUMBERS * n);
         }
     }
     initial

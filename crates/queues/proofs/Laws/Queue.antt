@@ -1,5 +1,5 @@
 -- The forks of each level, kept in words: read one by one, one more, and those of other levels. Assumes nothing.
-use Prim.Native.Nat.{ℕ, zero, suc, _+_, _*_, _-_, _%_, _≤_, _<_}
+use Prim.Native.Nat.{ℕ, zero, suc, _+_, _*_, _-_, _%_, _^_, _≤_, _<_}
 use mathlib.Core.Path.{_≡_, refl, sym, _∙_, ap}
 use mathlib.Core.Bool.{true, false, _&&_}
 use mathlib.Core.List.{List, [], _∷_, map}
@@ -23,7 +23,7 @@ use Rattle.rows.specs.Change.{Inserted}
 use Rattle.rows.proofs.Laws.Outside.{Apart, before, behind, row-apart, rows-apart}
 use Rattle.rows.proofs.Laws.Rows.{rows-length, rows-first, rising-behind, decoded}
 use Rattle.rows.proofs.Laws.Kept.{kept-none, kept-last}
-use Rattle.queues.specs.Queue.{forkWords, forkPlace, forkOfRow, forkAt, forksAt, ForksRise, Room, isDropped, Arrived}
+use Rattle.queues.specs.Queue.{carriedPlace, forkWords, forkPlace, forkOfRow, forkAt, forksAt, ForksRise, Room, isDropped, Arrived}
 
 -- a fork's stamp is its row's key
 pub stamp-key : (n : ℕ) (row : List ℕ) → forkOfRow n row .stamp ≡ keyOf row
@@ -32,9 +32,14 @@ stamp-key n row = refl
 
 -- one row of a level: its words, and the place of the next; the rows from it on
 module _ (ws : List ℕ) (l i : ℕ) where
-  pub word-is : (k : ℕ) → k < forkWords → getD (rowAt ws (forkPlace l i) forkWords) k 0 ≡ getD ws (forkPlace l i + k) 0
+  word-is : (k : ℕ) → k < forkWords → getD (rowAt ws (forkPlace l i) forkWords) k 0 ≡ getD ws (forkPlace l i + k) 0
   unfolding rowAt
   word-is k h = getD-tab 0 forkWords (λ k. getD ws (forkPlace l i + k) 0) k h
+
+  pub carried-word : (j : ℕ) → j < maxLevels → getD (rowAt ws (forkPlace l i) forkWords) (carriedPlace + j) 0 ≡ getD ws (forkPlace l i + carriedPlace + j) 0
+  carried-word j h =
+      let z : forkPlace l i + (carriedPlace + j) ≡ forkPlace l i + carriedPlace + j = omega arith in
+      word-is (carriedPlace + j) (omega arith) ∙ ap (λ k. getD ws k 0) z
 
   next : forkPlace l i + forkWords ≡ forkPlace l (i + 1)
   next = omega arith
@@ -52,12 +57,11 @@ module _ (n : ℕ) (ws : List ℕ) (l i : ℕ) where
   unfolding forkAt forkOfRow rowAt tab
   stamp-is = rw (add-zero (forkPlace l i)) refl
 
-  pub carried-is : (j : ℕ) → j < n → j < maxLevels → getD (forkAt n ws l i .seen) j 0 ≡ getD ws (forkPlace l i + 6 + j) 0 % 65536
+  pub carried-is : (j : ℕ) → j < n → j < maxLevels → getD (forkAt n ws l i .seen) j 0 ≡ getD ws (forkPlace l i + carriedPlace + j) 0 % 2 ^ 16
   unfolding forkAt forkOfRow
   carried-is j h m =
-      let z : forkPlace l i + (6 + j) ≡ forkPlace l i + 6 + j = omega arith in
-      getD-tab 0 n (λ k. getD (rowAt ws (forkPlace l i) forkWords) (6 + k) 0 % 65536) j h
-      ∙ ap (λ w. w % 65536) (word-is ws l i (6 + j) (omega arith) ∙ ap (λ k. getD ws k 0) z)
+      getD-tab 0 n (λ k. getD (rowAt ws (forkPlace l i) forkWords) (carriedPlace + k) 0 % 2 ^ 16) j h
+      ∙ ap (λ w. w % 2 ^ 16) (carried-word ws l i j m)
 
   -- the forks from a place on: none, the first and those behind it, how many
   pub forks-none : forksAt n ws l i 0 ≡ []
@@ -120,8 +124,11 @@ arrived ws ws' l started waiting row count h w i =
     let inner : Outside ws ws' (forkPlace l started) (forkPlace l started + forkWords * count) = rw w at (i .outside) in
     let o : Outside ws ws' (forkPlace l started) (forkPlace l maxManagers) =
     outside-wider ws ws' (forkPlace l started) (forkPlace l started + forkWords * count) (forkPlace l started) (forkPlace l maxManagers) (omega arith) (omega (arith, h .kept)) inner in
+    let z : forkPlace l started + forkWords * count ≡ forkPlace l (started + count) = omega arith in
     record {
       number = i .number;
+      rows = rw w at (i .rows);
+      untouched = rw z at inner;
       forks = λ n. rw w at (decoded (forkOfRow n) (λ y. y .stamp) (stamp-key n) ws ws' (forkPlace l started) waiting (maxManagers - started) row count i);
       rises = rw w at (i .rises);
       before = before-apart ws ws' l started o;
@@ -153,11 +160,11 @@ module _ (n : ℕ) (ws : List ℕ) (l started stamp : ℕ) where
   dropped-started waiting h z =
       rw (dropped-by waiting, le-leb maxManagers (started + waiting) h, z, forks-none n ws l started) (le-leb 0 stamp (omega arith))
 
-  pub dropped-last : (waiting : ℕ) → started + waiting ≡ maxManagers → (waiting ≡ 0 → ⊥) → isDropped started (forksAt n ws l started waiting) stamp ≡ leb (getD ws (forkPlace l (maxManagers - 1)) 0) stamp
+  pub dropped-last : (waiting : ℕ) → started + waiting ≡ maxManagers → (waiting ≡ 0 → ⊥) → isDropped started (forksAt n ws l started waiting) stamp ≡ leb (forkAt n ws l (maxManagers - 1) .stamp) stamp
   dropped-last zero h d = absurd (d refl)
   dropped-last (suc c) h d =
       let z : started + c ≡ maxManagers - 1 = omega arith in
-      rw (dropped-by (suc c), le-leb maxManagers (started + suc c) (omega arith), last-stamp n ws l c started 0, z) refl
+      rw (dropped-by (suc c), le-leb maxManagers (started + suc c) (omega arith), last-stamp n ws l c started 0, z, stamp-is n ws l (maxManagers - 1)) refl
 
 -- a row whose fork is dropped changes nothing
 pub dropped-arrives : (n : ℕ) (ws : List ℕ) (l started waiting : ℕ) (row : List ℕ) → Room ws l started waiting → length row ≡ forkWords

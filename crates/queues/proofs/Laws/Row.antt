@@ -1,24 +1,20 @@
 -- A fork's row, made: the root's, and a child's, which carries what its parent carries. Assumes nothing.
-use Prim.Native.Nat.{ℕ, zero, suc, _+_, _%_, _≤_, _<_}
+use Prim.Native.Nat.{ℕ, zero, suc, _+_, _%_, _^_, _<_}
 use mathlib.Core.Path.{_≡_, refl, sym, _∙_, ap, ap₂}
-use mathlib.Core.Bool.{cond}
-use mathlib.Core.List.{List, _∷_}
+use mathlib.Core.List.{List, _∷_, _++_}
 use native.Mathlib.Omega.{arith}
 use native.Mathlib.Nat.{mod-eq-of-lt}
-use borrow.Author.Tests.{lt-ltb, le-ltb}
-use lib.Dec.{ltb}
-use lib.ListN.{length, getD, set, replicate, length-set, getD-replicate}
+use lib.ListN.{length, getD, set, drop, replicate, length-set, getD-replicate}
 use lib.Seq.{getD-set-same, getD-set-other, getD-drop}
 use Rattle.session.specs.Limits.{maxLevels}
 use Rattle.session.specs.Lists.{tab}
 use Rattle.session.specs.declared.Message.{Message}
 use Rattle.session.proofs.Laws.Lists.{length-tab, getD-tab}
-use Rattle.session.proofs.Laws.Fill.{tab-ext}
-use Rattle.session.proofs.Laws.Rising.{less, same, more, order}
+use Rattle.session.proofs.Laws.Fill.{tab-ext, tab-fill-none, tab-fill-more}
 use Rattle.words.proofs.Laws.Fields.{value-back}
 use Rattle.rows.specs.Rows.{rowAt, keyOf}
-use Rattle.queues.specs.Queue.{forkWords, forkPlace, forkOfRow, rowOf, forkAt, RootRow, ChildRow}
-use Rattle.queues.proofs.Laws.Queue.{word-is}
+use Rattle.queues.specs.Queue.{carriedPlace, forkWords, forkPlace, forkOfRow, rowWith, rowOf, carriedAt, rowOfChild, forkAt, RootRow, ChildRow}
+use Rattle.queues.proofs.Laws.Queue.{carried-word}
 
 -- a table of one number, and one that differs from another at one place
 tab-same : (n v : ℕ) (f : ℕ → ℕ) → ((i : ℕ) → i < n → f i ≡ v) → tab n f ≡ replicate n v
@@ -36,68 +32,74 @@ tab-set (suc n) (suc k) v f g e h =
 
 -- the numbers of a fork fit their words
 pub record Fits (depth : ℕ) (message : Message) : Type 0 where
-  pub deep : depth < 256
-  pub object : message .object < 256
-  pub name : message .name < 256
+  pub deep : depth < 2 ^ 8
+  pub object : message .object < 2 ^ 8
+  pub name : message .name < 2 ^ 8
 
--- a row whose first words are those of a stamp, a depth and a message holds them
-module _ (row : List ℕ) (stamp depth : ℕ) (message : Message) (fits : Fits depth message) where
-  row-fork : ((k : ℕ) → k < 6 → getD row k 0 ≡ getD (rowOf stamp depth message) k 0) → (n : ℕ)
-      → forkOfRow n row ≡ record { stamp = stamp; depth = depth; seen = tab n (λ j. getD row (6 + j) 0 % 65536); message = message }
+-- a row of a stamp, a depth, a message and what is carried: the fork in it, and one carried write stamp more
+module _ (stamp depth : ℕ) (message : Message) where
+  row-fork : Fits depth message → (carried : List ℕ) (n : ℕ)
+      → forkOfRow n (rowWith stamp depth message carried) ≡ record { stamp = stamp; depth = depth; seen = tab n (λ j. getD carried j 0 % 2 ^ 16); message = message }
   unfolding forkOfRow
-  row-fork e n =
-      let a : depth % 256 ≡ depth = omega (arith, fits .deep) in
-      let b : message .object % 256 ≡ message .object = omega (arith, fits .object) in
-      let c : message .name % 256 ≡ message .name = omega (arith, fits .name) in
-      rw (e 0 (omega arith), e 1 (omega arith), e 2 (omega arith), e 3 (omega arith), e 4 (omega arith), e 5 (omega arith), a, b, c, value-back (message .parameter)) refl
+  row-fork fits carried n =
+      let row = rowWith stamp depth message carried in
+      let a : depth % 2 ^ 8 ≡ depth = mod-eq-of-lt (fits .deep) in
+      let b : message .object % 2 ^ 8 ≡ message .object = mod-eq-of-lt (fits .object) in
+      let c : message .name % 2 ^ 8 ≡ message .name = mod-eq-of-lt (fits .name) in
+      rw (a, b, c, value-back (message .parameter))
+      (ap (λ seen. record { stamp = stamp; depth = depth; seen = seen; message = message })
+      (tab-ext n (λ j. getD row (carriedPlace + j) 0 % 2 ^ 16) (λ j. getD carried j 0 % 2 ^ 16) (λ j l. ap (λ w. w % 2 ^ 16) (sym (getD-drop carriedPlace row j 0)))))
+
+  pub set-carried : (carried : List ℕ) (j v : ℕ) → set (rowWith stamp depth message carried) (carriedPlace + j) v ≡ rowWith stamp depth message (set carried j v)
+  set-carried carried j v =
+      let z : carriedPlace + j ≡ suc (suc (suc (suc (suc (suc j))))) = omega arith in
+      rw z refl
 
 -- the root's row holds its fork
-pub root-row : (message : Message) (row : List ℕ) → Fits 0 message → row ≡ rowOf 0 0 message → RootRow message row
-root-row message row fits e n h =
-    rw e (row-fork (rowOf 0 0 message) 0 0 message fits (λ k l. refl) n
+pub root-row : (message : Message) → Fits 0 message → RootRow message (rowOf 0 0 message)
+root-row message fits n h =
+    row-fork 0 0 message fits (replicate maxLevels 0) n
     ∙ ap (λ seen. record { stamp = 0; depth = 0; seen = seen; message = message })
-    (tab-same n 0 (λ j. getD (rowOf 0 0 message) (6 + j) 0 % 65536) (λ j l. ap (λ w. w % 65536) (sym (getD-drop 6 (rowOf 0 0 message) j 0) ∙ getD-replicate maxLevels j 0 0 (omega arith)))))
+    (tab-same n 0 (λ j. getD (replicate maxLevels 0) j 0 % 2 ^ 16) (λ j l. ap (λ w. w % 2 ^ 16) (getD-replicate maxLevels j 0 0 (omega arith))))
 
--- the words of a row from 6 on, up to j, are those of the row at a place, and the first 6 what they were
-pub record Copied (ws first row : List ℕ) (at j : ℕ) : Type 0 where
-  pub length-same : length row ≡ length first
-  pub head : (k : ℕ) → k < 6 → getD row k 0 ≡ getD first k 0
-  pub copied : (k : ℕ) → 6 ≤ k → k < j → getD row k 0 ≡ getD ws (at + k) 0
+-- the row of a fork of the manager of fork i of level l, whose words start at a place: with the first j of those that it carries
+module _ (ws : List ℕ) (l i stamp depth : ℕ) (message : Message) where
+  abbrev word : ℕ → ℕ
+  word j = getD ws (forkPlace l i + carriedPlace + j) 0
 
--- none yet, and one more
-pub copied-none : (ws first : List ℕ) (at : ℕ) → Copied ws first first at 6
-copied-none ws first at = record { length-same = refl; head = λ k h. refl; copied = λ k h l. absurd (omega arith) }
+  abbrev pub partRow : ℕ → List ℕ
+  partRow j = rowWith stamp depth message (tab j word ++ drop j (replicate maxLevels 0))
 
-pub copied-more : (ws first row : List ℕ) (at j : ℕ) → 6 ≤ j → j < length first → Copied ws first row at j
-    → Copied ws first (set row j (getD ws (at + j) 0)) at (j + 1)
-copied-more ws first row at j h m c =
-    let v = getD ws (at + j) 0 in
-    record {
-      length-same = length-set row j v ∙ c .length-same;
-      head = λ k l. getD-set-other row j k v 0 (omega arith) ∙ c .head k l;
-      copied = λ k l n. elim (order k j) [
-        | less g ↦ getD-set-other row j k v 0 (omega arith) ∙ c .copied k l g
-        | same q ↦ rw q (getD-set-same row j v 0 (omega (arith, c .length-same)))
-        | more g ↦ absurd (omega arith)
-      ];
-    }
+  -- none yet, one more, all
+  pub part-none : rowOf stamp depth message ≡ partRow 0
+  part-none = ap (rowWith stamp depth message) (tab-fill-none word (replicate maxLevels 0))
 
--- all copied, and then the write stamp for the parent's level stored: the child's fork
-pub child-row : (ws : List ℕ) (l i stamp depth carried : ℕ) (message : Message) (row : List ℕ) → l < maxLevels → Fits depth message → carried < 65536
-    → Copied ws (rowOf stamp depth message) row (forkPlace l i) forkWords → ChildRow ws l i stamp depth carried message (set row (6 + l) carried)
-unfolding forkAt forkOfRow
-child-row ws l i stamp depth carried message row h fits small c n g m =
-    let row' = set row (6 + l) carried in
+  pub part-more : (j : ℕ) → j < maxLevels → set (partRow j) (carriedPlace + j) (word j) ≡ partRow (j + 1)
+  part-more j h =
+      set-carried stamp depth message (tab j word ++ drop j (replicate maxLevels 0)) j (word j)
+      ∙ ap (rowWith stamp depth message) (tab-fill-more j word (replicate maxLevels 0) h)
+
+  pub part-all : partRow maxLevels ≡ rowWith stamp depth message (carriedAt ws l i)
+  unfolding rowAt tab
+  part-all = refl
+
+-- a child's row holds its fork
+pub child-row : (ws : List ℕ) (l i stamp depth carried : ℕ) (message : Message) → l < maxLevels → Fits depth message → carried < 2 ^ 16
+    → ChildRow ws l i stamp depth carried message (rowOfChild ws l i stamp depth carried message)
+unfolding forkAt forkOfRow rowAt
+child-row ws l i stamp depth carried message h fits small n g m =
+    let f : ℕ → ℕ = λ j. getD ws (forkPlace l i + carriedPlace + j) 0 in
+    let own = tab maxLevels f in
     let old = rowAt ws (forkPlace l i) forkWords in
-    row-fork row' stamp depth message fits (λ k b. getD-set-other row (6 + l) k carried 0 (omega arith) ∙ c .head k b) n
+    row-fork stamp depth message fits (set own l carried) n
     ∙ ap (λ seen. record { stamp = stamp; depth = depth; seen = seen; message = message })
-    (tab-set n l carried (λ j. getD row' (6 + j) 0 % 65536) (λ j. getD old (6 + j) 0 % 65536)
-    (ap (λ w. w % 65536) (getD-set-same row (6 + l) carried 0 (omega (arith, c .length-same))) ∙ mod-eq-of-lt small)
+    (tab-set n l carried (λ j. getD (set own l carried) j 0 % 2 ^ 16) (λ j. getD old (carriedPlace + j) 0 % 2 ^ 16)
+    (ap (λ w. w % 2 ^ 16) (getD-set-same own l carried 0 (omega (arith, length-tab maxLevels f))) ∙ mod-eq-of-lt small)
     (λ j b d.
-    ap (λ w. w % 65536)
-    (getD-set-other row (6 + l) (6 + j) carried 0 (λ q. d (omega arith))
-    ∙ c .copied (6 + j) (omega arith) (omega arith)
-    ∙ sym (word-is ws l i (6 + j) (omega arith)))))
+    ap (λ w. w % 2 ^ 16)
+    (getD-set-other own l j carried 0 d
+    ∙ getD-tab 0 maxLevels f j (omega arith)
+    ∙ sym (carried-word ws l i j (omega arith)))))
 
 -- a child's fork has a row, with its stamp for the key, also where none is made
 pub record Row (ws : List ℕ) (l i stamp depth carried : ℕ) (message : Message) : Type 0 where
@@ -106,20 +108,14 @@ pub record Row (ws : List ℕ) (l i stamp depth carried : ℕ) (message : Messag
   pub wide : length row ≡ forkWords
   pub key : keyOf row ≡ stamp
 
-pub row-there : (ws : List ℕ) (l i stamp depth carried : ℕ) (message : Message) → l < maxLevels → Fits depth message → carried < 65536 → Row ws l i stamp depth carried message
+pub row-there : (ws : List ℕ) (l i stamp depth carried : ℕ) (message : Message) → l < maxLevels → Fits depth message → carried < 2 ^ 16 → Row ws l i stamp depth carried message
+unfolding rowAt
 row-there ws l i stamp depth carried message h fits small =
-    let first = rowOf stamp depth message in
-    let f : ℕ → ℕ = λ k. cond (ltb k 6) (getD first k 0) (getD ws (forkPlace l i + k) 0) in
-    let row = tab forkWords f in
+    let e : length (set (carriedAt ws l i) l carried) ≡ maxLevels =
+    length-set (carriedAt ws l i) l carried ∙ length-tab maxLevels (λ j. getD ws (forkPlace l i + carriedPlace + j) 0) in
     record {
-      row = set row (6 + l) carried;
-      holds =
-          child-row ws l i stamp depth carried message row h fits small
-          (record {
-            length-same = length-tab forkWords f;
-            head = λ k b. getD-tab 0 forkWords f k (omega arith) ∙ rw (lt-ltb k 6 b) refl;
-            copied = λ k b m. getD-tab 0 forkWords f k m ∙ rw (le-ltb k 6 b) refl;
-          });
-      wide = length-set row (6 + l) carried ∙ length-tab forkWords f;
-      key = getD-set-other row (6 + l) 0 carried 0 (omega arith) ∙ getD-tab 0 forkWords f 0 (omega arith);
+      row = rowOfChild ws l i stamp depth carried message;
+      holds = child-row ws l i stamp depth carried message h fits small;
+      wide = rw e refl;
+      key = refl;
     }

@@ -3,6 +3,8 @@ use Prim.Native.Nat.{ℕ, zero, suc, _+_, _*_, _-_, _%_, _^_, _≤_, _<_}
 use mathlib.Core.Path.{_≡_, refl, ap}
 use native.Mathlib.Omega.{arith}
 use native.Mathlib.Nat.{pow-succ', mod-eq-of-lt}
+use Rattle.scripts.specs.Limits.{maxForks}
+use Rattle.model.specs.Limits.{stampDigits}
 use Rattle.model.specs.Fork.{childStamp}
 use Rattle.model.proofs.Laws.Invariant.Stamps.{span-positive, child-within}
 
@@ -17,23 +19,18 @@ digits (suc k) =
     let d = pow-succ' 2 (4 * k) in
     rw (e, pow-succ' 16 k) (omega (arith, a, b, c, d, digits k))
 
-pub shift-is : (d : ℕ) → d ≤ 7 → 2 ^ (28 - 4 * d) ≡ 16 ^ (7 - d)
-shift-is d h =
-    let e : 28 - 4 * d ≡ 4 * (7 - d) = omega arith in
-    rw e (digits (7 - d))
-
-module _ (stamp depth forks : ℕ) (h : depth ≤ 7) (f : forks < 15) (fits : stamp + 16 ^ (8 - depth) ≤ 2 ^ 32) where
-  child : stamp + (forks + 1) * 2 ^ (28 - 4 * depth) ≡ childStamp stamp depth (forks + 1)
-  child = ap (λ n. stamp + (forks + 1) * n) (shift-is depth h)
+module _ (stamp depth forks : ℕ) (h : depth ≤ stampDigits) (f : forks < maxForks) (fits : stamp + 16 ^ (stampDigits + 1 - depth) ≤ 2 ^ 32) where
+  child : stamp + (forks + 1) * 2 ^ (4 * (stampDigits - depth)) ≡ childStamp stamp depth (forks + 1)
+  child = ap (λ n. stamp + (forks + 1) * n) (digits (stampDigits - depth))
 
   below : childStamp stamp depth (forks + 1) < 2 ^ 32
   below = omega (arith, child-within stamp depth forks h f, fits, span-positive (depth + 1))
 
-  whole : (forks + 1) * 2 ^ (28 - 4 * depth) % 2 ^ 32 ≡ (forks + 1) * 2 ^ (28 - 4 * depth)
+  whole : (forks + 1) * 2 ^ (4 * (stampDigits - depth)) % 2 ^ 32 ≡ (forks + 1) * 2 ^ (4 * (stampDigits - depth))
   whole = mod-eq-of-lt (omega (arith, child, below))
 
-  pub child-fits : stamp + (forks + 1) * 2 ^ (28 - 4 * depth) % 2 ^ 32 < 2 ^ 32
+  pub child-fits : stamp + (forks + 1) * 2 ^ (4 * (stampDigits - depth)) % 2 ^ 32 < 2 ^ 32
   child-fits = rw whole (omega (arith, child, below))
 
-  pub child-is : stamp + (forks + 1) * 2 ^ (28 - 4 * depth) % 2 ^ 32 ≡ childStamp stamp depth (forks + 1)
+  pub child-is : stamp + (forks + 1) * 2 ^ (4 * (stampDigits - depth)) % 2 ^ 32 ≡ childStamp stamp depth (forks + 1)
   child-is = rw whole child

@@ -2,41 +2,36 @@
 use mathlib.Core.Path.{_≡_}
 use native.Mathlib.Omega.{arith}
 use lib.ListN.{length}
+use Rattle.queues.specs.Queue.{forkWords}
 use Rattle.queues.proofs.Laws.Queue.{room-for, arrived}
 use borrow.Author.Needs.{needs}
 use Rattle.queues.proofs.arrive.Statement.{statement}
 use Rattle.queues.proofs.arrive.Tie as tie
 
-mul-insert : tie.Need-mul-insert
-mul-insert c = search needs
-
-add-insert : tie.Need-add-insert
-add-insert c = search needs
-
-mul-insert-2 : tie.Need-mul-insert-2
-mul-insert-2 c = search needs
+place-of-requires : tie.Need-place-of-requires
+place-of-requires c κs = search needs
 
 sub-insert : tie.Need-sub-insert
 sub-insert c = search needs
 
 insert-requires : tie.Need-insert-requires
 insert-requires c κs =
-    let s = c .before .before .before in
+    let s = c .before .before .before .before in
     let g = s .args in
-    let w : length (g .row .now) ≡ 14 = omega arith in
-    room-for (g .queue .now) (g .level) (g .started) (g .waiting) (g .row .now) (s .pre) w
+    let w : length (g .row .now) ≡ forkWords = omega arith in
+    rw (c .before .place-of .ensures) (room-for (g .queue .now) (g .level) (g .started) (g .waiting) (g .row .now) (s .pre) w)
 
 same-length : tie.Need-same-length
 same-length c = search needs
 
 returns : tie.Need-returns
 returns c =
-    let s = c .before .before .before .before .before .before in
+    let i = c .before .before in
+    let s = i .before .before .before .before .before in
     let g = s .args in
-    let w : length (g .row .now) ≡ 14 = omega arith in
-    arrived (g .queue .now) (c .before .before .insert .last .0) (g .level) (g .started) (g .waiting) (g .row .now) (c .before .before .insert .result) (s .pre) w (c .before .before .insert .ensures)
+    let w : length (g .row .now) ≡ forkWords = omega arith in
+    arrived (g .queue .now) (i .insert .last .0) (g .level) (g .started) (g .waiting) (g .row .now) (i .insert .result) (s .pre) w
+    (rw (i .before .before .place-of .ensures) at (i .insert .ensures))
 
 pub arrive-spec : {M : Type 1} → statement M
-arrive-spec =
-    tie.close
-    (tie.spec mul-insert add-insert mul-insert-2 sub-insert insert-requires same-length returns)
+arrive-spec = tie.close (tie.spec place-of-requires sub-insert insert-requires same-length returns)

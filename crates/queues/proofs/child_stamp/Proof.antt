@@ -1,14 +1,14 @@
 -- `queues::child_stamp` meets its contract. Assumes nothing.
-use borrow.Author.Needs.{needs}
 use Rattle.queues.proofs.Laws.Stamp.{child-fits, child-is}
+use borrow.Author.Needs.{needs}
 use Rattle.queues.proofs.child_stamp.Statement.{statement}
 use Rattle.queues.proofs.child_stamp.Tie as tie
 
-mul-place : tie.Need-mul-place
-mul-place c = search needs
-
 sub-place : tie.Need-sub-place
 sub-place c = search needs
+
+mul-place : tie.Need-mul-place
+mul-place c = search needs
 
 add-result : tie.Need-add-result
 add-result c = search needs
@@ -24,4 +24,4 @@ returns c = child-is (c .args .stamp) (c .args .depth) (c .args .forks) (c .pre 
 
 pub child-stamp-spec : {M : Type 1} → statement M
 child-stamp-spec =
-    tie.close (tie.spec mul-place sub-place add-result shl-result add-result-2 returns)
+    tie.close (tie.spec sub-place mul-place add-result shl-result add-result-2 returns)

@@ -7,20 +7,14 @@ use borrow.Author.Needs.{needs}
 use Rattle.queues.proofs.depth_at.Statement.{statement}
 use Rattle.queues.proofs.depth_at.Tie as tie
 
-mul-result : tie.Need-mul-result
-mul-result c = search needs
+place-of-requires : tie.Need-place-of-requires
+place-of-requires c κs = search needs
 
 add-result : tie.Need-add-result
 add-result c = search needs
 
-mul-result-2 : tie.Need-mul-result-2
-mul-result-2 c = search needs
-
-add-result-2 : tie.Need-add-result-2
-add-result-2 c = search needs
-
-mul-result-3 : tie.Need-mul-result-3
-mul-result-3 c = search needs
+mul-result : tie.Need-mul-result
+mul-result c = search needs
 
 shared-slice-read-result : tie.Need-shared-slice-read-result
 shared-slice-read-result c = search needs
@@ -30,17 +24,9 @@ cast-result c = search needs
 
 returns : tie.Need-returns
 unfolding forkAt forkOfRow rowAt tab
-returns c = (λ n. refl)
+returns c = rw (c .before .place-of .ensures) (λ n. refl)
 
 pub depth-at-spec : {M : Type 1} → statement M
 depth-at-spec =
     tie.close
-    (tie.spec
-    mul-result
-    add-result
-    mul-result-2
-    add-result-2
-    mul-result-3
-    shared-slice-read-result
-    cast-result
-    returns)
+    (tie.spec place-of-requires add-result mul-result shared-slice-read-result cast-result returns)

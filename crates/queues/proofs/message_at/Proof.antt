@@ -7,14 +7,8 @@ use borrow.Author.Needs.{needs}
 use Rattle.queues.proofs.message_at.Statement.{statement}
 use Rattle.queues.proofs.message_at.Tie as tie
 
-mul-at : tie.Need-mul-at
-mul-at c = search needs
-
-add-at : tie.Need-add-at
-add-at c = search needs
-
-mul-at-2 : tie.Need-mul-at-2
-mul-at-2 c = search needs
+place-of-requires : tie.Need-place-of-requires
+place-of-requires c κs = search needs
 
 add-value-of : tie.Need-add-value-of
 add-value-of c = search needs
@@ -63,15 +57,15 @@ cast-t19 c = search needs
 
 returns : tie.Need-returns
 unfolding forkAt forkOfRow rowAt tab
-returns c = (λ n. rw (c .before .before .value-of .ensures) refl)
+returns c =
+    let v = c .before .before in
+    rw (v .value-of .ensures, v .before .before .before .place-of .ensures) (λ n. refl)
 
 pub message-at-spec : {M : Type 1} → statement M
 message-at-spec =
     tie.close
     (tie.spec
-    mul-at
-    add-at
-    mul-at-2
+    place-of-requires
     add-value-of
     mul-value-of
     shared-slice-read-value-of

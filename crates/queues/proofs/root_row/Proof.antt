@@ -10,8 +10,10 @@ row-of-requires c κs = search needs
 
 returns : tie.Need-returns
 returns c =
-    let s = c .before in
-    root-row (s .args .message) (c .row-of .result) (record { deep = omega arith; object = omega (arith, s); name = omega (arith, s) }) (c .row-of .ensures)
+    let s = c .before in (
+      c .row-of .ensures,
+      rw (c .row-of .ensures) (root-row (s .args .message) (record { deep = omega arith; object = omega (arith, s); name = omega (arith, s) })),
+    )
 
 pub root-row-spec : {M : Type 1} → statement M
 root-row-spec = tie.close (tie.spec row-of-requires returns)

@@ -1,30 +1,28 @@
 -- `queues::stamp_at` meets its contract. Assumes nothing.
-use Rattle.queues.proofs.Laws.Queue.{stamp-is}
+use mathlib.Core.Path.{refl}
+use Rattle.session.specs.Lists.{tab}
+use Rattle.rows.specs.Rows.{rowAt}
+use Rattle.queues.specs.Queue.{forkOfRow, forkAt}
 use borrow.Author.Needs.{needs}
 use Rattle.queues.proofs.stamp_at.Statement.{statement}
 use Rattle.queues.proofs.stamp_at.Tie as tie
 
-mul-result : tie.Need-mul-result
-mul-result c = search needs
+place-of-requires : tie.Need-place-of-requires
+place-of-requires c κs = search needs
 
 add-result : tie.Need-add-result
 add-result c = search needs
 
-mul-result-2 : tie.Need-mul-result-2
-mul-result-2 c = search needs
-
-mul-result-3 : tie.Need-mul-result-3
-mul-result-3 c = search needs
+mul-result : tie.Need-mul-result
+mul-result c = search needs
 
 shared-slice-read-result : tie.Need-shared-slice-read-result
 shared-slice-read-result c = search needs
 
 returns : tie.Need-returns
-returns c =
-    let g = c .before .args in
-    (λ n. stamp-is n (g .queue .now) (g .level) (g .i))
+unfolding forkAt forkOfRow rowAt tab
+returns c = rw (c .before .place-of .ensures) (λ n. refl)
 
 pub stamp-at-spec : {M : Type 1} → statement M
 stamp-at-spec =
-    tie.close
-    (tie.spec mul-result add-result mul-result-2 mul-result-3 shared-slice-read-result returns)
+    tie.close (tie.spec place-of-requires add-result mul-result shared-slice-read-result returns)

@@ -1,5 +1,5 @@
 -- The end stamp before a fork stamp, by the place that the fork stamp has among histories. Assumes nothing.
-use Prim.Native.Nat.{ℕ, zero, suc, _+_, _-_, _*_, _≤_, _<_}
+use Prim.Native.Nat.{ℕ, zero, suc, _+_, _-_, _≤_, _<_}
 use mathlib.Core.Path.{_≡_, refl, sym, _∙_, ap}
 use mathlib.Core.Bool.{true}
 use mathlib.Core.List.{List, [], _∷_, map}
@@ -16,8 +16,8 @@ use Rattle.model.specs.History.{endBefore}
 use Rattle.rows.specs.Rows.{rowAt}
 use Rattle.rows.specs.Change.{Place}
 use Rattle.rows.proofs.Laws.Rows.{row-key}
-use Rattle.records.specs.Limits.{rowWords}
-use Rattle.records.specs.Histories.{historyOfRow, levelPlace, historiesAt, InOrder}
+use Rattle.records.specs.Limits.{lastPlace, rowWords}
+use Rattle.records.specs.Histories.{historyOfRow, levelPlace, historyPlace, historiesAt, InOrder}
 use Rattle.records.proofs.Laws.Histories.{stamp-key, historyAt, histories-tab}
 
 module _ {A : Type 0} (key last : A → ℕ) (x : ℕ) where
@@ -57,24 +57,24 @@ module _ {A : Type 0} (key last : A → ℕ) (x : ℕ) where
       ∙ smaller-last (last (f 0)) (key (f 0)) n r (λ i. f (suc i)) (rising-tail key b (f 0) rest e) (omega arith) (λ i l. lo (suc i) (omega arith)) (λ l. hi (omega arith))
 
 -- the fork stamp and the end stamp of a history, in its words
-stamp-at : (ws : List ℕ) (l i : ℕ) → historyAt ws l i .stamp ≡ getD ws (levelPlace l + rowWords * i) 0
+stamp-at : (ws : List ℕ) (l i : ℕ) → historyAt ws l i .stamp ≡ getD ws (historyPlace l i) 0
 stamp-at ws l i =
-    let at = levelPlace l + rowWords * i in
+    let at = historyPlace l i in
     stamp-key (rowAt ws at rowWords) ∙ row-key ws at rowWords (omega arith)
 
-last-at : (ws : List ℕ) (l i : ℕ) → historyAt ws l i .last ≡ getD ws (levelPlace l + rowWords * i + 4) 0
+last-at : (ws : List ℕ) (l i : ℕ) → historyAt ws l i .last ≡ getD ws (historyPlace l i + lastPlace) 0
 unfolding historyOfRow rowAt
-last-at ws l i = getD-tab 0 rowWords (λ j. getD ws (levelPlace l + rowWords * i + j) 0) 4 (omega arith)
+last-at ws l i = getD-tab 0 rowWords (λ j. getD ws (historyPlace l i + j) 0) lastPlace (omega arith)
 
 -- of `count` histories in order: 0 where the first has no smaller fork stamp, and else the end stamp of the last that has one
 module _ (ws : List ℕ) (l count x : ℕ) (rises : InOrder (historiesAt ws l count)) where
-  pub end-none : (0 < count → x ≤ getD ws (levelPlace l + rowWords * 0) 0) → 0 ≡ endBefore x (historiesAt ws l count)
+  pub end-none : (0 < count → x ≤ getD ws (historyPlace l 0) 0) → 0 ≡ endBefore x (historiesAt ws l count)
   unfolding endBefore
   end-none h =
       rw (histories-tab ws l count)
       (sym (smaller-none (λ h. h .stamp) (λ h. h .last) x 0 0 count (historyAt ws l) (rw (histories-tab ws l count) at rises) (λ m. rw (stamp-at ws l 0) (h m))))
 
-  pub end-last : (r : ℕ) → 0 < x → 0 < r → Place ws (levelPlace l) rowWords count (x - 1) r → getD ws (levelPlace l + rowWords * (r - 1) + 4) 0 ≡ endBefore x (historiesAt ws l count)
+  pub end-last : (r : ℕ) → 0 < x → 0 < r → Place ws (levelPlace l) rowWords count (x - 1) r → getD ws (historyPlace l (r - 1) + lastPlace) 0 ≡ endBefore x (historiesAt ws l count)
   unfolding endBefore
   end-last (suc r) h m p =
       let z : suc r - 1 ≡ r = omega arith in

@@ -3,11 +3,12 @@ use Prim.Native.Nat.{ℕ, zero, suc, _+_, _*_, _≤_, _<_}
 use mathlib.Core.Path.{_≡_, refl, sym, _∙_, ap}
 use mathlib.Core.Bool.{true, false}
 use mathlib.Core.List.{List, [], _∷_, map}
-use native.Mathlib.Nat.{add-zero, mul-suc}
+use native.Mathlib.Nat.{mul-suc}
 use native.Mathlib.Omega.{arith}
 use lib.ListN.{length, getD, length-append}
 use Rattle.lattice.specs.Order.{Dominance}
 use Rattle.lattice.specs.Table.{dominates}
+use Rattle.session.specs.Limits.{recordBytes}
 use Rattle.session.specs.Lists.{tab, joined}
 use Rattle.session.specs.Parts.{masksOf}
 use Rattle.session.specs.Meaning.{levelOf}
@@ -20,7 +21,8 @@ use Rattle.model.specs.Limits.{maxManagers}
 use Rattle.model.specs.History.{History}
 use Rattle.model.specs.Result.{objectRecord, historyRecord, replyRecord, replyOf}
 use Rattle.rows.specs.Rows.{rowAt, rowsAt}
-use Rattle.records.specs.Histories.{historyOfRow, levelPlace, historiesAt}
+use Rattle.records.specs.Limits.{tagPlace, numberPlace}
+use Rattle.records.specs.Histories.{historyOfRow, historyPlace, historiesAt}
 use Rattle.records.specs.Writing.{shownObject, shownLevel, shownReply, Placed}
 use Rattle.records.proofs.Laws.Histories.{map-tab, historyAt, histories-tab}
 use Rattle.records.proofs.Laws.Placed.{placed-none}
@@ -74,32 +76,32 @@ pub reply-none : (ws : List ℕ) (l n : ℕ) → n ≡ 0 → Nil ≡ replyOf (hi
 unfolding historiesAt rowsAt tab
 reply-none ws l n e = rw e refl
 
-pub reply-first : (ws : List ℕ) (l n : ℕ) → (n ≡ 0 → ⊥) → valueOf (getD ws (levelPlace l + 6) 0) (getD ws (levelPlace l + 7) 0) ≡ replyOf (historiesAt ws l n)
+pub reply-first : (ws : List ℕ) (l n : ℕ) → (n ≡ 0 → ⊥) → valueOf (getD ws (historyPlace l 0 + tagPlace) 0) (getD ws (historyPlace l 0 + numberPlace) 0) ≡ replyOf (historiesAt ws l n)
 unfolding historiesAt historyOfRow rowsAt rowAt tab
 reply-first ws l zero h = absurd (h refl)
-reply-first ws l (suc n) h = rw (add-zero (levelPlace l)) refl
+reply-first ws l (suc n) h = refl
 
 -- how long each is
-pub object-length : (p : Program) (field : ℕ → ℕ → Value) (c o : ℕ) → length (shownObject p field c o) ≤ 16
+pub object-length : (p : Program) (field : ℕ → ℕ → Value) (c o : ℕ) → length (shownObject p field c o) ≤ recordBytes
 unfolding shownObject objectRecord
 object-length p field c o = elim (truth (p .dom c (p .level o))) [
   | holds e ↦ rw e (omega arith)
   | fails e ↦ rw e (omega arith)
 ]
 
-pub reply-length : (dom : Dominance) (ended : ℕ → List History) (c l : ℕ) → length (shownReply dom ended c l) ≤ 16
+pub reply-length : (dom : Dominance) (ended : ℕ → List History) (c l : ℕ) → length (shownReply dom ended c l) ≤ recordBytes
 unfolding shownReply replyRecord
 reply-length dom ended c l = elim (truth (dom c l)) [
   | holds e ↦ rw e (omega arith)
   | fails e ↦ rw e (omega arith)
 ]
 
-records-length : (l : ℕ) (hs : List History) → length (joined (map (historyRecord l) hs)) ≡ 16 * length hs
+records-length : (l : ℕ) (hs : List History) → length (joined (map (historyRecord l) hs)) ≡ recordBytes * length hs
 unfolding joined historyRecord
 records-length l [] = refl
 records-length l (h ∷ hs) = length-append (historyRecord l h) (joined (map (historyRecord l) hs)) ∙ omega (arith, records-length l hs)
 
-pub level-length : (dom : Dominance) (ended : ℕ → List History) (c l : ℕ) → length (ended l) ≤ maxManagers → length (shownLevel dom ended c l) ≤ 512
+pub level-length : (dom : Dominance) (ended : ℕ → List History) (c l : ℕ) → length (ended l) ≤ maxManagers → length (shownLevel dom ended c l) ≤ recordBytes * maxManagers
 unfolding shownLevel
 level-length dom ended c l h = elim (truth (dom c l)) [
   | holds e ↦ rw e (omega (arith, records-length l (ended l)))

@@ -6,7 +6,7 @@ use native.Mathlib.Omega.{arith}
 use borrow.Author.Needs.{needs}
 use lib.ListN.{getD}
 use Rattle.model.specs.Level.{newest, newestTo}
-use Rattle.versions.specs.Log.{logStart, logOf}
+use Rattle.versions.specs.Log.{versionNumbers, logStart, logOf}
 use Rattle.versions.proofs.Laws.Scan.{Distance, near-is, far-is-not, scan-none, scan-found, scan-past}
 use Rattle.versions.proofs.Laws.Order.{newest-before}
 use Rattle.versions.proofs.newest_to.Statement.{statement}
@@ -67,7 +67,7 @@ value-at-requires c κs = omega arith
 distance-there : (u : tie.After-wrapping-sub-u32 Inv-loop μ-loop)
     → Distance
     (getD (u .before .before .before .before .before .before .before .args .work .now)
-    (1024 * u .before .before .before .before .before .before .before .args .level + 2 * (u .before .before .before .loop .n - 1))
+    (logStart (u .before .before .before .before .before .before .before .args .level) + versionNumbers * (u .before .before .before .loop .n - 1))
     0)
     (u .before .before .before .before .before .before .before .args .object)
     (u .before .before .before .before .before .before .before .args .field)
@@ -77,7 +77,7 @@ distance-there u =
     record {
       object-fits = omega arith;
       field-fits = omega arith;
-      packed-fits = omega (arith, u .before .shared-slice-known2 .given (1024 * s .args .level + 2 * (u .before .before .before .loop .n - 1)));
+      packed-fits = omega (arith, u .before .shared-slice-known2 .given (logStart (s .args .level) + versionNumbers * (u .before .before .before .loop .n - 1)));
       fits = omega arith;
       distance = rw (u .before .before .before .before .before .key-of .ensures) at (u .wrapping-sub-u32 .ensures);
     }

@@ -1,75 +1,25 @@
 -- `records::bytes::history_record` meets its contract. Assumes nothing.
-use Prim.Native.Nat.{_+_, _*_}
+use mathlib.Core.Path.{_∙_}
+use Rattle.records.specs.Histories.{historyPlace}
 use Rattle.records.proofs.Laws.Bytes.{history-bytes}
 use borrow.Author.Needs.{needs}
 use Rattle.records.proofs.bytes.history_record.Statement.{statement}
 use Rattle.records.proofs.bytes.history_record.Tie as tie
 
-mul-at : tie.Need-mul-at
-mul-at c = search needs
+place-of-requires : tie.Need-place-of-requires
+place-of-requires c κs = search needs
 
-mul-at-2 : tie.Need-mul-at-2
-mul-at-2 c = search needs
+cast-record-of : tie.Need-cast-record-of
+cast-record-of c = search needs
 
-add-at : tie.Need-add-at
-add-at c = search needs
+add-ending-byte : tie.Need-add-ending-byte
+add-ending-byte c = search needs
 
-mul-four : tie.Need-mul-four
-mul-four c = search needs
+mul-ending-byte : tie.Need-mul-ending-byte
+mul-ending-byte c = search needs
 
-shared-slice-read-four : tie.Need-shared-slice-read-four
-shared-slice-read-four c = search needs
-
-four-requires : tie.Need-four-requires
-four-requires c κs = search needs
-
-add-ending : tie.Need-add-ending
-add-ending c = search needs
-
-mul-ending : tie.Need-mul-ending
-mul-ending c = search needs
-
-shared-slice-read-ending : tie.Need-shared-slice-read-ending
-shared-slice-read-ending c = search needs
-
-add-two : tie.Need-add-two
-add-two c = search needs
-
-mul-two : tie.Need-mul-two
-mul-two c = search needs
-
-shared-slice-read-two : tie.Need-shared-slice-read-two
-shared-slice-read-two c = search needs
-
-two-requires : tie.Need-two-requires
-two-requires c κs = search needs
-
-add-two-2 : tie.Need-add-two-2
-add-two-2 c = search needs
-
-mul-two-2 : tie.Need-mul-two-2
-mul-two-2 c = search needs
-
-shared-slice-read-two-2 : tie.Need-shared-slice-read-two-2
-shared-slice-read-two-2 c = search needs
-
-two-requires-2 : tie.Need-two-requires-2
-two-requires-2 c κs = search needs
-
-add-two-3 : tie.Need-add-two-3
-add-two-3 c = search needs
-
-mul-two-3 : tie.Need-mul-two-3
-mul-two-3 c = search needs
-
-shared-slice-read-two-3 : tie.Need-shared-slice-read-two-3
-shared-slice-read-two-3 c = search needs
-
-two-requires-3 : tie.Need-two-requires-3
-two-requires-3 c κs = search needs
-
-cast-t20 : tie.Need-cast-t20
-cast-t20 c = search needs
+shared-slice-read-ending-byte : tie.Need-shared-slice-read-ending-byte
+shared-slice-read-ending-byte c = search needs
 
 ending-byte-requires : tie.Need-ending-byte-requires
 ending-byte-requires c κs = search needs
@@ -86,82 +36,96 @@ shared-slice-read-low c = search needs
 low-requires : tie.Need-low-requires
 low-requires c κs = search needs
 
-array-read-t26 : tie.Need-array-read-t26
-array-read-t26 c = search needs
+add-four : tie.Need-add-four
+add-four c = search needs
 
-array-read-t29 : tie.Need-array-read-t29
-array-read-t29 c = search needs
+mul-four : tie.Need-mul-four
+mul-four c = search needs
 
-array-read-t32 : tie.Need-array-read-t32
-array-read-t32 c = search needs
+shared-slice-read-four : tie.Need-shared-slice-read-four
+shared-slice-read-four c = search needs
 
-array-read-t35 : tie.Need-array-read-t35
-array-read-t35 c = search needs
+four-requires : tie.Need-four-requires
+four-requires c κs = search needs
 
-array-read-t38 : tie.Need-array-read-t38
-array-read-t38 c = search needs
+add-two : tie.Need-add-two
+add-two c = search needs
 
-array-read-t41 : tie.Need-array-read-t41
-array-read-t41 c = search needs
+mul-two : tie.Need-mul-two
+mul-two c = search needs
 
-array-read-t44 : tie.Need-array-read-t44
-array-read-t44 c = search needs
+shared-slice-read-two : tie.Need-shared-slice-read-two
+shared-slice-read-two c = search needs
 
-array-read-t47 : tie.Need-array-read-t47
-array-read-t47 c = search needs
+add-two-2 : tie.Need-add-two-2
+add-two-2 c = search needs
 
-array-read-t50 : tie.Need-array-read-t50
-array-read-t50 c = search needs
+mul-two-2 : tie.Need-mul-two-2
+mul-two-2 c = search needs
 
-array-read-t53 : tie.Need-array-read-t53
-array-read-t53 c = search needs
+shared-slice-read-two-2 : tie.Need-shared-slice-read-two-2
+shared-slice-read-two-2 c = search needs
+
+two-requires : tie.Need-two-requires
+two-requires c κs = search needs
+
+add-two-3 : tie.Need-add-two-3
+add-two-3 c = search needs
+
+mul-two-3 : tie.Need-mul-two-3
+mul-two-3 c = search needs
+
+shared-slice-read-two-3 : tie.Need-shared-slice-read-two-3
+shared-slice-read-two-3 c = search needs
+
+two-requires-2 : tie.Need-two-requires-2
+two-requires-2 c κs = search needs
+
+record-of-requires : tie.Need-record-of-requires
+record-of-requires c κs = search needs
 
 returns : tie.Need-returns
 returns c =
-    let g = c .before .before .before .before .before .before .before .before .before .before .before .before .before .args in
-    history-bytes (g .histories .now) (256 * g .level + 8 * g .i) (g .level) (c .before .before .ending-byte .result) (c .low .result)
-    (c .before .before .before .before .before .before .before .before .before .before .four .result) (c .before .before .before .before .before .before .before .two .result) (c .before .before .before .before .before .two2 .result) (c .before .before .before .two3 .result)
-    (c .before .before .ending-byte .ensures) (c .low .ensures) (c .before .before .before .before .before .before .before .before .before .before .four .ensures) (c .before .before .before .before .before .before .before .two .ensures) (c .before .before .before .before .before .two2 .ensures) (c .before .before .before .two3 .ensures)
+    let p = c .before .before .before .before .before .before .before .before .before .before .before .before in
+    let g = p .before .before .args in
+    let stamp = c .before .before .before .before .before .before .four in
+    let stamps = c .before .before .before .two in
+    let steps = c .before .two2 in
+    let ending = c .before .before .before .before .before .before .before .before .before .before .ending-byte in
+    let writes = c .before .before .before .before .before .before .before .before .low in
+    let at = p .place-of .ensures in
+    c .record-of .ensures
+    ∙ history-bytes (g .histories .now) (historyPlace (g .level) (g .i)) (g .level) (ending .result) (writes .result) (stamp .result) (stamps .result) (steps .result)
+    (rw at at (ending .ensures)) (rw at at (writes .ensures)) (rw at at (stamp .ensures)) (rw at at (stamps .ensures)) (rw at at (steps .ensures))
 
 pub history-record-spec : {M : Type 1} → statement M
 history-record-spec =
     tie.close
     (tie.spec
-    mul-at
-    mul-at-2
-    add-at
-    mul-four
-    shared-slice-read-four
-    four-requires
-    add-ending
-    mul-ending
-    shared-slice-read-ending
-    add-two
-    mul-two
-    shared-slice-read-two
-    two-requires
-    add-two-2
-    mul-two-2
-    shared-slice-read-two-2
-    two-requires-2
-    add-two-3
-    mul-two-3
-    shared-slice-read-two-3
-    two-requires-3
-    cast-t20
+    place-of-requires
+    cast-record-of
+    add-ending-byte
+    mul-ending-byte
+    shared-slice-read-ending-byte
     ending-byte-requires
     add-low
     mul-low
     shared-slice-read-low
     low-requires
-    array-read-t26
-    array-read-t29
-    array-read-t32
-    array-read-t35
-    array-read-t38
-    array-read-t41
-    array-read-t44
-    array-read-t47
-    array-read-t50
-    array-read-t53
+    add-four
+    mul-four
+    shared-slice-read-four
+    four-requires
+    add-two
+    mul-two
+    shared-slice-read-two
+    add-two-2
+    mul-two-2
+    shared-slice-read-two-2
+    two-requires
+    add-two-3
+    mul-two-3
+    shared-slice-read-two-3
+    two-requires-2
+    record-of-requires
     returns)

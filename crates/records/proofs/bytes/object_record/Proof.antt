@@ -38,6 +38,12 @@ mul-mask-2 c = search needs
 add-mask-2 : tie.Need-add-mask-2
 add-mask-2 c = search needs
 
+cast-record-of : tie.Need-cast-record-of
+cast-record-of c = search needs
+
+cast-record-of-2 : tie.Need-cast-record-of-2
+cast-record-of-2 c = search needs
+
 number-in-requires : tie.Need-number-in-requires
 number-in-requires c κs = search needs
 
@@ -56,59 +62,27 @@ number-in-requires-3 c κs = search needs
 four-requires-3 : tie.Need-four-requires-3
 four-requires-3 c κs = search needs
 
-cast-t11 : tie.Need-cast-t11
-cast-t11 c = search needs
-
-cast-t12 : tie.Need-cast-t12
-cast-t12 c = search needs
-
-array-read-t13 : tie.Need-array-read-t13
-array-read-t13 c = search needs
-
-array-read-t16 : tie.Need-array-read-t16
-array-read-t16 c = search needs
-
-array-read-t15 : tie.Need-array-read-t15
-array-read-t15 c = search needs
-
-array-read-t14 : tie.Need-array-read-t14
-array-read-t14 c = search needs
-
-array-read-t29 : tie.Need-array-read-t29
-array-read-t29 c = search needs
-
-array-read-t32 : tie.Need-array-read-t32
-array-read-t32 c = search needs
-
-array-read-t35 : tie.Need-array-read-t35
-array-read-t35 c = search needs
-
-array-read-t38 : tie.Need-array-read-t38
-array-read-t38 c = search needs
-
-array-read-t41 : tie.Need-array-read-t41
-array-read-t41 c = search needs
-
-array-read-t44 : tie.Need-array-read-t44
-array-read-t44 c = search needs
-
-array-read-t47 : tie.Need-array-read-t47
-array-read-t47 c = search needs
-
-array-read-t50 : tie.Need-array-read-t50
-array-read-t50 c = search needs
+record-of-requires : tie.Need-record-of-requires
+record-of-requires c κs = search needs
 
 returns : tie.Need-returns
 returns c =
-    let g = c .before .before .before .before .before .before .before .before .before .before .before .before .before .args in
-    object-bytes (g .object) (g .level) (fieldAt (g .fields .now) (g .object)) (c .before .before .before .before .before .before .before .before .tag-of .result) (c .before .before .before .before .before .before .before .tag-of2 .result) (c .before .before .before .before .before .before .tag-of3 .result)
-    (c .before .before .before .before .four .result) (c .before .before .four2 .result) (c .four3 .result)
-    (c .before .before .before .before .before .before .before .before .tag-of .ensures .0 ∙ ap tag (c .before .before .before .before .before .before .before .before .before .before .before .get .ensures))
-    (c .before .before .before .before .before .before .before .tag-of2 .ensures .0 ∙ ap tag (c .before .before .before .before .before .before .before .before .before .before .get2 .ensures))
-    (c .before .before .before .before .before .before .tag-of3 .ensures .0 ∙ ap tag (c .before .before .before .before .before .before .before .before .before .get3 .ensures))
-    (c .before .before .before .before .four .ensures ∙ ap bytes4 (c .before .before .before .before .before .number-in .ensures ∙ ap numberIn (c .before .before .before .before .before .before .before .before .before .before .before .get .ensures)))
-    (c .before .before .four2 .ensures ∙ ap bytes4 (c .before .before .before .number-in2 .ensures ∙ ap numberIn (c .before .before .before .before .before .before .before .before .before .before .get2 .ensures)))
-    (c .four3 .ensures ∙ ap bytes4 (c .before .number-in3 .ensures ∙ ap numberIn (c .before .before .before .before .before .before .before .before .before .get3 .ensures)))
+    let g = c .before .before .before .before .before .before .before .before .before .before .before .before .before .before .args in
+    let get0 = c .before .before .before .before .before .before .before .before .before .before .before .before .get .ensures in
+    let get1 = c .before .before .before .before .before .before .before .before .before .before .before .get2 .ensures in
+    let get2 = c .before .before .before .before .before .before .before .before .before .before .get3 .ensures in
+    let tag0 = c .before .before .before .before .before .before .before .before .before .tag-of in
+    let tag1 = c .before .before .before .before .before .before .before .before .tag-of2 in
+    let tag2 = c .before .before .before .before .before .before .before .tag-of3 in
+    let four0 = c .before .before .before .before .before .four in
+    let four1 = c .before .before .before .four2 in
+    let four2 = c .before .four3 in
+    c .record-of .ensures
+    ∙ object-bytes (g .object) (g .level) (fieldAt (g .fields .now) (g .object)) (tag0 .result) (tag1 .result) (tag2 .result) (four0 .result) (four1 .result) (four2 .result)
+    (tag0 .ensures .0 ∙ ap tag get0) (tag1 .ensures .0 ∙ ap tag get1) (tag2 .ensures .0 ∙ ap tag get2)
+    (four0 .ensures ∙ ap bytes4 (c .before .before .before .before .before .before .number-in .ensures ∙ ap numberIn get0))
+    (four1 .ensures ∙ ap bytes4 (c .before .before .before .before .number-in2 .ensures ∙ ap numberIn get1))
+    (four2 .ensures ∙ ap bytes4 (c .before .before .number-in3 .ensures ∙ ap numberIn get2))
 
 pub object-record-spec : {M : Type 1} → statement M
 object-record-spec =
@@ -124,24 +98,13 @@ object-record-spec =
     tag-of-requires-3
     mul-mask-2
     add-mask-2
+    cast-record-of
+    cast-record-of-2
     number-in-requires
     four-requires
     number-in-requires-2
     four-requires-2
     number-in-requires-3
     four-requires-3
-    cast-t11
-    cast-t12
-    array-read-t13
-    array-read-t16
-    array-read-t15
-    array-read-t14
-    array-read-t29
-    array-read-t32
-    array-read-t35
-    array-read-t38
-    array-read-t41
-    array-read-t44
-    array-read-t47
-    array-read-t50
+    record-of-requires
     returns)

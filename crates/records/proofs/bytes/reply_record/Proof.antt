@@ -6,46 +6,46 @@ use borrow.Author.Needs.{needs}
 use Rattle.records.proofs.bytes.reply_record.Statement.{statement}
 use Rattle.records.proofs.bytes.reply_record.Tie as tie
 
+tag-of-requires : tie.Need-tag-of-requires
+tag-of-requires c κs = search needs
+
 number-in-requires : tie.Need-number-in-requires
 number-in-requires c κs = search needs
 
 four-requires : tie.Need-four-requires
 four-requires c κs = search needs
 
-cast-t6 : tie.Need-cast-t6
-cast-t6 c = search needs
+cast-record-of : tie.Need-cast-record-of
+cast-record-of c = search needs
 
-tag-of-requires : tie.Need-tag-of-requires
-tag-of-requires c κs = search needs
+four-requires-2 : tie.Need-four-requires-2
+four-requires-2 c κs = search needs
 
-array-read-t10 : tie.Need-array-read-t10
-array-read-t10 c = search needs
+four-requires-3 : tie.Need-four-requires-3
+four-requires-3 c κs = search needs
 
-array-read-t13 : tie.Need-array-read-t13
-array-read-t13 c = search needs
-
-array-read-t16 : tie.Need-array-read-t16
-array-read-t16 c = search needs
-
-array-read-t19 : tie.Need-array-read-t19
-array-read-t19 c = search needs
+record-of-requires : tie.Need-record-of-requires
+record-of-requires c κs = search needs
 
 returns : tie.Need-returns
 returns c =
-    let g = c .before .before .before .args in
-    reply-bytes (g .level) (c .tag-of .result) (g .reply) (c .before .four .result) (c .tag-of .ensures .0)
-    (c .before .four .ensures ∙ ap bytes4 (c .before .before .number-in .ensures))
+    let g = c .before .before .before .before .before .before .args in
+    let tag = c .before .before .before .before .before .tag-of in
+    let number = c .before .before .before .four in
+    let none = c .before .before .four2 in
+    let nothing = c .before .four3 in
+    c .record-of .ensures
+    ∙ reply-bytes (g .level) (tag .result) (g .reply) (number .result) (none .result) (nothing .result) (tag .ensures .0) (number .ensures ∙ ap bytes4 (c .before .before .before .before .number-in .ensures)) (none .ensures) (nothing .ensures)
 
 pub reply-record-spec : {M : Type 1} → statement M
 reply-record-spec =
     tie.close
     (tie.spec
+    tag-of-requires
     number-in-requires
     four-requires
-    cast-t6
-    tag-of-requires
-    array-read-t10
-    array-read-t13
-    array-read-t16
-    array-read-t19
+    cast-record-of
+    four-requires-2
+    four-requires-3
+    record-of-requires
     returns)

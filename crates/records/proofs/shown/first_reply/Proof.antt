@@ -8,8 +8,8 @@ use Rattle.records.proofs.shown.first_reply.Tie as tie
 returns : tie.Need-returns
 returns c = let g = c .before .before .args in reply-none (g .histories .now) (g .level) (g .count) (c .if1 .taken)
 
-mul-at : tie.Need-mul-at
-mul-at c = search needs
+place-of-requires : tie.Need-place-of-requires
+place-of-requires c κs = search needs
 
 add-value-of : tie.Need-add-value-of
 add-value-of c = search needs
@@ -34,15 +34,16 @@ value-of-requires c κs = search needs
 
 returns-2 : tie.Need-returns-2
 returns-2 c =
-    let g = c .before .before .before .before .before .args in
-    c .value-of .ensures ∙ reply-first (g .histories .now) (g .level) (g .count) (c .before .before .before .if1 .left)
+    let p = c .before .before .before in
+    let g = p .before .before .before .args in
+    (rw (p .place-of .ensures) at (c .value-of .ensures)) ∙ reply-first (g .histories .now) (g .level) (g .count) (p .before .if1 .left)
 
 pub first-reply-spec : {M : Type 1} → statement M
 first-reply-spec =
     tie.close
     (tie.spec
     returns
-    mul-at
+    place-of-requires
     add-value-of
     mul-value-of
     shared-slice-read-value-of
