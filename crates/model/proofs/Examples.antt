@@ -5,30 +5,13 @@ use mathlib.Core.Bool.{Bool, true, false, _&&_}
 use mathlib.Core.List.{List, [], _∷_, _++_, map}
 use lib.Dec.{eqb}
 use lib.ListN.{length, getD, take, drop, replicate}
-use Rattle.lattice.specs.Range.{all, first}
-use Rattle.lattice.specs.Order.{reflexive, antisymmetric, transitive, isOrder}
-use Rattle.lattice.specs.Join.{isLeast, join, hasJoins}
-use Rattle.lattice.specs.Table.{dominates, namesPresent, isOrdered}
-use Rattle.session.specs.Lists.{every, select, risingFrom, countsFrom, tab, joined}
-use Rattle.session.specs.Record.{recordAt, recordsOf, wordOf, zeroAt, stepOf}
-use Rattle.session.specs.Parts.{ofKind, masksOf, methodRecords}
-use Rattle.session.specs.Questions.{question1, kindsRise, question2, question3, objectValid, question6, operandsFit, unusedBytes, stepValid, scriptValid, scriptsValid, rootValid, firstNo, verdictOf}
-use Rattle.session.specs.Meaning.{methodOf}
+use Rattle.lattice.specs.Table.{dominates}
+use Rattle.session.specs.Lists.{every, tab}
 use Rattle.session.specs.SessionW.{sessionW}
-use Rattle.session.specs.Program.{programOf, seenBy}
-use Rattle.filter.specs.Filter.{fateOf}
-use Rattle.scripts.specs.Value.{sum, isNilOr0}
-use Rattle.scripts.specs.Frame.{withRegister}
-use Rattle.scripts.specs.Manager.{popped, settled, concluded, started, written, called, forked, sent, operated, stepped}
-use Rattle.model.specs.Lists.{inserted, modify, lastOr}
-use Rattle.model.specs.Fork.{childOf}
-use Rattle.model.specs.History.{endBefore}
-use Rattle.model.specs.Level.{arrived, after, newest, newestTo}
-use Rattle.model.specs.Step.{viewOf, readAt, advanced, begun, moved, delivered, moveAt, stepAt}
-use Rattle.model.specs.Schedule.{readIn, question14, question15, stepRefusal, runFrom, runOf, lowest, plainFrom, plainOrder}
-use Rattle.model.specs.DepthFirst.{current, close, effected, finish, runFork, depthFirst}
-use Rattle.model.specs.Result.{objectRecord, historyRecord, replyRecord, objectsShown, historiesShown, replyShown, bytesOf, ordersShown}
-use Rattle.model.specs.Entries.{entryRefusal, cleared, answerOf, timetabled, plain, deep}
+use Rattle.model.specs.Schedule.{runOf, plainOrder, Outcome, finished, refused}
+use Rattle.model.specs.DepthFirst.{depthFirst, tallyAt}
+use Rattle.model.specs.Result.{ordersShown, Result, resultOf, resultOfDepthFirst, byNumber}
+use Rattle.model.specs.Entries.{timetabled, plain, deep, Request, Answer}
 use Rattle.session.specs.Program.{Program}
 use Rattle.session.specs.declared.Value.{Value}
 use Rattle.session.specs.declared.Value.the-variants.{Nil, Number}
@@ -38,10 +21,7 @@ use Rattle.session.specs.declared.Step.the-variants.{End, Set, Read, Write, Sen
 use Rattle.model.specs.Limits.{workNumbers}
 use Rattle.model.specs.History.{History}
 use Rattle.model.specs.Step.{levelAt}
-use Rattle.model.specs.Schedule.{Outcome, finished, refused}
-use Rattle.model.specs.DepthFirst.{tallyAt}
-use Rattle.model.specs.Result.{Result, resultOf, resultOfDepthFirst, byNumber}
-use Rattle.model.specs.Entries.{Request, Answer}
+use Rattle.model.proofs.Computing.{computing}
 
 -- Levels 3 over 1 and 2, these over 0, an object at each. The root, at 0, sends to 1, to 2 and three times to 3; those at 1 and 2 send 15
 -- times to 3: 33 forks there, whose methods are empty.
@@ -175,7 +155,7 @@ pub record Examples : Type 0 where
   not-shown : ordersShown fan 1 (0 ∷ 1 ∷ 2 ∷ []) ≡ false
 
 pub examples : Examples
-unfolding all first reflexive antisymmetric transitive isOrder isLeast join hasJoins dominates namesPresent isOrdered every select risingFrom countsFrom tab joined recordAt recordsOf wordOf zeroAt stepOf ofKind masksOf methodRecords question1 kindsRise question2 question3 objectValid question6 operandsFit unusedBytes stepValid scriptValid scriptsValid rootValid firstNo verdictOf methodOf sessionW programOf seenBy fateOf sum isNilOr0 withRegister popped settled concluded started written called forked sent operated stepped inserted modify lastOr childOf endBefore arrived after newest newestTo viewOf readAt advanced begun moved delivered moveAt stepAt readIn question14 question15 stepRefusal runFrom runOf lowest plainFrom plainOrder current close effected finish runFork depthFirst objectRecord historyRecord replyRecord objectsShown historiesShown replyShown bytesOf ordersShown entryRefusal cleared answerOf timetabled plain deep
+unfolding computing
 examples =
     record {
       fan-arrived = refl;

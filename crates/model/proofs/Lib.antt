@@ -1,6 +1,9 @@
 pub mod Laws
+mod Computing
 pub mod Demands
 pub mod Calls
 pub mod Readers
+pub mod Pairs
 pub mod ProvedCases
 pub mod Examples
+pub mod Layouts
