@@ -10,7 +10,6 @@ use Rattle.session.specs.Record.{Record}
 use Rattle.session.specs.Program.{Program}
 use Rattle.session.specs.declared.Value.{Value}
 use Rattle.session.specs.declared.Value.the-variants.{Nil, Number}
-use Rattle.session.specs.declared.Message.{Message}
 use Rattle.session.specs.declared.Step.{Step}
 use Rattle.session.specs.declared.Step.the-variants.{End, Set, Jump, Write, Send, Quit}
 use Rattle.scripts.specs.declared.Ending.{Ending}
@@ -20,8 +19,8 @@ use Rattle.model.specs.Lists.{lastOr}
 use Rattle.model.specs.Step.{levelAt}
 use Rattle.model.specs.Schedule.{Outcome, finished, refused, runOf, plainOrder}
 use Rattle.model.specs.DepthFirst.{tallyAt, depthFirst}
-use Rattle.model.specs.Result.{objectRecord, historyRecord, replyRecord, resultOf, resultOfDepthFirst, bytesOf, byNumber}
-use Rattle.model.proofs.Computing.{computing}
+use Rattle.model.specs.Result.{objectRecord, historyRecord, replyRecord}
+use Rattle.model.proofs.Computing.{computing, eachLevel, message, plainBytes, deepBytes}
 
 -- fields by a list
 abbrev fields : List Value → ℕ → Value
@@ -38,20 +37,6 @@ alone script =
       field = λ o k. getD (Number 7 ∷ []) k Nil;
       step = λ o name j. getD script j End;
     }
-
-abbrev root : Message
-root = record { object = 0; name = 0; parameter = Nil }
-
--- the result bytes of a list of scheduler steps, for a reader of level 0, and of the depth-first run
-abbrev bytesAfter : Program → Outcome → List ℕ
-bytesAfter p (finished st) = bytesOf p 0 (resultOf p st) 0 (byNumber p 0)
-bytesAfter p (refused number place) = []
-
-abbrev plainBytes : Program → List ℕ
-plainBytes p = bytesAfter p (runOf p root (plainOrder p root))
-
-abbrev deepBytes : Program → List ℕ
-deepBytes p = bytesOf p 0 (resultOfDepthFirst p (depthFirst p root)) 0 (byNumber p 0)
 
 -- a loop: the third step jumps to itself, so the 256th leaves a frame. Its register holds a number, which is no reply
 abbrev looping : Program
@@ -87,43 +72,24 @@ bothBytes =
 
 -- Eight levels in a chain, an object at each. The object at level i sends i messages upward that find an empty method, then one that goes on:
 -- at level 7 the fork stamp has the digits 1 to 7
-abbrev sending : List (List Step)
-sending = tab 7 (λ o. replicate o (Send 1 1 (suc o)) ++ Send 1 0 (suc o) ∷ [])
-
 abbrev tower : Program
 tower =
-    record {
-      levels = 8;
-      dom = dominates (0x01 ∷ 0x03 ∷ 0x07 ∷ 0x0F ∷ 0x1F ∷ 0x3F ∷ 0x7F ∷ 0xFF ∷ []);
-      objects = 8;
-      level = λ o. o;
-      field = λ o k. Nil;
-      step = λ o name j. getD (getD (getD sending o [] ∷ []) name []) j End;
-    }
+    eachLevel (0x01 ∷ 0x03 ∷ 0x07 ∷ 0x0F ∷ 0x1F ∷ 0x3F ∷ 0x7F ∷ 0xFF ∷ []) (tab 7 (λ o. (replicate o (Send 1 1 (suc o)) ++ Send 1 0 (suc o) ∷ []) ∷ []))
 
 -- the seventh manager there: no script step, write stamps 7 and 7
 abbrev towerTop : Record
 towerTop = 6 ∷ 7 ∷ 0 ∷ 0 ∷ 0x70 ∷ 0x56 ∷ 0x34 ∷ 0x12 ∷ 7 ∷ 0 ∷ 7 ∷ 0 ∷ 0 ∷ 0 ∷ 0 ∷ 0 ∷ []
 
 -- Levels 3 over 1 and 2, these over 0, and 4 over 3. As there are 32 managers at level 3, and each forks 15 times, its write stamp grows to 512
-abbrev growing : List (List Step)
-growing =
-    (Send 1 0 1 ∷ Send 1 0 2 ∷ Send 1 0 3 ∷ Send 1 0 3 ∷ [])
-    ∷ replicate 15 (Send 1 0 3)
-    ∷ replicate 15 (Send 1 0 3)
-    ∷ replicate 15 (Send 1 0 4)
-    ∷ []
-
 abbrev grower : Program
 grower =
-    record {
-      levels = 5;
-      dom = dominates (0x01 ∷ 0x03 ∷ 0x05 ∷ 0x0F ∷ 0x1F ∷ []);
-      objects = 5;
-      level = λ o. o;
-      field = λ o k. Nil;
-      step = λ o name j. getD (getD growing o []) j End;
-    }
+    eachLevel
+    (0x01 ∷ 0x03 ∷ 0x05 ∷ 0x0F ∷ 0x1F ∷ [])
+    (((Send 1 0 1 ∷ Send 1 0 2 ∷ Send 1 0 3 ∷ Send 1 0 3 ∷ []) ∷ [])
+    ∷ (replicate 15 (Send 1 0 3) ∷ [])
+    ∷ (replicate 15 (Send 1 0 3) ∷ [])
+    ∷ (replicate 15 (Send 1 0 4) ∷ [])
+    ∷ [])
 
 -- the root's fourth child, the last at level 3
 abbrev grownLast : Record
@@ -135,7 +101,7 @@ lastAfter l (finished st) = lastOr [] (map (historyRecord l) (levelAt st l .ende
 lastAfter l (refused number place) = []
 
 abbrev lastDeep : ℕ → Program → Record
-lastDeep l p = lastOr [] (map (historyRecord l) (tallyAt (depthFirst p root) l .ended))
+lastDeep l p = lastOr [] (map (historyRecord l) (tallyAt (depthFirst p (message 0)) l .ended))
 
 -- a history
 abbrev ended : Ending → History
@@ -156,18 +122,18 @@ pub record Layouts : Type 0 where
   reply-number : replyRecord 3 (Number 0x01020304) ≡ 7 ∷ 3 ∷ 0 ∷ 1 ∷ 0x04 ∷ 0x03 ∷ 0x02 ∷ 0x01 ∷ replicate 8 0
   reply-nil : replyRecord 3 Nil ≡ 7 ∷ 3 ∷ replicate 14 0
   -- "1 the 256th step left frames", and the reply is NIL
-  loops : plainBytes looping ≡ loopingBytes
-  loops-depth-first : deepBytes looping ≡ loopingBytes
+  loops : plainBytes looping 0 0 ≡ loopingBytes
+  loops-depth-first : deepBytes looping 0 0 ≡ loopingBytes
   -- "2 a seventeenth write, counted as a step and not made", and the reply is NIL
-  writes : plainBytes writing ≡ writingBytes
-  writes-depth-first : deepBytes writing ≡ writingBytes
+  writes : plainBytes writing 0 0 ≡ writingBytes
+  writes-depth-first : deepBytes writing 0 0 ≡ writingBytes
   -- "2 wins over 1"
-  both-end : plainBytes both ≡ bothBytes
-  both-end-depth-first : deepBytes both ≡ bothBytes
+  both-end : plainBytes both 0 0 ≡ bothBytes
+  both-end-depth-first : deepBytes both 0 0 ≡ bothBytes
   -- fork stamps, and write stamps above 255
-  tower-top : lastAfter 7 (runOf tower root (plainOrder tower root)) ≡ towerTop
+  tower-top : lastAfter 7 (runOf tower (message 0) (plainOrder tower (message 0))) ≡ towerTop
   tower-top-depth-first : lastDeep 7 tower ≡ towerTop
-  grows : lastAfter 3 (runOf grower root (replicate 5 0 ++ replicate 16 1 ++ replicate 16 2 ++ replicate 512 3 ++ replicate 32 4)) ≡ grownLast
+  grows : lastAfter 3 (runOf grower (message 0) (replicate 5 0 ++ replicate 16 1 ++ replicate 16 2 ++ replicate 512 3 ++ replicate 32 4)) ≡ grownLast
   grows-depth-first : lastDeep 3 grower ≡ grownLast
 
 pub layouts : Layouts

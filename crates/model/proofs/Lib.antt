@@ -7,3 +7,5 @@ pub mod Pairs
 pub mod ProvedCases
 pub mod Examples
 pub mod Layouts
+pub mod Refusals
+pub mod Runs

@@ -11,10 +11,9 @@ use Rattle.session.specs.Lists.{joined, select}
 use Rattle.session.specs.Record.{Record, byteOf}
 use Rattle.session.specs.Parts.{ofKind}
 use Rattle.session.specs.SessionW.{sessionW}
-use Rattle.model.specs.Limits.{workNumbers, resultBytes}
 use Rattle.model.specs.Entries.{Answer, plain}
 use Rattle.model.specs.Reader.{bytesWritten, SameBytes, EqualToReader}
-use Rattle.model.proofs.Computing.{computing}
+use Rattle.model.proofs.Computing.{computing, lent}
 
 -- a kind 5 record of object o at level 0, its first field x
 abbrev object : ℕ → ℕ → Record
@@ -78,8 +77,7 @@ longer = take 224 sessionW ++ (3 ∷ 1 ∷ 0 ∷ 1 ∷ 2 ∷ replicate 11 0) ++ 
 
 -- a plain run for a reader cleared to level 1, the level groups in the given order
 abbrev ran : List ℕ → List ℕ → Answer
-ran s order =
-    plain (record { session = s; clearance = 1; work = replicate workNumbers 0; buffer = replicate resultBytes 0 }) order
+ran s order = plain (lent s 1) order
 
 -- the records that session W's run writes
 abbrev objectsW : List Record

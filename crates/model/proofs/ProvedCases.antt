@@ -7,26 +7,10 @@ use Rattle.lattice.specs.Table as table
 use Rattle.session.specs.Lists.{joined}
 use Rattle.session.specs.SessionW.{sessionW}
 use Rattle.model.specs.Lists.{inserted}
-use Rattle.model.specs.Entries.{timetabled, plain, deep, Request, Answer}
+use Rattle.model.specs.Entries.{timetabled, plain, deep, Answer}
 use Rattle.session.specs.Record.{Record}
-use Rattle.model.specs.Limits.{workNumbers, resultBytes}
 use Rattle.model.specs.Fork.{childStamp}
-use Rattle.model.specs.Reader.{bytesWritten}
-use Rattle.model.proofs.Computing.{computing}
-
--- a session run for a clearance; a work slice and a result buffer of the least length and one place more
-abbrev lent : List ℕ → ℕ → Request
-lent s c =
-    record {
-      session = s;
-      clearance = c;
-      work = replicate workNumbers 7 ++ 7 ∷ [];
-      buffer = replicate resultBytes 9 ++ 9 ∷ [];
-    }
-
--- number, place, count and the bytes written
-abbrev told : Answer → List ℕ
-told a = a .number ∷ a .place ∷ a .count ∷ bytesWritten a
+use Rattle.model.proofs.Computing.{computing, lent, told}
 
 -- the records of session W's results: "(object, history, reply)", and those that clearance 1 is shown too: "object 1 as 5, 5, NIL and
 -- history stamp 10000000 hex, 2 writes, stamps 1 and 1, 5 steps"

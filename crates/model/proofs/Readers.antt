@@ -8,19 +8,13 @@ use Rattle.session.specs.Parts.{ofKind}
 use Rattle.session.specs.SessionW.{sessionW}
 use Rattle.session.specs.Program.{programOf}
 use Rattle.model.specs.Result.{ordersShown}
-use Rattle.model.specs.Entries.{timetabled, plain, deep, Request, Answer}
-use Rattle.model.specs.Limits.{workNumbers, resultBytes}
+use Rattle.model.specs.Entries.{timetabled, plain, deep, Answer}
 use Rattle.model.specs.Reader.{bytesWritten, historiesAt, SameBytes, EqualToReader}
 use native.Mathlib.Omega.{arith}
 use Rattle.session.specs.Record.{byteOf}
 use Rattle.session.specs.Emptied.{emptied}
 use Rattle.model.specs.Demands.{TimetabledRun, DepthFirstRun}
-use Rattle.model.proofs.Computing.{computing}
-
--- session W and what is lent to its runs
-abbrev lent : List ℕ → ℕ → Request
-lent s c =
-    record { session = s; clearance = c; work = replicate workNumbers 0; buffer = replicate resultBytes 0 }
+use Rattle.model.proofs.Computing.{computing, lent}
 
 -- session W, but object 1, at level 1, holds 42 in its third field
 abbrev above : List ℕ
