@@ -1,5 +1,6 @@
 pub mod Laws
 mod Computing
+pub mod Faults
 pub mod Demands
 pub mod Calls
 pub mod Readers
