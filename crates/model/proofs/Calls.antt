@@ -2,17 +2,18 @@
 use Prim.Native.Nat.{ℕ}
 use mathlib.Core.Path.{_≡_, refl, sym, _∙_, ap}
 use mathlib.Core.Bool.{true}
-use mathlib.Core.List.{List}
+use mathlib.Core.List.{List, []}
+use lib.ListN.{take}
 use Rattle.session.specs.Meaning.{rootOf}
 use Rattle.session.specs.Program.{Program, programOf}
 use Rattle.session.specs.declared.Message.{Message}
 use Rattle.model.specs.Schedule.{plainOrder}
 use Rattle.model.specs.DepthFirst.{depthFirst}
 use Rattle.model.specs.Result.{resultOfDepthFirst, ordersShown}
-use Rattle.model.specs.Entries.{Request, Answer, timetabled, plain, deep}
+use Rattle.model.specs.Entries.{Request, Answer, timetabled, plain, deep, Answers}
 use Rattle.model.specs.Reader.{Finished, bytesWritten, SameBytes}
 use Rattle.model.specs.Demands.{TimetabledRun, DepthFirstRun}
-use Rattle.model.specs.Calls.{Called, RunCalled, by-timetable, plainly, DeepCalled, Demand2Calls, Demand3Calls}
+use Rattle.model.specs.Calls.{Called, RunCalled, by-timetable, plainly, DeepCalled, TimetabledContract, PlainContract, DeepContract, Demand2Calls, Demand3Calls}
 use Rattle.model.proofs.Laws.Reader.Bytes.{same-bytes}
 use Rattle.model.proofs.Laws.Reader.Answers.{deep-passes, deep-bytes}
 use Rattle.model.proofs.Demands.{demand-2, demand-3, deepBytes, session-bytes, same-as}
@@ -20,6 +21,33 @@ use Rattle.model.proofs.Demands.{demand-2, demand-3, deepBytes, session
 -- the answer of a call
 abbrev answerOf : {of : Request → List ℕ → Answer} {s : List ℕ} {c : ℕ} {bytes : List ℕ} → Called of s c bytes → Answer
 answerOf x = record { number = 0; place = x .place; count = x .count; work = x .work; buffer = x .buffer }
+
+-- a contract's promise of a call that answered 0
+called : (of : Request → List ℕ → Answer) (q : Request) (number place count : ℕ) (work buffer : List ℕ) → Answers q (of q) number place count work buffer → number ≡ 0 → Called of (q .session) (q .clearance) (take count buffer)
+called of q number place count work buffer x e =
+    record {
+      request = q;
+      session-is = refl;
+      clearance-is = refl;
+      place = place;
+      count = count;
+      work = work;
+      buffer = buffer;
+      answers = rw e at x;
+      written = refl;
+    }
+
+pub timetabled-contract : TimetabledContract
+timetabled-contract s ls c work buffer work' buffer' number place count x e =
+    by-timetable ls (called (λ q order. timetabled q order ls) (record { session = s; clearance = c; work = work; buffer = buffer }) number place count work' buffer' x e)
+
+pub plain-contract : PlainContract
+plain-contract s c work buffer work' buffer' number place count x e =
+    plainly (called plain (record { session = s; clearance = c; work = work; buffer = buffer }) number place count work' buffer' x e)
+
+pub deep-contract : DeepContract
+deep-contract s c buffer buffer' number place count x e =
+    called deep (record { session = s; clearance = c; work = []; buffer = buffer }) number place count [] buffer' x e
 
 module _ (of : Request → List ℕ → Answer) (s : List ℕ) (c : ℕ) (bytes : List ℕ) (x : Called of s c bytes) where
   groups-are : ordersShown (programOf s) c (x .answers .order) ≡ true

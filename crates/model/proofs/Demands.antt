@@ -1,9 +1,10 @@
 -- The client's demands of runs, proved. Assumes nothing.
-use Prim.Native.Nat.{ℕ, _≤_, _<_}
+use Prim.Native.Nat.{ℕ, _≤_}
 use mathlib.Core.Path.{_≡_, refl, sym, _∙_, ap}
 use mathlib.Core.Bool.{true}
 use mathlib.Core.List.{List}
-use Rattle.session.specs.Parts.{levelCount}
+use borrow.Author.Tests.{le-leb}
+use lib.ListN.{length}
 use Rattle.session.specs.Questions.{verdictOf}
 use Rattle.session.specs.Meaning.{rootOf}
 use Rattle.session.specs.Program.{Program, programOf, seenBy}
@@ -12,19 +13,23 @@ use Rattle.session.specs.declared.Message.{Message}
 use Rattle.session.specs.declared.Verdict.the-variants.{Accepted}
 use Rattle.session.proofs.Laws.Numbering.{few-levels}
 use Rattle.session.proofs.Laws.Verdict.{accepted}
-use Rattle.session.proofs.Laws.Emptied.{emptied-message}
+use Rattle.session.proofs.Laws.Emptied.{emptied-message, emptied-level-count}
 use Rattle.session.proofs.Laws.EmptiedAccepted as session
 use Rattle.session.proofs.Laws.Program.{emptied-program}
 use Rattle.session.specs.Limits.{maxLevels}
+use Rattle.model.specs.Limits.{resultBytes}
 use Rattle.model.specs.Step.{State}
 use Rattle.model.specs.Schedule.{plainOrder}
 use Rattle.model.specs.DepthFirst.{depthFirst}
 use Rattle.model.specs.Result.{resultOf, resultOfDepthFirst, bytesOf, ordersShown}
 use Rattle.model.specs.Entries.{Request, Answer, question10, entryRefusal, bytesFor, timetabled, plain, deep}
 use Rattle.model.specs.Reader.{Finished, bytesWritten, SameBytes, EqualToReader}
-use Rattle.model.specs.Demands.{OneEnd, EmptiedAccepted, PlainFinishes, DeepFinishes, Demand2, Demand2Plain, Isolation, TimetabledRun, DepthFirstRun, Demand3}
+use Rattle.model.specs.Demands.{OneEnd, EmptiedAccepted, PlainFinishes, DeepFinishes, StepFromView, EmptiedRuns, Demand2, Demand2Plain, Isolation, TimetabledRun, DepthFirstRun, Demand3}
 use Rattle.model.proofs.Laws.Order.Accepted.{sound, any-order}
 use Rattle.model.proofs.Laws.Order.PlainRun.{accepted-plain}
+use Rattle.model.proofs.Laws.Code.Direct.{move-direct}
+use Rattle.model.proofs.Laws.Code.Live.{present}
+use Rattle.model.proofs.Laws.Code.Progress.{leads-live}
 use Rattle.model.proofs.Laws.Deep.Root.{same-result}
 use Rattle.model.proofs.Laws.Reader.Isolation as laws
 use Rattle.model.proofs.Laws.Reader.Bytes.{same-sym, same-trans}
@@ -46,8 +51,30 @@ plain-finishes q order e =
 pub deep-finishes : DeepFinishes
 deep-finishes q order e = deep-finished q order e
 
+pub step-from-view : StepFromView
+step-from-view s a ls st r l h =
+    let live = leads-live s a ls st r in
+    move-direct (programOf s) (sound s a) st (live .reachable .steady .orderly) (live .reachable .contained) l (present s l h)
+
 few-of : (s : List ℕ) → verdictOf s ≡ Accepted → programOf s .levels ≤ maxLevels
 few-of s a = unfold programOf in few-levels s (accepted s a .three)
+
+pub emptied-runs : EmptiedRuns
+emptied-runs s a c h q of reader room order groups =
+    record {
+      request = q;
+      of = of;
+      reader = reader;
+      order = order;
+      groups = groups;
+      answer = refl;
+      finished = deep-finished q order (passed true q (record {
+        accepted = rw of (emptied-accepted s a c);
+        level = rw (of, reader, emptied-level-count s c) h;
+        work = refl;
+        room = le-leb resultBytes (length (q .buffer)) room;
+      }));
+    }
 
 -- where a timetabled run passes questions 1 to 11, so does the depth-first run
 deep-may : (q : Request) → Passes (question10 q) q → entryRefusal true q ≡ 0
@@ -88,9 +115,6 @@ run-bytes q order t = refl
 seen-bytes : (c : ℕ) (p : Program) (root : Message) (order : List ℕ) → deepBytes (seenBy c p) root c order ≡ bytesOf (seenBy c p) (p .level (root .object)) (resultOfDepthFirst (seenBy c p) (depthFirst (seenBy c p) root)) c order
 unfolding seenBy
 seen-bytes c p root order = refl
-
-present : (s : List ℕ) (c : ℕ) → c < levelCount s → c < programOf s .levels
-present s c h = unfold programOf in h
 
 pub same-as : (a b a' b' : List ℕ) → a ≡ a' → b ≡ b' → SameBytes a' b' → SameBytes a b
 same-as a b a' b' q e s = rw (q, e) s

@@ -4,49 +4,13 @@ use mathlib.Core.Path.{_≡_, refl}
 use mathlib.Core.List.{List, [], _∷_, _++_}
 use lib.ListN.{replicate, set}
 use Rattle.lattice.specs.Table as table
-use Rattle.lattice.specs.Range.{all, first}
-use Rattle.lattice.specs.Order.{reflexive, antisymmetric, transitive, isOrder}
-use Rattle.lattice.specs.Join.{isLeast, join, hasJoins}
-use Rattle.lattice.specs.Table.{dominates, namesPresent, isOrdered}
-use Rattle.session.specs.Lists.{every, select, risingFrom, countsFrom, tab, joined}
-use Rattle.session.specs.Record.{recordAt, recordsOf, wordOf, zeroAt, stepOf}
-use Rattle.session.specs.Parts.{ofKind, masksOf, methodRecords}
-use Rattle.session.specs.Questions.{question1, kindsRise, question2, question3, objectValid, question6, operandsFit, unusedBytes, stepValid, scriptValid, scriptsValid, rootValid, firstNo, verdictOf}
-use Rattle.session.specs.Meaning.{methodOf}
+use Rattle.session.specs.Lists.{joined}
 use Rattle.session.specs.SessionW.{sessionW}
-use Rattle.session.specs.Program.{programOf, seenBy}
-use Rattle.filter.specs.Filter.{fateOf}
-use Rattle.scripts.specs.Value.{sum, isNilOr0}
-use Rattle.scripts.specs.Frame.{withRegister}
-use Rattle.scripts.specs.Manager.{popped, settled, concluded, started, written, called, forked, sent, operated, stepped}
-use Rattle.model.specs.Lists.{inserted, modify, lastOr}
-use Rattle.model.specs.Fork.{childOf}
-use Rattle.model.specs.History.{endBefore}
-use Rattle.model.specs.Level.{arrived, after, newest, newestTo}
-use Rattle.model.specs.Step.{viewOf, readAt, advanced, begun, moved, delivered, moveAt, stepAt}
-use Rattle.model.specs.Schedule.{readIn, question14, question15, stepRefusal, runFrom, runOf, lowest, plainFrom, plainOrder}
-use Rattle.model.specs.DepthFirst.{current, close, effected, finish, runFork, depthFirst}
-use Rattle.model.specs.Result.{objectRecord, historyRecord, replyRecord, objectsShown, historiesShown, replyShown, bytesOf, ordersShown}
-use Rattle.model.specs.Entries.{entryRefusal, cleared, answerOf, timetabled, plain, deep}
+use Rattle.model.specs.Lists.{inserted}
+use Rattle.model.specs.Entries.{timetabled, plain, deep, Answer}
 use Rattle.session.specs.Record.{Record}
-use Rattle.model.specs.Limits.{workNumbers, resultBytes}
 use Rattle.model.specs.Fork.{childStamp}
-use Rattle.model.specs.Entries.{Request, Answer}
-use Rattle.model.specs.Reader.{bytesWritten}
-
--- a session run for a clearance; a work slice and a result buffer of the least length and one place more
-abbrev lent : List ℕ → ℕ → Request
-lent s c =
-    record {
-      session = s;
-      clearance = c;
-      work = replicate workNumbers 7 ++ 7 ∷ [];
-      buffer = replicate resultBytes 9 ++ 9 ∷ [];
-    }
-
--- number, place, count and the bytes written
-abbrev told : Answer → List ℕ
-told a = a .number ∷ a .place ∷ a .count ∷ bytesWritten a
+use Rattle.model.proofs.Computing.{computing, lent, told}
 
 -- the records of session W's results: "(object, history, reply)", and those that clearance 1 is shown too: "object 1 as 5, 5, NIL and
 -- history stamp 10000000 hex, 2 writes, stamps 1 and 1, 5 steps"
@@ -102,7 +66,7 @@ pub record ProvedCases : Type 0 where
   m12-order : inserted (λ x. x) 0x21000000 (0x20000000 ∷ 0x30000000 ∷ []) ≡ 0x20000000 ∷ 0x21000000 ∷ 0x30000000 ∷ []
 
 pub provedCases : ProvedCases
-unfolding table.verdictOf all first reflexive antisymmetric transitive isOrder isLeast join hasJoins dominates namesPresent isOrdered every select risingFrom countsFrom tab joined recordAt recordsOf wordOf zeroAt stepOf ofKind masksOf methodRecords question1 kindsRise question2 question3 objectValid question6 operandsFit unusedBytes stepValid scriptValid scriptsValid rootValid firstNo verdictOf methodOf sessionW programOf seenBy fateOf sum isNilOr0 withRegister popped settled concluded started written called forked sent operated stepped inserted modify lastOr childOf endBefore arrived after newest newestTo viewOf readAt advanced begun moved delivered moveAt stepAt readIn question14 question15 stepRefusal runFrom runOf lowest plainFrom plainOrder current close effected finish runFork depthFirst objectRecord historyRecord replyRecord objectsShown historiesShown replyShown bytesOf ordersShown entryRefusal cleared answerOf timetabled plain deep
+unfolding computing
 provedCases =
     record {
       m1 = refl;

@@ -4,42 +4,17 @@ use mathlib.Core.Path.{_≡_, refl, sym, _∙_, ap}
 use mathlib.Core.Bool.{true}
 use mathlib.Core.List.{List, [], _∷_, _++_}
 use lib.ListN.{getD, set, replicate}
-use Rattle.lattice.specs.Range.{all, first}
-use Rattle.lattice.specs.Order.{reflexive, antisymmetric, transitive, isOrder}
-use Rattle.lattice.specs.Join.{isLeast, join, hasJoins}
-use Rattle.lattice.specs.Table.{dominates, namesPresent, isOrdered}
-use Rattle.session.specs.Lists.{every, select, risingFrom, countsFrom, tab, joined}
-use Rattle.session.specs.Record.{recordAt, recordsOf, wordOf, zeroAt, stepOf}
-use Rattle.session.specs.Parts.{ofKind, masksOf, methodRecords}
-use Rattle.session.specs.Questions.{question1, kindsRise, question2, question3, objectValid, question6, operandsFit, unusedBytes, stepValid, scriptValid, scriptsValid, rootValid, firstNo, verdictOf}
-use Rattle.session.specs.Meaning.{methodOf}
+use Rattle.session.specs.Parts.{ofKind}
 use Rattle.session.specs.SessionW.{sessionW}
-use Rattle.session.specs.Program.{programOf, seenBy}
-use Rattle.filter.specs.Filter.{fateOf}
-use Rattle.scripts.specs.Value.{sum, isNilOr0}
-use Rattle.scripts.specs.Frame.{withRegister}
-use Rattle.scripts.specs.Manager.{popped, settled, concluded, started, written, called, forked, sent, operated, stepped}
-use Rattle.model.specs.Lists.{inserted, modify, lastOr}
-use Rattle.model.specs.Fork.{childOf}
-use Rattle.model.specs.History.{endBefore}
-use Rattle.model.specs.Level.{arrived, after, newest, newestTo}
-use Rattle.model.specs.Step.{viewOf, readAt, advanced, begun, moved, delivered, moveAt, stepAt}
-use Rattle.model.specs.Schedule.{readIn, question14, question15, stepRefusal, runFrom, runOf, lowest, plainFrom, plainOrder}
-use Rattle.model.specs.DepthFirst.{current, close, effected, finish, runFork, depthFirst}
-use Rattle.model.specs.Result.{objectRecord, historyRecord, replyRecord, objectsShown, historiesShown, replyShown, bytesOf, ordersShown}
-use Rattle.model.specs.Entries.{entryRefusal, cleared, answerOf, timetabled, plain, deep}
-use Rattle.model.specs.Limits.{workNumbers, resultBytes}
-use Rattle.model.specs.Entries.{Request, Answer}
+use Rattle.session.specs.Program.{programOf}
+use Rattle.model.specs.Result.{ordersShown}
+use Rattle.model.specs.Entries.{timetabled, plain, deep, Answer}
 use Rattle.model.specs.Reader.{bytesWritten, historiesAt, SameBytes, EqualToReader}
 use native.Mathlib.Omega.{arith}
 use Rattle.session.specs.Record.{byteOf}
-use Rattle.session.specs.Emptied.{emptied, blanked, stays}
+use Rattle.session.specs.Emptied.{emptied}
 use Rattle.model.specs.Demands.{TimetabledRun, DepthFirstRun}
-
--- session W and what is lent to its runs
-abbrev lent : List ℕ → ℕ → Request
-lent s c =
-    record { session = s; clearance = c; work = replicate workNumbers 0; buffer = replicate resultBytes 0 }
+use Rattle.model.proofs.Computing.{computing, lent}
 
 -- session W, but object 1, at level 1, holds 42 in its third field
 abbrev above : List ℕ
@@ -105,7 +80,7 @@ record Computed : Type 0 where
   deep-groups : ordersShown (programOf (emptied 0 sessionW)) 0 (0 ∷ []) ≡ true
 
 computed : Computed
-unfolding all first reflexive antisymmetric transitive isOrder isLeast join hasJoins dominates namesPresent isOrdered every select risingFrom countsFrom tab joined recordAt recordsOf wordOf zeroAt stepOf ofKind masksOf methodRecords question1 kindsRise question2 question3 objectValid question6 operandsFit unusedBytes stepValid scriptValid scriptsValid rootValid firstNo verdictOf methodOf sessionW programOf seenBy fateOf sum isNilOr0 withRegister popped settled concluded started written called forked sent operated stepped inserted modify lastOr childOf endBefore arrived after newest newestTo viewOf readAt advanced begun moved delivered moveAt stepAt readIn question14 question15 stepRefusal runFrom runOf lowest plainFrom plainOrder current close effected finish runFork depthFirst objectRecord historyRecord replyRecord objectsShown historiesShown replyShown bytesOf ordersShown entryRefusal cleared answerOf timetabled plain deep emptied blanked stays
+unfolding computing
 computed =
     record {
       bytesW = refl;

@@ -2,7 +2,7 @@
 -- proofs are in proofs/Calls.antt. Assumes nothing.
 use Prim.Native.Nat.{ℕ}
 use mathlib.Core.Path.{_≡_}
-use mathlib.Core.List.{List}
+use mathlib.Core.List.{List, []}
 use lib.ListN.{take}
 use Rattle.session.specs.Emptied.{emptied}
 use Rattle.model.specs.Entries.{Request, Answer, timetabled, plain, deep, Answers}
@@ -29,6 +29,31 @@ DeepCalled = Called deep
 pub data RunCalled (s : List ℕ) (c : ℕ) (bytes : List ℕ) : Type 0 where
   by-timetable : (ls : List ℕ) → Called (λ q order. timetabled q order ls) s c bytes → RunCalled s c bytes
   plainly : Called plain s c bytes → RunCalled s c bytes
+
+-- What the contracts of the entries promise of a call that answered 0 is what the demands below speak of: the number, place and count that
+-- the entry returned, and what the work slice and the result buffer held afterwards. Of the timetabled entry
+abbrev pub TimetabledContract : Type 0
+TimetabledContract =
+    (s ls : List ℕ) (c : ℕ) (work buffer work' buffer' : List ℕ) (number place count : ℕ)
+    → Answers (record { session = s; clearance = c; work = work; buffer = buffer }) (λ order. timetabled (record { session = s; clearance = c; work = work; buffer = buffer }) order ls) number place count work' buffer'
+    → number ≡ 0
+    → RunCalled s c (take count buffer')
+
+-- of the plain one, for any clearance, and so for that of the root's level
+abbrev pub PlainContract : Type 0
+PlainContract =
+    (s : List ℕ) (c : ℕ) (work buffer work' buffer' : List ℕ) (number place count : ℕ)
+    → Answers (record { session = s; clearance = c; work = work; buffer = buffer }) (plain (record { session = s; clearance = c; work = work; buffer = buffer })) number place count work' buffer'
+    → number ≡ 0
+    → RunCalled s c (take count buffer')
+
+-- of the depth-first one, which is lent no work slice
+abbrev pub DeepContract : Type 0
+DeepContract =
+    (s : List ℕ) (c : ℕ) (buffer buffer' : List ℕ) (number place count : ℕ)
+    → Answers (record { session = s; clearance = c; work = []; buffer = buffer }) (deep (record { session = s; clearance = c; work = []; buffer = buffer })) number place count [] buffer'
+    → number ≡ 0
+    → DeepCalled s c (take count buffer')
 
 -- Demand 2: the run and the depth-first run of one session, for one reader
 abbrev pub Demand2Calls : Type 0

@@ -1,16 +1,18 @@
 -- What the client demands of runs, as statements. Their proofs are in proofs/Demands.antt. Assumes nothing.
-use Prim.Native.Nat.{ℕ, _<_}
+use Prim.Native.Nat.{ℕ, _≤_, _<_}
 use mathlib.Core.Path.{_≡_}
 use mathlib.Core.Bool.{true}
 use mathlib.Core.List.{List}
+use lib.ListN.{length}
 use Rattle.session.specs.Parts.{levelCount}
 use Rattle.session.specs.Questions.{verdictOf}
 use Rattle.session.specs.Meaning.{rootOf}
 use Rattle.session.specs.Program.{programOf}
 use Rattle.session.specs.Emptied.{emptied}
 use Rattle.session.specs.declared.Verdict.the-variants.{Accepted}
-use Rattle.model.specs.Step.{State}
-use Rattle.model.specs.Schedule.{readIn, finished, runOf}
+use Rattle.model.specs.Limits.{resultBytes}
+use Rattle.model.specs.Step.{State, levelAt, moved, moveAt}
+use Rattle.model.specs.Schedule.{readIn, finished, runOf, Leads}
 use Rattle.model.specs.Result.{ordersShown}
 use Rattle.model.specs.Entries.{Request, Answer, question10, entryRefusal, timetabled, plain, deep}
 use Rattle.model.specs.Reader.{Finished, bytesWritten, EqualToReader}
@@ -53,6 +55,15 @@ Demand2Plain =
     → Finished (plain q order)
     → Finished (deep q order) × (bytesWritten (plain q order) ≡ bytesWritten (deep q order))
 
+-- A step is made from what its level sees alone (`moveAt`). On every state that a run reaches it is the step made from the whole state and
+-- the whole program: nothing that a manager looks at is hidden from its level
+abbrev pub StepFromView : Type 0
+StepFromView =
+    (s : List ℕ) → IsAccepted s
+    → (ls : List ℕ) (st : State) → Leads (programOf s) (readIn (programOf s) (rootOf s)) ls st
+    → (l : ℕ) → l < levelCount s
+    → moveAt (programOf s) l st ≡ moved (programOf s) st l (levelAt st l) (levelAt st l .activity)
+
 -- Strike from a list that finishes every level that c does not dominate: what is left runs in the session emptied for c, step by step, with
 -- the same states at the levels that c dominates
 abbrev pub Isolation : Type 0
@@ -84,9 +95,19 @@ pub record DepthFirstRun (s : List ℕ) (c : ℕ) (a : Answer) : Type 0 where
   pub answer : a ≡ deep request order
   pub finished : Finished a
 
+-- The depth-first run of an emptied session is there for every accepted session and each of its levels, with any buffer that question 11 lets
+-- pass, any work slice and any order of the level groups
+abbrev pub EmptiedRuns : Type 0
+EmptiedRuns =
+    (s : List ℕ) → IsAccepted s
+    → (c : ℕ) → c < levelCount s
+    → (q : Request) → q .session ≡ emptied c s → q .clearance ≡ c → resultBytes ≤ length (q .buffer)
+    → (order : List ℕ) → ordersShown (programOf (emptied c s)) c order ≡ true
+    → DepthFirstRun (emptied c s) c (deep q order)
+
 -- Demand 3: any two accepted sessions, any two whole lists of scheduler steps that finish: the two runs are equal to a reader exactly when
 -- the depth-first runs of the two sessions emptied for that reader are. A finished run's session is accepted and has the level c. By
--- `EmptiedAccepted` and `DeepFinishes` the two depth-first runs are there for every such pair
+-- `EmptiedRuns` the two depth-first runs are there for every such pair
 abbrev pub Demand3 : Type 0
 Demand3 =
     (c : ℕ) (s s' : List ℕ) (a a' d d' : Answer)

@@ -11,5 +11,6 @@ pub mod Result
 pub mod Entries
 pub mod Reader
 pub mod Isolation
+pub mod Faults
 pub mod Demands
 pub mod Calls

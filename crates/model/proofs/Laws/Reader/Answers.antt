@@ -98,7 +98,7 @@ module _ (q : Request) (order ls : List ℕ) where
   outcome = runOf (programOf (q .session)) (rootOf (q .session)) ls
 
   -- its answer, where questions 1 to 11 say yes
-  timetabled-is : entryRefusal (question10 q) q ≡ 0 → timetabled q order ls ≡ answerOf q order outcome
+  pub timetabled-is : entryRefusal (question10 q) q ≡ 0 → timetabled q order ls ≡ answerOf q order outcome
   unfolding timetabled
   timetabled-is e = rw (eq-eqb (entryRefusal (question10 q) q) 0 e) refl
 
