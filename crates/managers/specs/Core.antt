@@ -1,12 +1,12 @@
 -- The code's manager, as the definitions have it. No meaning rests on these. Assumes nothing.
-use Prim.Native.Nat.{ℕ, zero, suc, _+_, _-_, _^_, _≤_, _<_}
+use Prim.Native.Nat.{ℕ, zero, suc, _+_, _-_, _≤_, _<_}
 use mathlib.Core.Path.{_≡_}
 use mathlib.Core.Bool.{Bool, true, false}
 use mathlib.Core.List.{List, [], _∷_}
 use Rattle.session.specs.Limits.{fields}
 use Rattle.session.specs.Parts.{levelCount, objectCount}
 use Rattle.session.specs.Program.{Program}
-use Rattle.scripts.specs.Limits.{maxFrames, maxScriptSteps, maxWrites, maxForks}
+use Rattle.scripts.specs.Limits.{maxFrames, maxScriptSteps, maxWrites, maxForks, writeStamps}
 use Rattle.scripts.specs.Ending.{isRunning}
 use Rattle.scripts.specs.Effect as effect
 use Rattle.scripts.specs.State as defined
@@ -141,7 +141,7 @@ pub record Sits (s : List ℕ) (c : Core) : Type 0 where
   pub wrote : c .writes ≤ maxWrites
   pub forked : c .forks ≤ maxForks
   -- "a made fork carries it too, then it grows by 1": the write stamp, and the next manager's one above it, fit 16 bits
-  pub fits : c .first + maxForks + 1 < 2 ^ 16
+  pub fits : c .first + maxForks + 1 < writeStamps
   pub top : Placed s (c .top)
   pub over : isOver (c .effect) ≡ true → isRunning (c .ending) ≡ false
   pub runs : isOver (c .effect) ≡ false → isRunning (c .ending) ≡ true
