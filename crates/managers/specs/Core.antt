@@ -2,14 +2,14 @@
 -- In the loop of `advance` a core stands above the frames that wait. Its effect may leave a frame to make or to pop, and pops of frames at
 -- their script's end are made late. So the definitions' manager is not the one that stands there but what it comes to (`comesTo`). A frame
 -- made, a pop, and a script's end that is met leave that as it was; an operation makes `stepped` of it (`proofs/Laws/Turns`).
-use Prim.Native.Nat.{ℕ, zero, suc, _+_, _-_, _^_, _≤_, _<_}
+use Prim.Native.Nat.{ℕ, zero, suc, _+_, _-_, _≤_, _<_}
 use mathlib.Core.Path.{_≡_}
 use mathlib.Core.Bool.{Bool, true, false}
 use mathlib.Core.List.{List, [], _∷_}
 use Rattle.session.specs.Limits.{fields}
 use Rattle.session.specs.Parts.{levelCount, objectCount}
 use Rattle.session.specs.Program.{Program}
-use Rattle.scripts.specs.Limits.{maxFrames, maxScriptSteps, maxWrites, maxForks}
+use Rattle.scripts.specs.Limits.{maxFrames, maxScriptSteps, maxWrites, maxForks, writeStamps}
 use Rattle.scripts.specs.Ending.{isRunning}
 use Rattle.scripts.specs.Effect as effect
 use Rattle.scripts.specs.State as defined
@@ -144,7 +144,7 @@ pub record Sits (s : List ℕ) (c : Core) : Type 0 where
   pub wrote : c .writes ≤ maxWrites
   pub forked : c .forks ≤ maxForks
   -- "a made fork carries it too, then it grows by 1": the write stamp, and the next manager's one above it, fit 16 bits
-  pub fits : c .first + maxForks + 1 < 2 ^ 16
+  pub fits : c .first + maxForks + 1 < writeStamps
   pub top : Placed s (c .top)
   pub over : isOver (c .effect) ≡ true → isRunning (c .ending) ≡ false
   pub runs : isOver (c .effect) ≡ false → isRunning (c .ending) ≡ true

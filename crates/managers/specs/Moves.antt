@@ -16,14 +16,14 @@ use Rattle.scripts.specs.Limits.{maxScriptSteps, maxWrites}
 use Rattle.scripts.specs.Ending.{isRunning}
 use Rattle.scripts.specs.Effect as effect
 use Rattle.scripts.specs.State as defined
-use Rattle.scripts.specs.Frame.{frameFor, withRegister, atStep}
+use Rattle.scripts.specs.Frame.{withRegister, atStep}
 use Rattle.scripts.specs.Manager.{withTop, withCounts, top, isEnd, nextStep, operated, counted, stepped}
 use Rattle.scripts.specs.Valid.{Leveled}
 use Rattle.scripts.specs.declared.Ending.{Ending}
 use Rattle.scripts.specs.declared.Ending.the-variants.{Finished, OutOfSteps, OutOfWrites}
 use Rattle.words.specs.Limits.{fieldWords}
 use Rattle.words.specs.Reads.{isOpen, Sees}
-use Rattle.managers.specs.Frames.{intoOf, returnsOf, frameOf, asideOf, Becomes, Placed}
+use Rattle.managers.specs.Frames.{intoOf, returnsOf, frameOf, asideOf, waitingFor, topFrom, Becomes, Placed}
 use Rattle.managers.specs.Core.{standing, comesTo, isOver, isAsking, Present, Sits}
 use Rattle.managers.specs.declared.Core.{Core}
 use Rattle.managers.specs.declared.frames.Frame.{Frame}
@@ -218,13 +218,14 @@ restacked c h f =
 -- a frame was made above the top
 pub record Pushed (s : List ℕ) (c : Core) (object name answer : ℕ) (parameter : Value) (r : Core) : Type 0 where
   pub core-is : r ≡ restacked c (c .height + 1) (r .top)
-  pub top-is : frameOf (r .top) ≡ frameFor object name (intoOf answer) (returnsOf answer) parameter
+  pub top-is : r .top ≡ topFrom (waitingFor object name answer parameter) (r .top .start) (r .top .count)
   pub top-placed : Placed s (r .top)
 
 -- the top has popped with a reply to the frame that waited below it
 pub record Popped (s : List ℕ) (c : Core) (below : Waiting) (v : Value) (r : Core) : Type 0 where
   pub core-is : r ≡ restacked c (c .height - 1) (r .top)
   pub top-is : frameOf (r .top) ≡ withRegister (asideOf below) (intoOf (c .top .answer)) (cond (returnsOf (c .top .answer)) v Nil)
+  pub answer-is : r .top .answer ≡ below .answer
   pub top-placed : Placed s (r .top)
 
 -- the core with another number of frames, ending and reply

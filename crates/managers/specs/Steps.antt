@@ -2,7 +2,7 @@
 -- How a row of steps is proved: the first loop of `advance` carries that the manager at its start leads to what the core comes to
 -- (`proofs/Laws/Advance`: `Turning`); the second, which makes the late pops, leaves that as it is (`Closing`: `Lowering`). At its end what
 -- the core comes to is the manager handed back (`Done`). One script step is the same with a limit of one more (`Leads`: `leads-one`).
-use Prim.Native.Nat.{ℕ, zero, suc, _+_, _^_, _≤_, _<_}
+use Prim.Native.Nat.{ℕ, zero, suc, _+_, _-_, _≤_, _<_}
 use mathlib.Core.Path.{_≡_}
 use mathlib.Core.Bool.{Bool, true, false, not}
 use mathlib.Core.List.{List}
@@ -13,7 +13,7 @@ use Rattle.session.specs.declared.Value.{Value}
 use Rattle.session.specs.declared.Value.the-variants.{Nil}
 use Rattle.session.specs.declared.Step.{Step}
 use Rattle.session.specs.declared.Step.the-variants as op
-use Rattle.scripts.specs.Limits.{maxFrames, maxScriptSteps, maxWrites, maxForks}
+use Rattle.scripts.specs.Limits.{maxFrames, maxScriptSteps, maxWrites, maxForks, writeStamps}
 use Rattle.scripts.specs.Ending.{isRunning}
 use Rattle.scripts.specs.Effect as effect
 use Rattle.scripts.specs.State as defined
@@ -23,7 +23,7 @@ use Rattle.scripts.specs.declared.Ended.{Ended}
 use Rattle.scripts.specs.declared.Ending.the-variants.{Finished}
 use Rattle.words.specs.Limits.{fieldWords}
 use Rattle.words.specs.Reads.{isOpen, Sees}
-use Rattle.managers.specs.Frames.{frameOf, asideOf, noWaiting, Placed, Waits}
+use Rattle.managers.specs.Frames.{frameOf, asideOf, noWaiting, topFrom, Placed, Waits}
 use Rattle.managers.specs.Core.{managerOf, steppedOf, isNothing, isAsking, isDone, Present}
 use Rattle.managers.specs.Moves.{Asks}
 use Rattle.managers.specs.declared.Core.{Core}
@@ -44,7 +44,7 @@ pub data Leads (p : Program) (read : ℕ → ℕ → Value) (m : defined.Manager
 
 -- how many frames can wait
 abbrev pub waitingFrames : ℕ
-waitingFrames = 7
+waitingFrames = maxFrames - 1
 
 -- what stands where no manager has started
 abbrev pub noManager : Manager
@@ -59,18 +59,7 @@ noManager =
         height = 0;
         ending = Finished;
         reply = Nil;
-        top = record {
-          object = 0;
-          name = 0;
-          next = 0;
-          start = 0;
-          count = 0;
-          answer = 0;
-          r0 = Nil;
-          r1 = Nil;
-          r2 = Nil;
-          r3 = Nil;
-        };
+        top = topFrom noWaiting 0 0;
         effect = Nothing;
       };
       waiting = replicate waitingFrames noWaiting;
@@ -83,7 +72,7 @@ pub record Held (s : List ℕ) (m : Manager) : Type 0 where
   pub made : m .core .steps ≤ maxScriptSteps
   pub wrote : m .core .writes ≤ maxWrites
   pub forked : m .core .forks ≤ maxForks
-  pub fits : m .core .first + maxForks + 1 < 2 ^ 16
+  pub fits : m .core .first + maxForks + 1 < writeStamps
   pub top : Placed s (m .core .top)
   pub room : length (m .waiting) ≡ waitingFrames
   pub each : (k : ℕ) → k + 1 < m .core .height → Waits s (asideOf (getD (m .waiting) k noWaiting))

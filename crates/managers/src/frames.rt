@@ -15,10 +15,10 @@ ghost use Rattle.session.specs.Program.{programOf};
 ghost use Rattle.session.specs.Questions.{verdictOf};
 ghost use Rattle.session.specs.declared.Value.the-variants.{Nil};
 ghost use Rattle.session.specs.declared.Verdict.the-variants.{Accepted};
-ghost use Rattle.scripts.specs.Frame.{frameFor, register, withRegister, atStep};
+ghost use Rattle.scripts.specs.Frame.{register, withRegister, atStep};
 ghost use Rattle.scripts.specs.Manager.{nextStep};
 ghost use Rattle.scripts.specs.Valid.{Indexed};
-ghost use Rattle.managers.specs.Frames.{intoOf, returnsOf, frameOf, asideOf, noWaiting, Becomes, Placed, Method, Waits};
+ghost use Rattle.managers.specs.Frames.{intoOf, returnsOf, answerOf, frameOf, asideOf, waitingFor, noWaiting, topFrom, asideFrom, Becomes, Placed, Method, Waits};
 
 // The frame on top: a method that is running.
 pub struct Frame {
@@ -38,6 +38,9 @@ pub struct Frame {
     pub r3: Value,
 }
 
+// What a first frame answers, to its manager: as to register 0, and the reply itself.
+pub const FIRST_ANSWER: u8 = REGISTERS;
+
 // A frame that waits for the reply of the one above it.
 pub struct Waiting {
     pub object: u8,
@@ -53,7 +56,7 @@ pub struct Waiting {
 // The byte that says that a reply goes to register `into`, or is thrown away.
 pub fn answer_of(into: u8, returns: bool) -> u8
     requires { ⌜ into < registers ⌝ }
-    ensures { λ r. ⌜ (intoOf r ≡ into) × (returnsOf r ≡ returns) ⌝ }
+    ensures { λ r. ⌜ r ≡ answerOf into returns ⌝ }
 {
     if returns { into + REGISTERS } else { into }
 }
@@ -81,7 +84,7 @@ impl Frame {
         parameter: Value,
     ) -> Frame
         requires { ⌜ Indexed (now session) (now index) × Method object name (now session) ⌝ }
-        ensures { λ r. ⌜ (frameOf r ≡ frameFor object name (intoOf answer) (returnsOf answer) parameter) × Placed (now (session .entry)) r ⌝ }
+        ensures { λ r. ⌜ (r ≡ topFrom (waitingFor object name answer parameter) (r .start) (r .count)) × Placed (now (session .entry)) r ⌝ }
     {
         let method = contents::method_of(session, index, object as usize, name as usize);
         Frame {
@@ -178,7 +181,7 @@ pub fn no_frame() -> Waiting
 pub fn set_aside(session: &[u8], f: Frame) -> Waiting
     requires { ⌜ verdictOf (now session) ≡ Accepted ⌝ }
     requires { ⌜ Placed (now session) f ⌝ }
-    ensures { λ r. ⌜ (asideOf r ≡ frameOf f) × Waits (now (session .entry)) (asideOf r) ⌝ }
+    ensures { λ r. ⌜ (r ≡ asideFrom f) × Waits (now (session .entry)) (asideOf r) ⌝ }
 {
     let r0 = f.r0;
     let r1 = f.r1;
@@ -199,7 +202,7 @@ pub fn set_aside(session: &[u8], f: Frame) -> Waiting
 // A frame that waited, as the one on top.
 pub fn woken(session: &[u8], index: &[u16], w: Waiting) -> Frame
     requires { ⌜ Indexed (now session) (now index) × Waits (now session) (asideOf w) ⌝ }
-    ensures { λ r. ⌜ (frameOf r ≡ asideOf w) × Placed (now (session .entry)) r ⌝ }
+    ensures { λ r. ⌜ (r ≡ topFrom w (r .start) (r .count)) × Placed (now (session .entry)) r ⌝ }
 {
     let method = contents::method_of(session, index, w.object as usize, w.name as usize);
     let r0 = w.r0;

@@ -5,6 +5,7 @@ mod moves;
 mod operations;
 pub mod values;
 
+use frames::FIRST_ANSWER;
 use frames::Frame;
 use frames::Waiting;
 use scripts::Ended;
@@ -12,13 +13,12 @@ use scripts::Ending;
 use scripts::MAX_FRAMES;
 use session::Message;
 use session::Value;
-use session::limits::REGISTERS;
 ghost use Prim.Native.Nat.{_+_, _≤_, _<_};
 ghost use mathlib.Core.Path.{_≡_};
 ghost use mathlib.Core.Bool.{_&&_};
 ghost use lib.Dec.{ltb};
 ghost use Rattle.session.specs.Program.{programOf};
-ghost use Rattle.scripts.specs.Limits.{maxScriptSteps};
+ghost use Rattle.scripts.specs.Limits.{maxScriptSteps, writeStamps};
 ghost use Rattle.scripts.specs.Manager.{started};
 ghost use Rattle.scripts.specs.Valid.{Indexed, Startable};
 ghost use Rattle.managers.specs.Core.{managerOf, isNothing};
@@ -27,6 +27,12 @@ ghost use Rattle.managers.specs.Steps.{noManager, Held, Advanceable, Adv
 
 // How many frames of a manager wait below its top, at most.
 pub const MAX_WAITING: usize = MAX_FRAMES as usize - 1;
+
+// Where the frame on top stands among those that wait, once it waits, and the one below it: so far before
+// how many frames there are.
+const TOP: usize = 1;
+
+const BELOW_TOP: usize = 2;
 
 // A message manager.
 pub struct Manager {
@@ -116,7 +122,7 @@ impl Core {
 
     // What is kept of it once it has ended, with the stamp of its fork.
     pub fn ended(self, stamp: u32) -> Ended
-        requires { ⌜ self .first + self .forks < 65536 ⌝ }
+        requires { ⌜ self .first + self .forks < writeStamps ⌝ }
         ensures { λ r. ⌜ r ≡ keptOf self stamp ⌝ }
     {
         let ending = self.ending;
@@ -178,7 +184,7 @@ impl Manager {
             index,
             message.object,
             message.name,
-            REGISTERS,
+            FIRST_ANSWER,
             parameter,
         );
         let made = Core {
@@ -231,16 +237,16 @@ impl Manager {
                 parameter,
             } = effect {
                 let f = core.top;
-                let at = core.height as usize - 1;
+                let at = core.height as usize - TOP;
                 waiting[at] = frames::set_aside(session, f);
                 core = core.pushed(session, index, object, name, answer, parameter);
             } else if let Effect::Pop(reply) = effect {
-                let at = core.height as usize - 2;
+                let at = core.height as usize - BELOW_TOP;
                 core = core.popped(session, index, waiting[at], reply);
             }
         }
         while core.pops() {
-            let at = core.height as usize - 2;
+            let at = core.height as usize - BELOW_TOP;
             let effect = core.effect;
             let lower = core.popped(session, index, waiting[at], Value::Nil);
             core = lower.causing(effect);

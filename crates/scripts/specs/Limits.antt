@@ -1,5 +1,5 @@
 -- The numbers that document 01 fixes for managers. Assumes nothing.
-use Prim.Native.Nat.{ℕ}
+use Prim.Native.Nat.{ℕ, _^_}
 
 -- "a stack of at most 8 frames"
 abbrev pub maxFrames : ℕ
@@ -15,3 +15,7 @@ maxWrites = 16
 -- "Child k (1 to 15)"
 abbrev pub maxForks : ℕ
 maxForks = 15
+
+-- how many write stamps there are: a result record has two bytes for one, "8 and 9 first write stamp .., 10 and 11 last"
+abbrev pub writeStamps : ℕ
+writeStamps = 2 ^ 16

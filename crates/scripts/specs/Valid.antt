@@ -1,7 +1,7 @@
 -- Which managers the code is called with: what its own contracts require. No meaning rests on these. Assumes nothing.
 -- Laws: what start and step leave is valid (`proofs/Laws/Valid`: `started-valid`, `stepped-valid`); what a step names, writes and forks
 -- concerns present objects, fields 0 to 2 and names 0 to 15 (`next-fits` and `next-present` of `Accepted`, `stepped-present` of `Valid`).
-use Prim.Native.Nat.{ℕ, _+_, _≤_, _<_, _^_}
+use Prim.Native.Nat.{ℕ, _+_, _≤_, _<_}
 use mathlib.Core.Path.{_≡_}
 use mathlib.Core.Bool.{true}
 use mathlib.Core.List.{List, [], _∷_}
@@ -14,7 +14,7 @@ use Rattle.session.specs.declared.Message.{Message}
 use Rattle.session.specs.declared.Step.{Step}
 use Rattle.session.specs.declared.Step.the-variants.{End, Set, Add, Jump, Read, Write, Send, Quit}
 use Rattle.session.specs.declared.Verdict.the-variants.{Accepted}
-use Rattle.scripts.specs.Limits.{maxFrames, maxScriptSteps, maxWrites, maxForks}
+use Rattle.scripts.specs.Limits.{maxFrames, maxScriptSteps, maxWrites, maxForks, writeStamps}
 use Rattle.scripts.specs.Ending.{isRunning}
 use Rattle.scripts.specs.State.{Frame, Manager}
 
@@ -67,11 +67,11 @@ pub record Valid (s : List ℕ) (m : Manager) : Type 0 where
   pub forked : m .forks ≤ maxForks
   -- "a made fork carries it too, then it grows by 1": the write stamp, and the next manager's one above it, fit 16 bits
   pub stamped : m .stamp ≡ m .first + m .forks
-  pub fits : m .first + maxForks + 1 < 2 ^ 16
+  pub fits : m .first + maxForks + 1 < writeStamps
 
 -- a message to a present object, for a manager at a present level, whose write stamps will fit 16 bits
 pub record Startable (s : List ℕ) (level stamp : ℕ) (message : Message) : Type 0 where
   pub placed : level < levelCount s
   pub present : message .object < objectCount s
   pub named : message .name < names
-  pub fits : stamp + maxForks + 1 < 2 ^ 16
+  pub fits : stamp + maxForks + 1 < writeStamps

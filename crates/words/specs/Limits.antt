@@ -1,7 +1,10 @@
--- How many words keep the fields of a run. Assumes nothing.
+-- How many words keep a value, and the fields of a run. Assumes nothing.
 use Prim.Native.Nat.{ℕ, _*_}
 use Rattle.session.specs.Limits.{maxObjects, fields}
 
--- a field: its tag and its number
+-- a value: its tag and its number
+abbrev pub valueWords : ℕ
+valueWords = 2
+
 abbrev pub fieldWords : ℕ
-fieldWords = 2 * (fields * maxObjects)
+fieldWords = valueWords * (fields * maxObjects)

@@ -1,23 +1,31 @@
 // The fields of a run, and those that a manager has read: two words for each, three fields for each object.
 use crate::values;
+use crate::values::NUMBER_AT;
+use crate::values::UNREAD;
+use crate::values::VALUE_WORDS;
 use session::Value;
 use session::contents;
+use session::limits::FIELDS;
 ghost use mathlib.Core.Path.{_≡_};
-ghost use Rattle.words.specs.Fields.{fieldAt, knownAt, FieldsReady, FieldThere, FieldSet, Remembered, Forgotten, Filled};
-
-// How many fields an object has.
-pub const FIELDS: usize = 3;
-
-// How many words keep a field: its tag and its number.
-pub const WORDS: usize = 2;
+ghost use Rattle.words.specs.Fields.{fieldAt, knownAt, storedIn, FieldsReady, FieldThere, FieldSet, Remembered, Forgotten, Filled};
 
 // What field `k` of an object holds.
 pub fn get(fields: &[u32], object: usize, k: usize) -> Value
     requires { ⌜ FieldThere (now fields) object k ⌝ }
     ensures { λ r. ⌜ r ≡ fieldAt (now (fields .entry)) object k ⌝ }
 {
-    let at = WORDS * (FIELDS * object + k);
-    values::value_of(fields[at], fields[at + 1])
+    let at = VALUE_WORDS * (FIELDS * object + k);
+    values::value_of(fields[at], fields[at + NUMBER_AT])
+}
+
+// The two words of field `k` of an object are replaced.
+fn store(fields: &mut [u32], object: usize, k: usize, tag: u32, number: u32)
+    requires { ⌜ FieldThere (now fields) object k ⌝ }
+    ensures { λ _. ⌜ now (fields .exit) ≡ storedIn (now (fields .entry)) object k tag number ⌝ }
+{
+    let at = VALUE_WORDS * (FIELDS * object + k);
+    fields[at] = tag;
+    fields[at + NUMBER_AT] = number;
 }
 
 // Field `k` of an object gets a value.
@@ -25,9 +33,13 @@ pub fn set(fields: &mut [u32], object: usize, k: usize, value: Value)
     requires { ⌜ FieldThere (now fields) object k ⌝ }
     ensures { λ _. ⌜ FieldSet (now (fields .entry)) (now (fields .exit)) object k value ⌝ }
 {
-    let at = WORDS * (FIELDS * object + k);
-    fields[at] = values::tag_of(value) as u32;
-    fields[at + 1] = values::number_in(value);
+    store(
+        fields,
+        object,
+        k,
+        values::tag_of(value) as u32,
+        values::number_in(value),
+    );
 }
 
 // Whether words that keep what was read have field `k` of an object.
@@ -35,17 +47,21 @@ pub fn is_known(fields: &[u32], object: usize, k: usize) -> bool
     requires { ⌜ FieldThere (now fields) object k ⌝ }
     ensures { λ r. ⌜ r ≡ knownAt (now (fields .entry)) object k ⌝ }
 {
-    fields[WORDS * (FIELDS * object + k)] != 0
+    fields[VALUE_WORDS * (FIELDS * object + k)] != UNREAD
 }
 
-// What was read of field `k` of an object is kept. The tag of NIL is 2 here: 0 says that nothing was read.
+// What was read of field `k` of an object is kept.
 pub fn remember(fields: &mut [u32], object: usize, k: usize, value: Value)
     requires { ⌜ FieldThere (now fields) object k ⌝ }
     ensures { λ _. ⌜ Remembered (now (fields .entry)) (now (fields .exit)) object k value ⌝ }
 {
-    let at = WORDS * (FIELDS * object + k);
-    fields[at] = 2 - values::tag_of(value) as u32;
-    fields[at + 1] = values::number_in(value);
+    store(
+        fields,
+        object,
+        k,
+        values::known_tag(value),
+        values::number_in(value),
+    );
 }
 
 // What was read of field `k` of an object is forgotten.
@@ -53,7 +69,7 @@ pub fn forget(fields: &mut [u32], object: usize, k: usize)
     requires { ⌜ FieldThere (now fields) object k ⌝ }
     ensures { λ _. ⌜ Forgotten (now (fields .entry)) (now (fields .exit)) object k ⌝ }
 {
-    fields[WORDS * (FIELDS * object + k)] = 0;
+    fields[VALUE_WORDS * (FIELDS * object + k)] = UNREAD;
 }
 
 // Each object gets its first fields.

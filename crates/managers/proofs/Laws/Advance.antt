@@ -21,7 +21,7 @@ use Rattle.scripts.specs.Effect as effect
 use Rattle.scripts.specs.State as defined
 use Rattle.scripts.specs.Manager.{isEnd, nextStep}
 use Rattle.words.specs.Reads.{shownIn, Sees}
-use Rattle.managers.specs.Frames.{frameOf, asideOf, noWaiting, below, Placed, Waits}
+use Rattle.managers.specs.Frames.{frameOf, asideOf, noWaiting, asideFrom, below, Placed, Waits}
 use Rattle.managers.specs.Core.{bare, standing, stackOf, managerOf, effectOf, settledOf, comesTo, isOver, isAsking, isNothing, isDone, Tall, Present, Sits}
 use Rattle.managers.specs.Moves.{causing, endingAs, restacked, Operable, Asks, Operated, Pushed, Popped}
 use Rattle.managers.specs.Steps.{Leads, quiet, Quietly, waitingFrames, Advanceable, shutBy, isShut}
@@ -348,7 +348,7 @@ module _ (s masks index current seen : List ℕ) (all : Bool) (limit : ℕ) (c�
       turning-less d = rw q (less-done s seen all c r (turning-operable q l .few) (some q) (o .lower) d turned)
 
       -- a frame made above the top
-      module _ (x n i : ℕ) (v : Value) (is : r .effect ≡ Call x n i v) (w : Waiting) (aside : (asideOf w ≡ frameOf (r .top)) × Waits s (asideOf w)) (r' : Core) (h : Pushed s r x n i v r') where
+      module _ (x n i : ℕ) (v : Value) (is : r .effect ≡ Call x n i v) (w : Waiting) (aside : (w ≡ asideFrom (r .top)) × Waits s (asideOf w)) (r' : Core) (h : Pushed s r x n i v r') where
         still : r .height ≡ c .height
         still = o .tall (rw is refl)
 
@@ -366,7 +366,7 @@ module _ (s masks index current seen : List ℕ) (all : Bool) (limit : ℕ) (c�
             let frames : below (set ws (r .height - 1) w) (r' .height - 1) ≡ frameOf (r .top) ∷ gs =
             ap (λ k. below (set ws (r .height - 1) w) (k - 1)) height
             ∙ below-pushed ws (r .height) w (omega (arith, has, still)) (omega (arith, room-here, t .room))
-            ∙ ap (λ f. f ∷ gs) (aside .0) in
+            ∙ ap (λ x. asideOf x ∷ gs) (aside .0) in
             let same : comesTo p r' (below (set ws (r .height - 1) w) (r' .height - 1)) ≡ comesTo p r gs =
             ap (comesTo p r') frames ∙ push-comes s r r' x n i v gs is h in
             record {

@@ -4,7 +4,7 @@ use mathlib.Core.Path.{_≡_, refl, sym, _∙_, ap, ap₂}
 use mathlib.Core.Bool.{Bool, true, false, cond, _&&_}
 use mathlib.Core.List.{List, [], _∷_}
 use native.Mathlib.Omega.{arith}
-use borrow.Author.Tests.{lt-ltb, ltb-true, ltb-false, leb-true, leb-false}
+use borrow.Author.Tests.{lt-leb, ltb-true, ltb-false, leb-true, leb-false}
 use lib.Dec.{ltb, leb}
 use lib.ListN.{length, getD}
 use Rattle.lattice.proofs.Laws.Range.{not-both, and-left, and-right}
@@ -19,6 +19,7 @@ use Rattle.scripts.specs.State as defined
 use Rattle.scripts.specs.Frame.{withRegister}
 use Rattle.scripts.specs.Manager.{isEnd, nextStep, concluded}
 use Rattle.scripts.specs.Valid.{Indexed}
+use Rattle.scripts.specs.declared.Ending.{Ending}
 use Rattle.scripts.specs.declared.Ending.the-variants.{Finished, OutOfSteps}
 use Rattle.scripts.proofs.Laws.Settle.{concluded-pop, concluded-last, concluded-out}
 use Rattle.managers.specs.Frames.{intoOf, returnsOf, frameOf, asideOf, noWaiting, below, Waits}
@@ -30,7 +31,7 @@ use Rattle.managers.specs.declared.Manager.{Manager}
 use Rattle.managers.specs.declared.frames.Waiting.{Waiting}
 use Rattle.managers.specs.declared.Effect.{Effect}
 use Rattle.managers.specs.declared.Effect.the-variants.{Nothing, End, Write, Read, Fork, Call, Pop}
-use Rattle.managers.proofs.Laws.Frames.{at-end, not-end, goes-there}
+use Rattle.managers.proofs.Laws.Frames.{at-end, not-end, goes-there, closed-over as over-closed, closed-last, closed-goes, closed-out}
 use Rattle.managers.proofs.Laws.Turns.{below-popped, no-pops}
 use Rattle.managers.proofs.Laws.Advance.{Turning, stack-some}
 
@@ -134,6 +135,13 @@ module _ (s index : List ℕ) (ws : List Waiting) (c₀ c : Core) (t : Lowering 
   abbrev p : Program
   p = programOf s
 
+  -- a core that runs has not been ended, and has a frame
+  not-over : isRunning (c .ending) ≡ true → isOver (c .effect) ≡ false
+  not-over r = elim (truth (isOver (c .effect))) [
+    | holds o ↦ absurd (not-both (isRunning (c .ending)) r (t .sits .over o))
+    | fails o ↦ o
+  ]
+
   -- one more pop
   module _ (q : (isRunning (c .ending) && (leb (c .top .count) (c .top .next) && ltb 1 (c .height))) ≡ true) where
     run : isRunning (c .ending) ≡ true
@@ -151,12 +159,6 @@ module _ (s index : List ℕ) (ws : List Waiting) (c₀ c : Core) (t : Lowering 
     pub lowering-waits : Waits s (asideOf (getD ws (c .height - 2) noWaiting))
     lowering-waits = t .each (c .height - 2) (let two = lowering-two in omega arith)
 
-    not-over : isOver (c .effect) ≡ false
-    not-over = elim (truth (isOver (c .effect))) [
-      | holds o ↦ absurd (not-both (isRunning (c .ending)) run (t .sits .over o))
-      | fails o ↦ o
-    ]
-
     not-asking : isAsking (c .effect) ≡ false
     not-asking = elim (truth (isAsking (c .effect))) [
       | holds a ↦ absurd (omega (arith, t .goes a .0, leb-true (c .top .count) (c .top .next) there))
@@ -169,7 +171,7 @@ module _ (s index : List ℕ) (ws : List Waiting) (c₀ c : Core) (t : Lowering 
         let e : r' ≡ causing (restacked c (c .height - 1) (r .top)) (c .effect) = is ∙ ap (λ z. causing z (c .effect)) (h .core-is) in
         let height : r' .height ≡ c .height - 1 = ap (λ z. z .height) e in
         let effect' : r' .effect ≡ c .effect = ap (λ z. z .effect) e in
-        let over' : isOver (r' .effect) ≡ false = ap isOver effect' ∙ not-over in
+        let over' : isOver (r' .effect) ≡ false = ap isOver effect' ∙ not-over run in
         let asking' : isAsking (r' .effect) ≡ false = ap isAsking effect' ∙ not-asking in
         let done' : isDone (r' .effect) ≡ true = ap isDone effect' ∙ t .done in
         let gs = below ws (c .height - 1 - 1) in
@@ -177,7 +179,7 @@ module _ (s index : List ℕ) (ws : List Waiting) (c₀ c : Core) (t : Lowering 
           indexed = t .indexed;
           same = ap (λ k. comesTo p r' (below ws (k - 1))) height
               ∙ ap (λ z. comesTo p z gs) is
-              ∙ late-comes s c r (getD ws (c .height - 2) noWaiting) gs (at-end s (t .indexed .accepted) (c .top) (t .sits .top) there) (t .done) not-over not-asking h
+              ∙ late-comes s c r (getD ws (c .height - 2) noWaiting) gs (at-end s (t .indexed .accepted) (c .top) (t .sits .top) there) (t .done) (not-over run) not-asking h
               ∙ ap (comesTo p c) (sym (below-popped ws (c .height) two))
               ∙ t .same;
           sits = record {
@@ -222,30 +224,25 @@ module _ (s index : List ℕ) (ws : List Waiting) (c₀ c : Core) (t : Lowering 
       runs-on : isRunning (c .ending) ≡ true → c .top .next < c .top .count → c .steps < maxScriptSteps → closedAs c ≡ c → Close
       spent : isRunning (c .ending) ≡ true → c .top .next < c .top .count → maxScriptSteps ≤ c .steps → closedAs c ≡ stoodAs c (c .height) OutOfSteps (c .reply) → Close
 
-    over-or : isRunning (c .ending) ≡ true → 0 < c .height
-    over-or r = elim (truth (isOver (c .effect))) [
-      | holds o ↦ absurd (not-both (isRunning (c .ending)) r (t .sits .over o))
-      | fails o ↦ t .sits .some o
-    ]
+    has-frame : isRunning (c .ending) ≡ true → 0 < c .height
+    has-frame r = t .sits .some (not-over r)
 
     pub close : Close
     close = elim (truth (isRunning (c .ending))) [
-      | fails r ↦ was-over r (rw r refl)
+      | fails r ↦ was-over r (over-closed c r)
       | holds r ↦ elim (truth (leb (c .top .count) (c .top .next))) [
         | holds h ↦
             let low : ltb 1 (c .height) ≡ false = rw (r, h) at q in
-            finishes r (omega (arith, ltb-false 1 (c .height) low, over-or r)) (at-end s (t .indexed .accepted) (c .top) (t .sits .top) h) (rw (r, h) refl)
+            finishes r (omega (arith, ltb-false 1 (c .height) low, has-frame r)) (at-end s (t .indexed .accepted) (c .top) (t .sits .top) h) (closed-last c r h)
         | fails h ↦ elim (truth (ltb (c .steps) maxScriptSteps)) [
-          | holds k ↦ runs-on r (leb-false (c .top .count) (c .top .next) h) (ltb-true (c .steps) maxScriptSteps k) (rw (r, h, k) refl)
-          | fails k ↦ spent r (leb-false (c .top .count) (c .top .next) h) (ltb-false (c .steps) maxScriptSteps k) (rw (r, h, k) refl)
+          | holds k ↦
+              let few = ltb-true (c .steps) maxScriptSteps k in
+              runs-on r (leb-false (c .top .count) (c .top .next) h) few (closed-goes c r h few)
+          | fails k ↦
+              let most = ltb-false (c .steps) maxScriptSteps k in
+              spent r (leb-false (c .top .count) (c .top .next) h) most (closed-out c r h most)
         ]
       ]
-    ]
-
-    running-over : isRunning (c .ending) ≡ true → isOver (c .effect) ≡ false
-    running-over r = elim (truth (isOver (c .effect))) [
-      | holds o ↦ absurd (not-both (isRunning (c .ending)) r (t .sits .over o))
-      | fails o ↦ o
     ]
 
     -- the manager that is put together again is what the core comes to
@@ -262,24 +259,24 @@ module _ (s index : List ℕ) (ws : List Waiting) (c₀ c : Core) (t : Lowering 
       | holds a ↦ absurd (not-both (isEnd (nextStep p (frameOf (c .top)))) h (not-end s (t .indexed .accepted) (c .top) (t .sits .top) (t .goes a .0)))
       | fails a ↦
           ap (λ z. managerOf (put z)) e
-          ∙ sym (plain-settled p c gs (c .effect) (t .done) (running-over r) a ∙ ap (λ n. concluded p (standing c (below ws (n - 1)))) one ∙ concluded-last p (standing c []) (frameOf (c .top)) h)
+          ∙ sym (plain-settled p c gs (c .effect) (t .done) (not-over r) a ∙ ap (λ n. concluded p (standing c (below ws (n - 1)))) one ∙ concluded-last p (standing c []) (frameOf (c .top)) h)
     ]
     settled-is (runs-on r goes few e) = elim (truth (isAsking (c .effect))) [
       | holds a ↦
           ap (λ z. managerOf (put z)) e
-          ∙ ap (bare c) (stack-some (c .height) (frameOf (c .top)) gs (over-or r))
+          ∙ ap (bare c) (stack-some (c .height) (frameOf (c .top)) gs (has-frame r))
           ∙ sym (asking-settled p c gs (c .effect) a)
       | fails a ↦
           ap (λ z. managerOf (put z)) e
-          ∙ ap (bare c) (stack-some (c .height) (frameOf (c .top)) gs (over-or r))
-          ∙ sym (plain-settled p c gs (c .effect) (t .done) (running-over r) a ∙ no-pops p c gs r few (not-end s (t .indexed .accepted) (c .top) (t .sits .top) goes))
+          ∙ ap (bare c) (stack-some (c .height) (frameOf (c .top)) gs (has-frame r))
+          ∙ sym (plain-settled p c gs (c .effect) (t .done) (not-over r) a ∙ no-pops p c gs r few (not-end s (t .indexed .accepted) (c .top) (t .sits .top) goes))
     ]
     settled-is (spent r goes most e) = elim (truth (isAsking (c .effect))) [
       | holds a ↦ absurd (omega (arith, most, t .goes a .1))
       | fails a ↦
           ap (λ z. managerOf (put z)) e
-          ∙ ap (λ fs. bare (stoodAs c (c .height) OutOfSteps (c .reply)) fs) (stack-some (c .height) (frameOf (c .top)) gs (over-or r))
-          ∙ sym (plain-settled p c gs (c .effect) (t .done) (running-over r) a ∙ concluded-out p (standing c gs) (frameOf (c .top)) gs most (not-end s (t .indexed .accepted) (c .top) (t .sits .top) goes))
+          ∙ ap (λ fs. bare (stoodAs c (c .height) OutOfSteps (c .reply)) fs) (stack-some (c .height) (frameOf (c .top)) gs (has-frame r))
+          ∙ sym (plain-settled p c gs (c .effect) (t .done) (not-over r) a ∙ concluded-out p (standing c gs) (frameOf (c .top)) gs most (not-end s (t .indexed .accepted) (c .top) (t .sits .top) goes))
     ]
 
     -- what closing leaves as it was
@@ -295,66 +292,33 @@ module _ (s index : List ℕ) (ws : List Waiting) (c₀ c : Core) (t : Lowering 
       pub runs : isRunning (r .ending) ≡ true → (0 < r .height) × ((r .top .next < r .top .count) × (r .steps < maxScriptSteps))
       pub stays : isRunning (r .ending) ≡ true → r ≡ c
 
+    -- one with another number of frames, ending and reply is left so
+    left-as : (r : Core) (h : ℕ) (e : Ending) (v : Value) → r ≡ stoodAs c h e v → h ≤ c .height
+        → (isRunning e ≡ true → (0 < h) × ((c .top .next < c .top .count) × (c .steps < maxScriptSteps))) → (isRunning e ≡ true → stoodAs c h e v ≡ c) → Left r
+    left-as r h e v x low live same =
+        let ending : isRunning (r .ending) ≡ isRunning e = ap (λ z. isRunning (z .ending)) x in
+        record {
+          level = ap (λ z. z .level) x;
+          first = ap (λ z. z .first) x;
+          steps = ap (λ z. z .steps) x;
+          writes = ap (λ z. z .writes) x;
+          forks = ap (λ z. z .forks) x;
+          top = ap (λ z. z .top) x;
+          effect = ap (λ z. z .effect) x;
+          lower = omega (arith, ap (λ z. z .height) x, low);
+          runs = λ y. rw x (live (sym ending ∙ y));
+          stays = λ y. x ∙ same (sym ending ∙ y);
+        }
+
     left-by : (r : Core) → Close → closedAs c ≡ r → Left r
     left-by r (was-over had e) is =
-        let x = sym is ∙ e in
-        let over : isRunning (r .ending) ≡ false = ap (λ z. isRunning (z .ending)) x ∙ had in
-        record {
-          level = ap (λ z. z .level) x;
-          first = ap (λ z. z .first) x;
-          steps = ap (λ z. z .steps) x;
-          writes = ap (λ z. z .writes) x;
-          forks = ap (λ z. z .forks) x;
-          top = ap (λ z. z .top) x;
-          effect = ap (λ z. z .effect) x;
-          lower = omega (arith, ap (λ z. z .height) x);
-          runs = λ y. absurd (not-both (isRunning (r .ending)) y over);
-          stays = λ _. x;
-        }
+        left-as r (c .height) (c .ending) (c .reply) (sym is ∙ e) (omega arith) (λ y. absurd (not-both (isRunning (c .ending)) y had)) (λ _. refl)
     left-by r (finishes run one h e) is =
-        let x = sym is ∙ e in
-        let over : isRunning (r .ending) ≡ false = ap (λ z. isRunning (z .ending)) x in
-        record {
-          level = ap (λ z. z .level) x;
-          first = ap (λ z. z .first) x;
-          steps = ap (λ z. z .steps) x;
-          writes = ap (λ z. z .writes) x;
-          forks = ap (λ z. z .forks) x;
-          top = ap (λ z. z .top) x;
-          effect = ap (λ z. z .effect) x;
-          lower = omega (arith, ap (λ z. z .height) x);
-          runs = λ y. absurd (not-both (isRunning (r .ending)) y over);
-          stays = λ y. absurd (not-both (isRunning (r .ending)) y over);
-        }
+        left-as r 0 Finished Nil (sym is ∙ e) (omega arith) (λ y. absurd (not-both false y refl)) (λ y. absurd (not-both false y refl))
     left-by r (runs-on run goes few e) is =
-        let x = sym is ∙ e in
-        record {
-          level = ap (λ z. z .level) x;
-          first = ap (λ z. z .first) x;
-          steps = ap (λ z. z .steps) x;
-          writes = ap (λ z. z .writes) x;
-          forks = ap (λ z. z .forks) x;
-          top = ap (λ z. z .top) x;
-          effect = ap (λ z. z .effect) x;
-          lower = omega (arith, ap (λ z. z .height) x);
-          runs = λ _. rw x (over-or run, (goes, few));
-          stays = λ _. x;
-        }
+        left-as r (c .height) (c .ending) (c .reply) (sym is ∙ e) (omega arith) (λ _. (has-frame run, (goes, few))) (λ _. refl)
     left-by r (spent run goes most e) is =
-        let x = sym is ∙ e in
-        let over : isRunning (r .ending) ≡ false = ap (λ z. isRunning (z .ending)) x in
-        record {
-          level = ap (λ z. z .level) x;
-          first = ap (λ z. z .first) x;
-          steps = ap (λ z. z .steps) x;
-          writes = ap (λ z. z .writes) x;
-          forks = ap (λ z. z .forks) x;
-          top = ap (λ z. z .top) x;
-          effect = ap (λ z. z .effect) x;
-          lower = omega (arith, ap (λ z. z .height) x);
-          runs = λ y. absurd (not-both (isRunning (r .ending)) y over);
-          stays = λ y. absurd (not-both (isRunning (r .ending)) y over);
-        }
+        left-as r (c .height) OutOfSteps (c .reply) (sym is ∙ e) (omega arith) (λ y. absurd (not-both false y refl)) (λ y. absurd (not-both false y refl))
 
     module _ (r : Core) (is : r ≡ closedAs c) where
       pub left : Left r
@@ -389,14 +353,8 @@ module _ (s index : List ℕ) (ws : List Waiting) (c₀ c : Core) (t : Lowering 
           let over : isOver (c .effect) ≡ false = let e = asking-is (c .effect) a in rw (e .1 .1) refl in
           let run = t .sits .runs over in
           let g = t .goes a in
-          is ∙ rw (run, le-leb-false (g .0), lt-ltb (c .steps) maxScriptSteps (g .1)) refl
-        where
-          le-leb-false : {a b : ℕ} → b < a → leb a b ≡ false
-          le-leb-false {a} {b} h = elim (truth (leb a b)) [
-            | holds e ↦ absurd (omega (arith, leb-true a b e, h))
-            | fails e ↦ e
-          ]
+          is ∙ closed-goes c run (lt-leb (c .top .count) (c .top .next) (g .0)) (g .1)
 
       -- and one that had ended is as it was
       pub closed-over : isRunning (c .ending) ≡ false → r ≡ c
-      closed-over n = is ∙ rw n refl
+      closed-over n = is ∙ over-closed c n

@@ -1,13 +1,14 @@
 -- Frames: what a set register leaves as it is, where a script's end is, and how a manager stands by it. Assumes nothing.
-use Prim.Native.Nat.{ℕ, zero, suc, _≤_, _<_}
+use Prim.Native.Nat.{ℕ, zero, suc, _+_, _≤_, _<_}
 use mathlib.Core.Path.{_≡_, refl, _∙_, ap}
-use mathlib.Core.Bool.{true, false}
+use mathlib.Core.Bool.{Bool, true, false}
 use mathlib.Core.List.{List}
 use native.Mathlib.Decide.{decLt}
 use native.Mathlib.Omega.{arith}
-use borrow.Author.Tests.{lt-ltb, le-ltb, leb-true}
+use borrow.Author.Tests.{lt-ltb, le-ltb, le-leb, lt-leb, leb-true}
 use lib.Dec.{leb}
 use Rattle.lattice.proofs.Laws.Range.{not-both}
+use Rattle.session.specs.Limits.{registers}
 use Rattle.session.specs.Program.{programOf}
 use Rattle.session.specs.Questions.{verdictOf}
 use Rattle.session.specs.declared.Value.{Value}
@@ -20,46 +21,27 @@ use Rattle.scripts.specs.Frame.{withRegister}
 use Rattle.scripts.specs.Manager.{isEnd, nextStep}
 use Rattle.scripts.specs.declared.Ending.the-variants.{Finished, OutOfSteps}
 use Rattle.scripts.proofs.Laws.Accepted.{inside-not-end, outside-end}
-use Rattle.managers.specs.Frames.{frameOf, Same, Becomes, Placed}
+use Rattle.managers.specs.Frames.{intoOf, returnsOf, answerOf, frameOf, Same, Becomes, Placed}
 use Rattle.managers.specs.Moves.{stoodAs, closedAs}
 use Rattle.managers.specs.declared.Core.{Core}
 use Rattle.managers.specs.declared.frames.Frame.{Frame}
 
--- a frame with a register set runs the same method, at the same step, for the same sender
-pub register-object : (f : defined.Frame) (k : ℕ) (v : Value) → withRegister f k v .object ≡ f .object
-unfolding withRegister
-register-object f zero v = refl
-register-object f (suc zero) v = refl
-register-object f (suc (suc zero)) v = refl
-register-object f (suc (suc (suc k))) v = refl
+-- the byte that says where a reply goes is read back
+pub answer-into : (into : ℕ) (returns : Bool) → into < registers → intoOf (answerOf into returns) ≡ into
+answer-into into true h = omega (arith, h)
+answer-into into false h = omega (arith, h)
 
-pub register-name : (f : defined.Frame) (k : ℕ) (v : Value) → withRegister f k v .name ≡ f .name
-unfolding withRegister
-register-name f zero v = refl
-register-name f (suc zero) v = refl
-register-name f (suc (suc zero)) v = refl
-register-name f (suc (suc (suc k))) v = refl
+pub answer-returns : (into : ℕ) (returns : Bool) → into < registers → returnsOf (answerOf into returns) ≡ returns
+answer-returns into true h = le-leb registers (into + registers) (omega arith)
+answer-returns into false h = lt-leb registers into h
 
+-- a frame with a register set is at the same step
 pub register-next : (f : defined.Frame) (k : ℕ) (v : Value) → withRegister f k v .next ≡ f .next
 unfolding withRegister
 register-next f zero v = refl
 register-next f (suc zero) v = refl
 register-next f (suc (suc zero)) v = refl
 register-next f (suc (suc (suc k))) v = refl
-
-pub register-into : (f : defined.Frame) (k : ℕ) (v : Value) → withRegister f k v .into ≡ f .into
-unfolding withRegister
-register-into f zero v = refl
-register-into f (suc zero) v = refl
-register-into f (suc (suc zero)) v = refl
-register-into f (suc (suc (suc k))) v = refl
-
-pub register-returns : (f : defined.Frame) (k : ℕ) (v : Value) → withRegister f k v .returns ≡ f .returns
-unfolding withRegister
-register-returns f zero v = refl
-register-returns f (suc zero) v = refl
-register-returns f (suc (suc zero)) v = refl
-register-returns f (suc (suc (suc k))) v = refl
 
 -- a frame of the same method, within it, is placed as well
 pub becomes-placed : (s : List ℕ) (f r : Frame) → Same f r → r .next ≤ r .count → Placed s f → Placed s r
@@ -91,12 +73,6 @@ module _ (s : List ℕ) (a : verdictOf s ≡ Accepted) (f : Frame) (p : Placed s
   goes-there e = elim (decLt (f .next) (f .count)) [
     | yes h ↦ h
     | no h ↦ absurd (not-both _ (outside-end s a (frameOf f) (omega (arith, h, p .at .count-is))) e)
-  ]
-
-  pub ends-there : isEnd (nextStep (programOf s) (frameOf f)) ≡ true → f .count ≤ f .next
-  ends-there e = elim (decLt (f .next) (f .count)) [
-    | yes h ↦ absurd (not-both _ e (not-end h))
-    | no h ↦ omega (arith, h)
   ]
 
 -- how a manager stands once no frame above the first is at its script's end: one that has ended, as it was

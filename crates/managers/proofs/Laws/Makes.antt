@@ -8,7 +8,7 @@ use native.Mathlib.Omega.{arith}
 use borrow.Author.Tests.{lt-ltb, le-ltb}
 use lib.ListN.{length}
 use Rattle.lattice.proofs.Laws.Range.{not-both}
-use Rattle.session.specs.Limits.{fields}
+use Rattle.session.specs.Limits.{fields, registers}
 use Rattle.session.specs.Parts.{levelCount, objectCount}
 use Rattle.session.specs.Program.{Program}
 use Rattle.session.specs.declared.Value.{Value}
@@ -23,14 +23,14 @@ use Rattle.scripts.specs.Frame.{frameFor, register, withRegister, atStep}
 use Rattle.scripts.specs.Manager.{withTop, popped, called, forked, concluded}
 use Rattle.scripts.specs.declared.Ending.{Ending}
 use Rattle.scripts.specs.declared.Ending.the-variants.{OutOfWrites, Finished}
-use Rattle.managers.specs.Frames.{intoOf, returnsOf, frameOf, Same, Becomes, Method}
+use Rattle.managers.specs.Frames.{intoOf, returnsOf, answerOf, frameOf, Same, Becomes, Method}
 use Rattle.managers.specs.Core.{bare, standing, stackOf, comesTo, isOver, isAsking, Tall, Present, Sits}
 use Rattle.managers.specs.Moves.{Able, Moves, Makes, passed, pastOf, nextTop, causing, finishedAs, ownWritten, counting}
 use Rattle.managers.specs.declared.Core.{Core}
 use Rattle.managers.specs.declared.frames.Frame.{Frame}
 use Rattle.managers.specs.declared.Effect.{Effect}
 use Rattle.managers.specs.declared.Effect.the-variants.{Nothing, End, Write, Fork, Call, Pop}
-use Rattle.managers.proofs.Laws.Frames.{register-next, becomes-placed}
+use Rattle.managers.proofs.Laws.Frames.{answer-into, answer-returns, register-next, becomes-placed}
 
 -- a step that leaves another top of the same method
 pub moves-to : (c r : Core) (t : Frame) (f : defined.Frame) → r ≡ nextTop c t → Becomes (c .top) t f → t .next ≤ t .count → Moves c r f
@@ -51,6 +51,7 @@ moves-put c r t u k v able e past put =
       name = put .same .name ∙ past .same .name;
       start = put .same .start ∙ past .same .start;
       count = put .same .count ∙ past .same .count;
+      answer = put .same .answer ∙ past .same .answer;
     } in
     moves-to c r u (withRegister (pastOf c) k v) e (record { frame = frame; same = same })
     (omega (arith, able .goes, ap (λ x. x .next) frame, register-next (pastOf c) k v, same .count))
@@ -74,7 +75,7 @@ jumpedTo f b =
 module _ (c r : Core) (a b : ℕ) where
   pub moves-jumped : isNilOr0 (register (frameOf (c .top)) a) ≡ true → b ≤ c .top .count → r ≡ nextTop c (jumpedTo (c .top) b) → Moves c r (cond (isNilOr0 (register (pastOf c) a)) (atStep (pastOf c) b) (pastOf c))
   moves-jumped test near e =
-      let same : Same (c .top) (jumpedTo (c .top) b) = record { object = refl; name = refl; start = refl; count = refl } in
+      let same : Same (c .top) (jumpedTo (c .top) b) = record { object = refl; name = refl; start = refl; count = refl; answer = refl } in
       moves-to c r (jumpedTo (c .top) b) _ e
       (record { frame = ap (λ t. cond t (atStep (pastOf c) b) (pastOf c)) (sym test); same = same }) near
 
@@ -243,9 +244,9 @@ makes-unforked P c r a u message able h m =
     makes-moved P c r (withRegister (pastOf c) a Nil) _ able m (λ gs tall. rw (le-ltb (c .forks) maxForks h))
 
 -- a frame is to be made above the top, which has passed its step
-pub makes-call : (c n r : Core) (o b a : ℕ) (returns : Bool) (answer : ℕ) (v : Value) → Able c → Moves c n (pastOf c) → c .height < maxFrames → v ≡ register (frameOf (c .top)) a → (intoOf answer ≡ a) × (returnsOf answer ≡ returns) → r ≡ causing n (Call o b answer v) → Makes (Method o b) c r (λ m. called m (passed m) a (frameFor o b a returns (register (passed m) a)))
+pub makes-call : (c n r : Core) (o b a : ℕ) (returns : Bool) (answer : ℕ) (v : Value) → Able c → Moves c n (pastOf c) → c .height < maxFrames → v ≡ register (frameOf (c .top)) a → a < registers → answer ≡ answerOf a returns → r ≡ causing n (Call o b answer v) → Makes (Method o b) c r (λ m. called m (passed m) a (frameFor o b a returns (register (passed m) a)))
 unfolding comesTo called
-makes-call c n r o b a returns answer v able m low ev says e =
+makes-call c n r o b a returns answer v able m low ev small says e =
     let f = n .top in
     makes-going (Method o b) c r f (c .writes) (c .forks) (Call o b answer v) _ able
     (e ∙ ap (λ y. causing y (Call o b answer v)) (m .core-is)) (m .top-is .same) (m .near) refl refl
@@ -253,7 +254,7 @@ makes-call c n r o b a returns answer v able m low ev says e =
     (λ s h. h)
     (λ p gs tall.
     ap (λ g. record { manager = concluded p (bare (nextTop c f) (frameFor o b (intoOf answer) (returnsOf answer) v ∷ g ∷ gs)); effect = effect.Nothing }) (m .top-is .frame)
-    ∙ rw (ev, says .0, says .1, lt-ltb (suc (length gs)) maxFrames (omega (arith, tall, low)), able .runs))
+    ∙ rw (ev, says, answer-into a returns small, answer-returns a returns small, lt-ltb (suc (length gs)) maxFrames (omega (arith, tall, low)), able .runs))
 
 -- a manager is forked, and the sender gets NIL
 pub makes-fork : (c n r : Core) (o b a u : ℕ) (v : Value) → Able c → Moves c n (withRegister (pastOf c) a Nil) → c .forks < maxForks → v ≡ register (frameOf (c .top)) a → r ≡ effecting n (n .writes) (n .forks + 1) (Fork u o b v) → Makes (λ s. (u < levelCount s) × Method o b s) c r (λ m. forked m (passed m) a u (record { object = o; name = b; parameter = register (passed m) a }))

@@ -92,7 +92,7 @@ pub push-comes : (s : List ℕ) (c r : Core) (o n a : ℕ) (v : Value) (gs : Lis
 unfolding comesTo
 push-comes s c r o n a v gs q h =
     rw (q, h .core-is)
-    (ap (λ f. record { manager = concluded (programOf s) (bare c (f ∷ frameOf (c .top) ∷ gs)); effect = effect.Nothing }) (h .top-is))
+    (ap (λ f. record { manager = concluded (programOf s) (bare c (f ∷ frameOf (c .top) ∷ gs)); effect = effect.Nothing }) (ap frameOf (h .top-is)))
 
 -- the top popped with its reply
 pub pop-comes : (s : List ℕ) (c r : Core) (w : Waiting) (v : Value) (gs : List defined.Frame) → c .effect ≡ Pop v → Popped s c w v r → comesTo (programOf s) r gs ≡ comesTo (programOf s) c (asideOf w ∷ gs)

@@ -29,7 +29,7 @@ returns-2 c =
     let x = c .before .before in
     let s = x .before .before .before .before .before in
     makes-call (s .args .self) (x .pass .result) (c .causing .result) (s .args .c) (s .args .b) (s .args .a) (s .args .returns) (c .before .answer-of .result) (x .before .register .result)
-    (s .pre .0) (x .pass .ensures) (x .before .before .before .if1 .left) (x .before .register .ensures) (c .before .answer-of .ensures) (c .causing .ensures)
+    (s .pre .0) (x .pass .ensures) (x .before .before .before .if1 .left) (x .before .register .ensures) (s .pre .1) (c .before .answer-of .ensures) (c .causing .ensures)
 
 pub call-spec : {M : Type 1} → statement M
 call-spec =

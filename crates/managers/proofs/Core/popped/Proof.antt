@@ -5,7 +5,7 @@ use Rattle.session.specs.declared.Value.the-variants.{Nil}
 use Rattle.scripts.specs.Frame.{withRegister}
 use Rattle.managers.proofs.Laws.Frames.{register-placed}
 use borrow.Author.Needs.{needs}
-use Rattle.managers.specs.Frames.{intoOf, returnsOf}
+use Rattle.managers.specs.Frames.{intoOf, returnsOf, frameOf}
 use Rattle.managers.proofs.Core.popped.Statement.{statement}
 use Rattle.managers.proofs.Core.popped.Tie as tie
 
@@ -27,7 +27,8 @@ returns c =
     let v = cond (returnsOf (f .answer)) (s .args .reply) Nil in
     record {
       core-is = refl;
-      top-is = a .ensures .frame ∙ ap (λ g. withRegister g (intoOf (f .answer)) v) (w .ensures .0);
+      top-is = a .ensures .frame ∙ ap (λ g. withRegister g (intoOf (f .answer)) v) (ap frameOf (w .ensures .0));
+      answer-is = a .ensures .same .answer ∙ ap (λ g. g .answer) (w .ensures .0);
       top-placed = register-placed (s .args .session .now) (w .result) (a .result) (intoOf (f .answer)) v (a .ensures) (w .ensures .1);
     }
 

@@ -138,7 +138,7 @@ returns : tie.Need-returns
 returns c =
     let s = c .before .before .before .before .before in
     let n = c .before .before .new in
-    starts (s .args .session .now) (s .pre .0 .accepted) (s .args .level) (s .args .stamp) (s .args .message) (s .pre .1) (n .result) (n .ensures .0) (n .ensures .1) _ refl (c .before .closed .result) (c .before .closed .ensures)
+    starts (s .args .session .now) (s .pre .0 .accepted) (s .args .level) (s .args .stamp) (s .args .message) (s .pre .1) (n .result) (ap frameOf (n .ensures .0)) (n .ensures .1) _ refl (c .before .closed .result) (c .before .closed .ensures)
 
 pub start-spec : {M : Type 1} → statement M
 start-spec = tie.close (tie.spec new-requires closed-requires no-frame-requires returns)

@@ -54,7 +54,7 @@ loop-again c =
       omega arith,
       at .inv .1,
       fill-more (g .session .now) (g .fields .now) (at .fields) (c .before .before .set .last .0) (at .i) (c .before .before .before .field-of .result) (at .inv .2)
-          (c .before .before .set .ensures) (c .before .before .before .field-of .ensures),
+          (set-requires (c .before .before .before) (c .before .before .set .lifetimes)) (c .before .before .set .ensures) (c .before .before .before .field-of .ensures),
     )
 
 same-length : tie.Need-same-length Inv-loop μ-loop
