@@ -7,7 +7,7 @@ use mathlib.Core.Path.{_≡_}
 use mathlib.Core.Bool.{cond}
 use mathlib.Core.List.{List}
 use lib.Dec.{ltb}
-use lib.ListN.{length, getD, set}
+use lib.ListN.{length, getD}
 use Rattle.session.specs.Limits.{maxLevels, names, fields}
 use Rattle.session.specs.Parts.{levelCount, objectCount, masksOf}
 use Rattle.session.specs.Questions.{verdictOf}
@@ -28,7 +28,8 @@ use Rattle.model.specs.Lists.{inserted}
 use Rattle.model.specs.Fork as model
 use Rattle.model.specs.DepthFirst.{Progress, tallyAt, fieldNow, effected, runFork}
 use Rattle.records.specs.Limits.{historyWords}
-use Rattle.records.specs.Histories.{historiesAt, InOrder, historyOf, Added}
+use Rattle.records.specs.Histories.{historiesAt, InOrder, historyOf}
+use Rattle.tallies.specs.Places.{nextPlace, tallyNumbers}
 use Rattle.depth_first.specs.declared.forks.Fork.{Fork}
 
 -- an accepted session, its level table and its method index
@@ -43,14 +44,14 @@ pub record Counted (g : Progress) (ended tallies : List ℕ) (l : ℕ) : Type 0 
   pub count : getD tallies l 0 ≡ length (tallyAt g l .ended)
   pub histories : historiesAt ended l (length (tallyAt g l .ended)) ≡ tallyAt g l .ended
   pub rises : InOrder (tallyAt g l .ended)
-  pub next : getD tallies (maxLevels + l) 0 ≡ tallyAt g l .next
+  pub next : getD tallies (nextPlace l) 0 ≡ tallyAt g l .next
   pub pace : tallyAt g l .next ≤ 1 + (maxForks + 1) * length (tallyAt g l .ended)
 
 -- the words of a run of session s say g
 pub record Kept (s : List ℕ) (g : Progress) (current ended tallies : List ℕ) : Type 0 where
   pub fields-there : fieldWords ≤ length current
   pub histories-there : historyWords ≤ length ended
-  pub tallies-there : 2 * maxLevels ≤ length tallies
+  pub tallies-there : tallyNumbers ≤ length tallies
   pub counts-few : (l : ℕ) → l < maxLevels → getD tallies l 0 ≤ maxManagers
   pub levels : length (g .levels) ≡ levelCount s
   pub field : (o k : ℕ) → o < objectCount s → k < fields → fieldAt current o k ≡ fieldNow (programOf s) g o k
@@ -73,15 +74,6 @@ pub record Same (f : Fork) (x : model.Fork) : Type 0 where
   pub stamp : x .stamp ≡ f .stamp
   pub depth : x .depth ≡ f .depth
   pub message : x .message ≡ f .message
-
--- the counts once a manager of level l has ended: so many have, and the next write stamp is this one
-abbrev pub tallied : ℕ → ℕ → ℕ → List ℕ → List ℕ
-tallied l count next t = set (set t l count) (maxLevels + l) next
-
--- the history of a manager that has ended is kept at its level, and the manager is counted there
-pub record Closed (l : ℕ) (h : Ended) (ended ended' tallies tallies' : List ℕ) : Type 0 where
-  pub added : Added ended ended' l (getD tallies l 0) h
-  pub counted : tallies' ≡ tallied l (getD tallies l 0 + 1) (h .last + 1) tallies
 
 -- a run's words: its fields, its histories, its counts
 pub record Words : Type 0 where

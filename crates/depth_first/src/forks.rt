@@ -1,21 +1,20 @@
 // The run of a fork: a script step calls fork, fork runs a manager, a manager makes script steps. With
 // each manager the levels left above fall.
 //
-// What a run keeps is lent: `current` holds the fields and `ended` the histories, as in `words` and
-// `records`; of level l number l of `tallies` is how many of its managers have ended, and number 8 + l the
-// write stamp of its next one.
+// What a run keeps is lent: `current` holds the fields, as in `words`; `ended` the histories, as in `records`;
+// `tallies` how many managers of each level have ended and the write stamp of its next one, as in the crate
+// of that name.
 use managers::Effect;
 use managers::Manager;
-use records::histories;
+use model::MAX_MANAGERS;
 use scripts::Ended;
 use session::Message;
+use tallies::NEXT;
 use words::fields;
-ghost use Prim.Native.Nat.{_*_, _≤_, _<_};
-ghost use lib.ListN.{length, getD};
-ghost use Rattle.session.specs.Limits.{maxLevels};
+ghost use Prim.Native.Nat.{_<_};
+ghost use lib.ListN.{getD};
 ghost use Rattle.model.specs.Limits.{maxManagers};
-ghost use Rattle.records.specs.Histories.{HistoryRoom};
-ghost use Rattle.depth_first.specs.Kept.{Read, Keeps, Runnable, Closed, Performable, Performed, ForkDone, RunDone};
+ghost use Rattle.depth_first.specs.Kept.{Read, Keeps, Runnable, Performable, Performed, ForkDone, RunDone};
 
 // A fork that is about to run, or runs: its level, its fork stamp, how many forks deep it is, and its
 // message.
@@ -24,18 +23,6 @@ pub struct Fork {
     pub stamp: u32,
     pub depth: u8,
     pub message: Message,
-}
-
-// Keeps the history of a manager that has ended, and counts the manager at its level.
-fn close(ended: &mut [u32], tallies: &mut [usize], level: usize, history: Ended)
-    requires { ⌜ HistoryRoom (now ended) level (getD (now tallies) level 0) history ⌝ }
-    requires { ⌜ 2 * maxLevels ≤ length (now tallies) ⌝ }
-    ensures { λ _. ⌜ Closed level history (now (ended .entry)) (now (ended .exit)) (now (tallies .entry)) (now (tallies .exit)) ⌝ }
-{
-    let count = tallies[level];
-    histories::add(ended, level, count, history);
-    tallies[level] = count + 1;
-    tallies[8 + level] = history.last as usize + 1;
 }
 
 // Does what a script step did outside its manager, with the whole run of the fork that it may have made.
@@ -105,7 +92,7 @@ fn run_kept(
     requires { ⌜ Runnable (now session) left fork ⌝ }
     ensures { λ _. ⌜ ForkDone (now (session .entry)) left fork (record { current = now (current .entry); ended = now (ended .entry); tallies = now (tallies .entry) }) (record { current = now (current .exit); ended = now (ended .exit); tallies = now (tallies .exit) }) ⌝ }
 {
-    if tallies[fork.level as usize] < 32 {
+    if tallies[fork.level as usize] < MAX_MANAGERS {
         run_manager(session, masks, index, current, ended, tallies, left, fork);
     }
 }
@@ -129,7 +116,7 @@ pub fn run_manager(
 {
     let level = fork.level as usize;
     let message = fork.message;
-    let next = tallies[8 + level] as u16;
+    let next = tallies[NEXT + level] as u16;
     let mut m = Manager::start(session, index, fork.level, next, message);
     let core = m.core;
     if left == 0 {
@@ -158,6 +145,6 @@ pub fn run_manager(
     }
     let core = m.core;
     let history = core.ended(fork.stamp);
-    close(ended, tallies, level, history);
+    tallies::close(ended, tallies, level, history);
     history
 }

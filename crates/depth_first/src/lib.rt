@@ -4,6 +4,7 @@ mod forks;
 use forks::Fork;
 use records::Answer;
 use session::contents;
+use session::limits::MAX_METHODS;
 use words::fields;
 ghost use Prim.Native.Nat.{_≤_};
 ghost use mathlib.Core.Path.{_≡_};
@@ -71,12 +72,12 @@ fn run(session: &[u8], masks: &[u16], clearance: usize, result: &mut [u8]) -> us
     requires { ⌜ (verdictOf (now session) ≡ Accepted) × (now masks ≡ masksOf (now session)) × (resultBytes ≤ length (now result)) ⌝ }
     ensures { λ r. ⌜ Shown (now (session .entry)) clearance (now (result .entry)) (now (result .exit)) r ⌝ }
 {
-    let mut index = [0u16; 513];
+    let mut index = [0u16; MAX_METHODS + 1];
     contents::index_methods(session, &mut index);
     let mut current = [0u32; 192];
     fields::fill(session, masks, &mut current);
     let mut ended = [0u32; 2048];
-    let mut tallies = [0usize, 0, 0, 0, 0, 0, 0, 0, 1, 1, 1, 1, 1, 1, 1, 1];
+    let mut tallies = tallies::first();
     run_over(
         session,
         masks,

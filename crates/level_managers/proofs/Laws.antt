@@ -1,5 +1,4 @@
 -- Laws of the words of a run and of a scheduler step: what the proofs of this crate and of the scheduler cite.
-pub mod Permits
 pub mod Told
 pub mod Write
 pub mod Arrive

@@ -1,6 +1,6 @@
 -- What the words of a run say of its state. No meaning rests on these. Assumes nothing.
 -- Laws (`proofs/Laws/Told`): a change of the words of one level alone (`told-change`).
-use Prim.Native.Nat.{ℕ, _+_, _*_, _≤_, _<_}
+use Prim.Native.Nat.{ℕ, _≤_, _<_}
 use mathlib.Core.Path.{_≡_}
 use mathlib.Core.Bool.{true, cond}
 use mathlib.Core.List.{List}
@@ -19,6 +19,7 @@ use Rattle.model.specs.Step.{State, levelAt}
 use Rattle.model.specs.Schedule.{readIn, question14, Leads}
 use Rattle.records.specs.Limits.{historyWords}
 use Rattle.records.specs.Histories.{historiesAt, InOrder}
+use Rattle.tallies.specs.Places.{nextPlace, waitingPlace, versionsPlace, busyPlace, clearPlace, tallyNumbers}
 use Rattle.queues.specs.Queue.{queueWords, forkAt, forksAt, ForksRise}
 use Rattle.versions.specs.Log.{logStart, logOf}
 
@@ -29,26 +30,6 @@ pub record Words : Type 0 where
   pub tallies : List ℕ
   pub queue : List ℕ
   pub work : List ℕ
-
--- what is counted of level l: the managers that have ended stand at l itself; then the write stamp of the next one; the forks that wait;
--- the versions; 1 where a manager runs; 1 where question 14 has said yes
-abbrev pub nextPlace : ℕ → ℕ
-nextPlace l = maxLevels + l
-
-abbrev pub waitingPlace : ℕ → ℕ
-waitingPlace l = 2 * maxLevels + l
-
-abbrev pub versionsPlace : ℕ → ℕ
-versionsPlace l = 3 * maxLevels + l
-
-abbrev pub busyPlace : ℕ → ℕ
-busyPlace l = 4 * maxLevels + l
-
-abbrev pub clearPlace : ℕ → ℕ
-clearPlace l = 5 * maxLevels + l
-
-abbrev pub tallyNumbers : ℕ
-tallyNumbers = 6 * maxLevels
 
 -- whether a manager runs at level l: m, and its fork is the one behind those that have ended
 abbrev pub Runs : ℕ → Words → ℕ → Manager → ℕ → Activity → Type 0

@@ -36,7 +36,8 @@ use Rattle.records.specs.Histories.{historiesAt, InOrder, HistoryIs, HistoriesT
 use Rattle.queues.specs.Queue.{forkOfRow, forkAt, There, Room, Arrived}
 use Rattle.versions.specs.Log.{logStart, logOf, Within}
 use Rattle.versions.specs.Changes.{Appended}
-use Rattle.level_managers.specs.Kept.{Words, nextPlace, waitingPlace, versionsPlace, busyPlace, tallyNumbers, Says}
+use Rattle.tallies.specs.Places.{nextPlace, waitingPlace, versionsPlace, busyPlace, tallyNumbers, tallied}
+use Rattle.level_managers.specs.Kept.{Words, Says}
 
 -- an accepted session, its level table and its method index
 pub record Read (s masks index : List ℕ) : Type 0 where
@@ -175,7 +176,7 @@ pub record Closed (ended ended' tallies tallies' queue : List ℕ) (l : ℕ) (m 
   pub history : Ended
   pub history-is : HistoryIs (runningFork 0 tallies queue l .stamp) m history
   pub added : Added ended ended' l (getD tallies l 0) history
-  pub tallies-are : tallies' ≡ set (set (set tallies l (getD tallies l 0 + 1)) (nextPlace l) (m .stamp + 1)) (busyPlace l) 0
+  pub tallies-are : tallies' ≡ set (tallied l (getD tallies l 0 + 1) (m .stamp + 1) tallies) (busyPlace l) 0
 
 -- a manager that runs on leaves all as it was
 abbrev pub Settled : List ℕ → List ℕ → List ℕ → List ℕ → List ℕ → ℕ → Manager → Type 0

@@ -1,9 +1,8 @@
-// The level managers: what a run keeps of each level, which level may step, what the manager that runs at a
-// level reads, and a scheduler step at a level.
+// The level managers: what a run keeps of each level, what the manager that runs at a level reads, and a
+// scheduler step at a level.
 //
 // What a run keeps is lent: `current` holds the newest fields, and `seen` those that a manager has read, as in
-// `words`; `ended` the histories, as in `records`; `tallies` the counts of each level, as the module of that
-// name says; `queue` the forks, as in `queues`; `work` the versions, as in `versions`.
+// `words`; `ended` the histories, as in `records`; `tallies` the counts of each level, as in the crate
+// of that name; `queue` the forks, as in `queues`; `work` the versions, as in `versions`.
 pub mod reads;
 pub mod steps;
-pub mod tallies;

@@ -2,6 +2,7 @@
 use records::histories;
 use session::Value;
 use session::contents;
+use tallies::VERSIONS;
 use words::fields;
 ghost use Prim.Native.Nat.{ℕ, _<_};
 ghost use mathlib.Core.Path.{_≡_};
@@ -50,5 +51,13 @@ pub fn field_of(
     }
     let initial = contents::field_of(session, masks, object as usize, field as usize);
     let bound = bound_of(ended, tallies, queue, level, j);
-    versions::newest_to(work, j, tallies[24 + j], bound, object, field, initial)
+    versions::newest_to(
+        work,
+        j,
+        tallies[VERSIONS + j],
+        bound,
+        object,
+        field,
+        initial,
+    )
 }

@@ -4,9 +4,12 @@ use crate::reads;
 use managers::Core;
 use managers::Effect;
 use managers::Manager;
-use records::histories;
 use session::Message;
 use session::Value;
+use tallies::NEXT;
+use tallies::RUNNING;
+use tallies::VERSIONS;
+use tallies::WAITING;
 use words::fields;
 ghost use Prim.Native.Nat.{_+_, _^_, _<_};
 ghost use Rattle.scripts.specs.Valid.{Leveled};
@@ -62,10 +65,10 @@ pub fn write(
     requires { ⌜ WriteReady (now current) (now tallies) (now work) level object field ⌝ }
     ensures { λ _. ⌜ Wrote (now (current .entry)) (now (current .exit)) (now (tallies .entry)) (now (tallies .exit)) (now (work .entry)) (now (work .exit)) level stamp object field value ⌝ }
 {
-    let count = tallies[24 + level];
+    let count = tallies[VERSIONS + level];
     fields::set(current, object as usize, field as usize, value);
     versions::append(work, level, count, stamp, object, field, value);
-    tallies[24 + level] = count + 1;
+    tallies[VERSIONS + level] = count + 1;
 }
 
 // The manager that runs at a level, with this write stamp and so many forks made, forks a message at
@@ -85,14 +88,14 @@ pub fn fork(
     let i = tallies[level];
     let depth = queues::depth_at(queue, level, i);
     let child = queues::child_stamp(queues::stamp_at(queue, level, i), depth, forks);
-    let started = tallies[above] + tallies[32 + above];
-    let waiting = tallies[16 + above];
+    let started = tallies[above] + tallies[RUNNING + above];
+    let waiting = tallies[WAITING + above];
     // A fork that is dropped changes nothing, and no row is made of it.
     if queues::drops(queue, above, started, waiting, child) {
         return;
     }
     let row = queues::child_row(queue, level, i, child, depth + 1, stamp, message);
-    tallies[16 + above] = queues::arrive(queue, above, started, waiting, &row);
+    tallies[WAITING + above] = queues::arrive(queue, above, started, waiting, &row);
 }
 
 // What a script step of the manager that runs at a level did outside it. The manager started with write
@@ -149,13 +152,10 @@ pub fn settle(ended: &mut [u32], tallies: &mut [usize], queue: &[u32], level: us
     if scripts::is_running(ending) {
         return;
     }
-    let count = tallies[level];
-    let stamp = queues::stamp_at(queue, level, count);
+    let stamp = queues::stamp_at(queue, level, tallies[level]);
     let history = core.ended(stamp);
-    histories::add(ended, level, count, history);
-    tallies[level] = count + 1;
-    tallies[8 + level] = history.last as usize + 1;
-    tallies[32 + level] = 0;
+    tallies::close(ended, tallies, level, history);
+    tallies[RUNNING + level] = 0;
 }
 
 // The manager that runs at a level has made a script step: what the step did outside it is done, and if it has
@@ -206,10 +206,10 @@ pub fn start(
     ensures { λ r. ⌜ Started (now (session .entry)) (now (ended .entry)) (now (ended .exit)) (now (tallies .entry)) (now (tallies .exit)) (now (queue .entry)) level (managerOf r) × Held (now (session .entry)) r ⌝ }
 {
     let message = queues::message_at(queue, level, tallies[level]);
-    let next = tallies[8 + level] as u16;
+    let next = tallies[NEXT + level] as u16;
     let m = Manager::start(session, index, level as u8, next, message);
-    tallies[16 + level] = tallies[16 + level] - 1;
-    tallies[32 + level] = 1;
+    tallies[WAITING + level] = tallies[WAITING + level] - 1;
+    tallies[RUNNING + level] = 1;
     let core = m.core;
     settle(ended, tallies, queue, level, core);
     m

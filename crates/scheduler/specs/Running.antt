@@ -18,7 +18,8 @@ use Rattle.managers.specs.declared.Effect.the-variants as outside
 use Rattle.model.specs.Level.{idle}
 use Rattle.model.specs.Step.{State, levelAt}
 use Rattle.model.specs.Schedule.{question14, Leads}
-use Rattle.level_managers.specs.Kept.{Words, waitingPlace, busyPlace, Says, placed}
+use Rattle.tallies.specs.Places.{waitingPlace, busyPlace}
+use Rattle.level_managers.specs.Kept.{Words, Says, placed}
 use Rattle.level_managers.specs.Steps.{IsBusy, foundIn, TellReady, Answered, Parts, PerformReady, Performed}
 use Rattle.scheduler.specs.Runs.{SameRest}
 

@@ -1,12 +1,12 @@
 -- What the stages of a run promise each other. No meaning rests on these. Assumes nothing.
 -- Laws: a timetable step by step (`proofs/Laws/Listed`: `Going`); the plain run, level after level (`Plain`: `Ran`); the session as read in
 -- (`Start`); the answers (`Answers`).
-use Prim.Native.Nat.{ℕ, _+_, _*_, _≤_, _<_}
+use Prim.Native.Nat.{ℕ, _+_, _≤_, _<_}
 use mathlib.Core.Path.{_≡_}
 use mathlib.Core.Bool.{Bool, true, false}
-use mathlib.Core.List.{List, _++_}
-use lib.ListN.{length, drop, replicate}
-use Rattle.session.specs.Limits.{maxLevels, maxMethods}
+use mathlib.Core.List.{List}
+use lib.ListN.{length, drop}
+use Rattle.session.specs.Limits.{maxMethods}
 use Rattle.session.specs.Parts.{levelCount}
 use Rattle.session.specs.Meaning.{levelOf, rootObject, rootOf}
 use Rattle.session.specs.Program.{programOf}
@@ -24,11 +24,12 @@ use Rattle.records.specs.Limits.{historyWords}
 use Rattle.records.specs.Writing.{resultIn, bytesIn, Written}
 use Rattle.records.specs.declared.Answer.{Answer}
 use Rattle.queues.specs.Queue.{queueWords}
+use Rattle.tallies.specs.Places.{startTallies}
 use Rattle.level_managers.specs.Kept.{Words, Told, Says}
-use Rattle.level_managers.specs.Permits.{numberOfPermit}
+use Rattle.tallies.specs.Permits.{numberOfPermit}
 use Rattle.scheduler.specs.declared.Outcome.{Outcome}
 use Rattle.scheduler.specs.declared.Outcome.the-variants as outcome
-use Rattle.level_managers.specs.declared.tallies.Permit.{Permit}
+use Rattle.tallies.specs.declared.Permit.{Permit}
 
 -- the lowest of questions 1 to 11 that says no, or 0, of any request with this session, this clearance and slices of these lengths
 abbrev pub EntryRefusal : List ℕ → ℕ → ℕ → ℕ → ℕ → Type 0
@@ -52,10 +53,6 @@ startOf s = readIn (programOf s) (rootOf s)
 pub record Rests (s : List ℕ) (w : Words) (st : State) : Type 0 where
   pub says : (ms : ℕ → Manager) → Says s w ms st
   pub idle-all : (k : ℕ) → k < levelCount s → levelAt st k .activity ≡ idle
-
--- what is counted before any manager started: "A level's write stamp starts at 1"
-abbrev pub startTallies : List ℕ
-startTallies = replicate maxLevels 0 ++ replicate maxLevels 1 ++ replicate (4 * maxLevels) 0
 
 -- words that no run has used
 pub record Fresh (index current tallies queue : List ℕ) : Type 0 where

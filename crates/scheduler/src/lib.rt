@@ -4,14 +4,14 @@ mod timetable;
 
 use records::Answer;
 use session::contents;
+use tallies::WAITING;
 use words::fields;
-ghost use mathlib.Core.Path.{_≡_};
 ghost use Rattle.session.specs.Meaning.{levelOf, rootObject};
 ghost use Rattle.scripts.specs.Valid.{Leveled};
 ghost use Rattle.model.specs.Entries.{timetabled, plain as plainly, Answers};
 ghost use Rattle.records.specs.Writing.{Ready};
 ghost use Rattle.level_managers.specs.Steps.{Read};
-ghost use Rattle.scheduler.specs.Runs.{startOf, startTallies, listOf, EntryRefusal, Rests, Fresh, ReadIn, Ends, SameRest, Shows, RunReady, ListDone, Refused, RefusedBy};
+ghost use Rattle.scheduler.specs.Runs.{startOf, listOf, EntryRefusal, Rests, Fresh, ReadIn, Ends, SameRest, Shows, RunReady, ListDone, Refused, RefusedBy};
 
 // How the scheduler steps of a run end.
 pub enum Outcome {
@@ -52,17 +52,6 @@ fn refused(number: u32, place: u32) -> Answer
     }
 }
 
-// What is counted of each level before a run: nothing, and the first write stamp is 1.
-fn first_tallies() -> [usize; 48]
-    ensures { λ r. ⌜ r ≡ startTallies ⌝ }
-{
-    let mut tallies = [0usize; 48];
-    for level in 0..8 {
-        tallies[8 + level] = 1;
-    }
-    tallies
-}
-
 // Fills the words of a run with the session as read in: the method index, the first fields, and the
 // root's fork, which waits. Returns the root's level.
 fn read_in(
@@ -82,7 +71,7 @@ fn read_in(
     let message = contents::root(session);
     let level = contents::level_of(session, masks, message.object as usize);
     let row = queues::root_row(message);
-    tallies[16 + level] = queues::arrive(queue, level, 0, 0, &row);
+    tallies[WAITING + level] = queues::arrive(queue, level, 0, 0, &row);
     level
 }
 
@@ -179,7 +168,7 @@ fn run_accepted(
     let mut current = [0u32; 192];
     let mut ended = [0u32; 2048];
     let mut queue = [0u32; 3584];
-    let mut tallies = first_tallies();
+    let mut tallies = tallies::first();
     let level = read_in(
         session,
         masks,

@@ -1,13 +1,13 @@
 // The plain run: each scheduler step by the lowest-numbered level that may step.
 use level_managers::steps;
-use level_managers::tallies;
-use level_managers::tallies::Permit;
 use managers::Core;
 use managers::Effect;
 use scripts::MAX_SCRIPT_STEPS;
+use tallies::Permit;
+use tallies::WAITING;
 ghost use mathlib.Core.Path.{_≡_};
 ghost use Rattle.scripts.specs.Valid.{Leveled};
-ghost use Rattle.level_managers.specs.Permits.{isGiven};
+ghost use Rattle.tallies.specs.Permits.{isGiven};
 ghost use Rattle.level_managers.specs.Steps.{Read};
 ghost use Rattle.scheduler.specs.Runs.{startOf, Rests, LevelReady, LevelDone, Done, SameRest};
 ghost use Rattle.scheduler.specs.Running.{OutsideReady, OutsideDone, NextReady, NextDone};
@@ -126,7 +126,7 @@ fn run_level(
     requires { ⌜ LevelReady (now session) (record { current = now current; ended = now ended; tallies = now tallies; queue = now queue; work = now work }) level ⌝ }
     ensures { λ _. ⌜ LevelDone (now (session .entry)) (record { current = now (current .entry); ended = now (ended .entry); tallies = now (tallies .entry); queue = now (queue .entry); work = now (work .entry) }) (record { current = now (current .exit); ended = now (ended .exit); tallies = now (tallies .exit); queue = now (queue .exit); work = now (work .exit) }) level ⌝ }
 {
-    while tallies[16 + level] > 0 {
+    while tallies[WAITING + level] > 0 {
         run_next(
             session,
             masks,

@@ -1,13 +1,12 @@
 // A run by a timetable: one scheduler step for each of its bytes.
 use crate::Outcome;
 use level_managers::steps;
-use level_managers::tallies;
-use level_managers::tallies::Permit;
 use managers::Effect;
 use managers::Manager;
+use tallies::Permit;
 use words::fields;
 ghost use mathlib.Core.Path.{_≡_};
-ghost use Rattle.level_managers.specs.Permits.{numberOfPermit};
+ghost use Rattle.tallies.specs.Permits.{numberOfPermit};
 ghost use Rattle.level_managers.specs.Steps.{Read};
 ghost use Rattle.scheduler.specs.Runs.{startOf, Rests, RefusedAt, Ends, SameRest};
 

@@ -1,12 +1,11 @@
 -- What a write and the end of a manager do to the words of a run. Assumes nothing.
-use Prim.Native.Nat.{ℕ, _+_, _*_, _≤_, _<_}
+use Prim.Native.Nat.{ℕ, _+_, _≤_, _<_}
 use mathlib.Core.Path.{_≡_, refl, sym, _∙_, ap}
 use mathlib.Core.List.{List, _∷_}
 use native.Mathlib.Decide.{ℕ-discrete}
 use native.Mathlib.Omega.{arith}
 use borrow.Author.Tests.{eq-eqb, ne-eqb}
-use lib.ListN.{length, getD, set, length-set}
-use lib.Seq.{getD-set-same, getD-set-other}
+use lib.ListN.{length, getD}
 use Rattle.session.specs.Limits.{maxLevels, fields}
 use Rattle.session.specs.Parts.{levelCount, objectCount}
 use Rattle.session.specs.Program.{Program, programOf}
@@ -23,7 +22,9 @@ use Rattle.model.specs.DepthFirst.{Written, Tally, Progress, newTally, tallyAt,
 use Rattle.model.proofs.Laws.Lists.{modify-length, modify-at, modify-other}
 use Rattle.model.proofs.Laws.Invariant.Measure.{inserted-length}
 use Rattle.records.specs.Histories.{historiesAt, historyOf, Added}
-use Rattle.depth_first.specs.Kept.{Counted, Kept, tallied}
+use Rattle.tallies.specs.Places.{nextPlace, tallied}
+use Rattle.tallies.proofs.Laws.Closed.{tallied-length, tallied-other, tallied-count, tallied-next}
+use Rattle.depth_first.specs.Kept.{Counted, Kept}
 
 -- the fields after a write
 abbrev pub wrote : ℕ → ℕ → Value → Progress → Progress
@@ -68,14 +69,6 @@ kept-write s g c c' e t o k v q ho hk f =
     here o' k' a b (no x) d = other o' k' a b (λ z _. x z)
     here o' k' a b (yes x) (no y) = other o' k' a b (λ _ z. y z)
 
-tallied-count : (l count next : ℕ) (t : List ℕ) (j : ℕ) → l < maxLevels → j < maxLevels → 2 * maxLevels ≤ length t → getD (tallied l count next t) j 0 ≡ getD (set t l count) j 0
-tallied-count l count next t j hl hj r = getD-set-other (set t l count) (maxLevels + l) j next 0 (λ e. omega (arith, e))
-
-tallied-next : (l count next : ℕ) (t : List ℕ) (j : ℕ) → l < maxLevels → (j ≡ l → ⊥) → getD (tallied l count next t) (maxLevels + j) 0 ≡ getD t (maxLevels + j) 0
-tallied-next l count next t j hl n =
-    getD-set-other (set t l count) (maxLevels + l) (maxLevels + j) next 0 (λ e. n (omega (arith, e)))
-    ∙ getD-set-other t l (maxLevels + j) count 0 (λ e. omega (arith, e))
-
 -- the counts of a level whose manager has ended
 abbrev closedTally : model.Fork → Manager → Tally → Tally
 closedTally x m t =
@@ -104,8 +97,18 @@ module _ (s : List ℕ) (g : Progress) (c e e' t : List ℕ) (q : Kept s g c e t
   same-count : getD t l 0 ≡ n
   same-count = q .counted l hl .count
 
-  t' : List ℕ
+  abbrev t' : List ℕ
   t' = tallied l (getD t l 0 + 1) (m .stamp + 1) t
+
+  small : l < maxLevels
+  small = omega (arith, hl, few-levels)
+
+  -- what is counted of it then, and of another
+  count-own : getD t' l 0 ≡ getD t l 0 + 1
+  count-own = tallied-count l (getD t l 0 + 1) (m .stamp + 1) t small (q .tallies-there)
+
+  count-other : (j : ℕ) → j < maxLevels → (j ≡ l → ⊥) → getD t' j 0 ≡ getD t j 0
+  count-other j hj d = tallied-other l (getD t l 0 + 1) (m .stamp + 1) t j d (λ z. omega (arith, z, hj))
 
   -- what the level's histories are then
   pub ended-own : tallyAt (close l x m g) l .ended ≡ inserted (λ h. h .stamp) (historyOf r) (tallyAt g l .ended)
@@ -127,59 +130,39 @@ module _ (s : List ℕ) (g : Progress) (c e e' t : List ℕ) (q : Kept s g c e t
   next-own : tallyAt (close l x m g) l .next ≡ m .stamp + 1
   next-own = ap (λ t. t .next) (close-own l x m g (rw (q .levels) hl))
 
-  long : maxLevels + l < length (set t l (getD t l 0 + 1))
-  long = rw (length-set t l (getD t l 0 + 1)) (omega (arith, q .tallies-there, hl, few-levels))
-
-  counted-own : Counted (close l x m g) e' (tallied l (getD t l 0 + 1) (m .stamp + 1) t) l
+  counted-own : Counted (close l x m g) e' t' l
   counted-own =
       record {
         few = omega (arith, grown, more);
-        count = tallied-count l (getD t l 0 + 1) (m .stamp + 1) t l (omega (arith, hl, few-levels)) (omega (arith, hl, few-levels)) (q .tallies-there)
-            ∙ getD-set-same t l (getD t l 0 + 1) 0 (omega (arith, q .tallies-there, hl, few-levels))
-            ∙ ap (λ k. k + 1) same-count
-            ∙ sym grown;
+        count = count-own ∙ ap (λ k. k + 1) same-count ∙ sym grown;
         histories = ap (historiesAt e' l) grown ∙ histories-own;
         rises = rw (sym histories-own, sym same-count) (a .rises);
-        next = getD-set-same (set t l (getD t l 0 + 1)) (maxLevels + l) (m .stamp + 1) 0 long ∙ sym next-own;
+        next = tallied-next l (getD t l 0 + 1) (m .stamp + 1) t small (q .tallies-there) ∙ sym next-own;
         pace = omega (arith, next-own, grown, pace, q .counted l hl .pace);
       }
 
-  counted-other : (j : ℕ) → j < levelCount s → (j ≡ l → ⊥) → Counted (close l x m g) e' (tallied l (getD t l 0 + 1) (m .stamp + 1) t) j
+  counted-other : (j : ℕ) → j < levelCount s → (j ≡ l → ⊥) → Counted (close l x m g) e' t' j
   counted-other j hj d =
       let o = q .counted j hj in
       let same = close-other l x m g j (λ z. d (sym z)) in
       record {
         few = rw same (o .few);
-        count = tallied-count l (getD t l 0 + 1) (m .stamp + 1) t j (omega (arith, hl, few-levels)) (omega (arith, hj, few-levels)) (q .tallies-there)
-            ∙ getD-set-other t l j (getD t l 0 + 1) 0 d
-            ∙ o .count
-            ∙ sym (ap (λ t. length (t .ended)) same);
+        count = count-other j (omega (arith, hj, few-levels)) d ∙ o .count ∙ sym (ap (λ t. length (t .ended)) same);
         histories = rw same (a .others j (length (tallyAt g j .ended)) d (o .few) ∙ o .histories);
         rises = rw same (o .rises);
-        next = tallied-next l (getD t l 0 + 1) (m .stamp + 1) t j (omega (arith, hl, few-levels)) d ∙ o .next ∙ sym (ap (λ t. t .next) same);
+        next = tallied-other l (getD t l 0 + 1) (m .stamp + 1) t (nextPlace j) (λ z. omega (arith, z, small)) (λ z. d (omega (arith, z))) ∙ o .next ∙ sym (ap (λ t. t .next) same);
         pace = rw same (o .pace);
       }
 
-  -- no count is beyond the limit, not of a level that is not there either
-  count-own-few : getD (tallied l (getD t l 0 + 1) (m .stamp + 1) t) l 0 ≤ maxManagers
-  count-own-few =
-      rw (tallied-count l (getD t l 0 + 1) (m .stamp + 1) t l (omega (arith, hl, few-levels)) (omega (arith, hl, few-levels)) (q .tallies-there), getD-set-same t l (getD t l 0 + 1) 0 (omega (arith, q .tallies-there, hl, few-levels)))
-      (omega (arith, same-count, more))
-
-  count-other-few : (j : ℕ) → j < maxLevels → (j ≡ l → ⊥) → getD (tallied l (getD t l 0 + 1) (m .stamp + 1) t) j 0 ≤ maxManagers
-  count-other-few j hj d =
-      rw (tallied-count l (getD t l 0 + 1) (m .stamp + 1) t j (omega (arith, hl, few-levels)) hj (q .tallies-there), getD-set-other t l j (getD t l 0 + 1) 0 d)
-      (q .counts-few j hj)
-
-  pub kept-close : Kept s (close l x m g) c e' (tallied l (getD t l 0 + 1) (m .stamp + 1) t)
+  pub kept-close : Kept s (close l x m g) c e' t'
   kept-close =
       record {
         fields-there = q .fields-there;
         histories-there = rw (a .outside .length-same) (q .histories-there);
-        tallies-there = rw (length-set (set t l (getD t l 0 + 1)) (maxLevels + l) (m .stamp + 1), length-set t l (getD t l 0 + 1)) (q .tallies-there);
+        tallies-there = rw (tallied-length l (getD t l 0 + 1) (m .stamp + 1) t) (q .tallies-there);
         counts-few = λ j hj. elim (ℕ-discrete j l) [
-          | yes z ↦ rw z count-own-few
-          | no z ↦ count-other-few j hj z
+          | yes z ↦ rw (z, count-own) (omega (arith, same-count, more))
+          | no z ↦ rw (count-other j hj z) (q .counts-few j hj)
         ];
         levels = close-levels l x m g ∙ q .levels;
         field = λ o k a b. q .field o k a b ∙ sym (close-fields (programOf s) l x m g o k);

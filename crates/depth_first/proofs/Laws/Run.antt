@@ -1,6 +1,6 @@
 -- The run of a manager, as a loop over the script steps that concern others: what holds at its start, after each, and at its end. Assumes
 -- nothing.
-use Prim.Native.Nat.{ℕ, zero, suc, _+_, _*_, _-_, _^_, _≤_, _<_}
+use Prim.Native.Nat.{ℕ, zero, suc, _+_, _-_, _^_, _≤_, _<_}
 use mathlib.Core.Path.{_≡_, refl, sym, _∙_, ap, subst}
 use mathlib.Core.Bool.{true, false, cond}
 use mathlib.Core.List.{List, []}
@@ -38,7 +38,8 @@ use Rattle.model.specs.History as history
 use Rattle.model.specs.DepthFirst.{Progress, tallyAt, fieldNow, close, finish, runFork}
 use Rattle.model.proofs.Laws.Code.DepthFirst.{finish-over}
 use Rattle.records.specs.Histories.{historyOf, HistoryRoom}
-use Rattle.depth_first.specs.Kept.{Read, Keeps, Runnable, Same, tallied, Closed, Words, Says, Performable, Performed, ForkDone, RunDone}
+use Rattle.tallies.specs.Places.{nextPlace, tallyNumbers, tallied, Closed}
+use Rattle.depth_first.specs.Kept.{Read, Keeps, Runnable, Same, Words, Says, Performable, Performed, ForkDone, RunDone}
 use Rattle.depth_first.specs.declared.forks.Fork.{Fork}
 use Rattle.depth_first.proofs.Laws.Kept.{ended-own, kept-close}
 use Rattle.depth_first.proofs.Laws.Step.{led-valid, led-forking, led-ends}
@@ -59,13 +60,13 @@ module _ {s masks index : List ℕ} (a : Read s masks index) (l : ℕ) (h : l < 
   level-small = omega (arith, few s (a .accepted), h)
 
   module _ {c e t : List ℕ} (q : Keeps s c e t) where
-    pub next-there : maxLevels + l < length t
+    pub next-there : nextPlace l < length t
     next-there = omega (arith, level-small, q .1 .tallies-there)
 
     pub count-there : l < length t
     count-there = omega (arith, level-small, q .1 .tallies-there)
 
-    pub next-fits : getD t (maxLevels + l) 0 + maxForks + 1 < 2 ^ 16
+    pub next-fits : getD t (nextPlace l) 0 + maxForks + 1 < 2 ^ 16
     next-fits =
         let k = q .1 .counted l h in
         omega (arith, k .next, k .pace, k .few)
@@ -92,7 +93,7 @@ pub last-fits : {s : List ℕ} {m : Manager} → Held s m → m .core .first + m
 last-fits h = omega (arith, h .fits, h .forked)
 
 -- a manager that a fork starts, with its level's next write stamp
-pub fork-starts : {s masks index : List ℕ} → Read s masks index → {left : ℕ} {f : Fork} → Runnable s left f → {c e t : List ℕ} → Keeps s c e t → Startable s (f .level) (getD t (maxLevels + f .level) 0) (f .message)
+pub fork-starts : {s masks index : List ℕ} → Read s masks index → {left : ℕ} {f : Fork} → Runnable s left f → {c e t : List ℕ} → Keeps s c e t → Startable s (f .level) (getD t (nextPlace (f .level)) 0) (f .message)
 fork-starts a {left} {f} r q =
     record { placed = r .placed; present = r .present; named = r .named; fits = next-fits a (f .level) (r .placed) q }
 
@@ -120,7 +121,7 @@ pub record Looped (s : List ℕ) (left : ℕ) (f : Fork) (w₀ w : Words) (m : M
   pub held : Held s m
   pub valid : Valid s (managerOf m)
   pub level : m .core .level ≡ f .level
-  pub first : m .core .first ≡ getD (w₀ .tallies) (maxLevels + f .level) 0
+  pub first : m .core .first ≡ getD (w₀ .tallies) (nextPlace (f .level)) 0
   pub ahead : (g₀ : Progress) (x : model.Fork) → Says s g₀ w₀ → Same f x → Ahead s left f (managerOf m) w g₀ x
 
 -- each time round but the last makes this less
@@ -139,10 +140,10 @@ module _ {s masks index : List ℕ} (a : Read s masks index) {left : ℕ} {f : F
   abbrev p : Program
   p = programOf s
 
-  pub run-starts : (w : Words) (m : Manager) → Keeps s (w .current) (w .ended) (w .tallies) → (managerOf m ≡ started p (f .level) (getD (w .tallies) (maxLevels + f .level) 0) (f .message)) × Held s m → Looped s left f w w m
+  pub run-starts : (w : Words) (m : Manager) → Keeps s (w .current) (w .ended) (w .tallies) → (managerOf m ≡ started p (f .level) (getD (w .tallies) (nextPlace (f .level)) 0) (f .message)) × Held s m → Looped s left f w w m
   unfolding managerOf
   run-starts w m q (e, h) =
-      let next = getD (w .tallies) (maxLevels + f .level) 0 in
+      let next = getD (w .tallies) (nextPlace (f .level)) 0 in
       let counts = started-counts p (f .level) next (f .message) in
       record {
         held = h;
@@ -238,7 +239,7 @@ module _ {s masks index : List ℕ} (a : Read s masks index) {left : ℕ} {f : F
       few-ended says b =
           rw (ap (λ t. t .ended) (b .own)) (omega (arith, says .counted (f .level) (r .placed) .count, room))
 
-      pub run-room : HistoryRoom (w .ended) (f .level) (getD (w .tallies) (f .level) 0) h × (2 * maxLevels ≤ length (w .tallies))
+      pub run-room : HistoryRoom (w .ended) (f .level) (getD (w .tallies) (f .level) 0) h × (tallyNumbers ≤ length (w .tallies))
       run-room =
           let t = here .says .counted (f .level) (r .placed) in (
             record {

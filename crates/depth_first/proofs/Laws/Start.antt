@@ -1,9 +1,9 @@
 -- What the words of a run say at its start. Assumes nothing.
-use Prim.Native.Nat.{ℕ, zero, suc, _+_, _^_, _≤_, _<_}
+use Prim.Native.Nat.{ℕ, _^_, _≤_, _<_}
 use mathlib.Core.Path.{_≡_, refl, sym, _∙_, ap}
-use mathlib.Core.List.{List, [], _∷_}
+use mathlib.Core.List.{List, []}
 use native.Mathlib.Omega.{arith}
-use lib.ListN.{length, getD, replicate, length-replicate, getD-replicate}
+use lib.ListN.{length, replicate, length-replicate, getD-replicate}
 use Rattle.session.specs.Limits.{maxLevels}
 use Rattle.session.specs.Lists.{risingFrom}
 use Rattle.session.specs.Parts.{levelCount}
@@ -20,34 +20,10 @@ use Rattle.model.specs.DepthFirst.{newTally, tallyAt, current, fieldNow}
 use Rattle.records.specs.Limits.{historyWords}
 use Rattle.records.specs.Histories.{historiesAt, InOrder}
 use Rattle.records.proofs.Laws.Histories.{histories-none}
+use Rattle.tallies.specs.Places.{startTallies}
+use Rattle.tallies.proofs.Laws.First.{first-ended, first-next}
 use Rattle.depth_first.specs.Kept.{Counted, Kept}
 use Rattle.depth_first.specs.Runs.{startOf}
-
--- no manager has ended, and the next write stamps are 1
-abbrev pub startTallies : List ℕ
-startTallies = 0 ∷ 0 ∷ 0 ∷ 0 ∷ 0 ∷ 0 ∷ 0 ∷ 0 ∷ 1 ∷ 1 ∷ 1 ∷ 1 ∷ 1 ∷ 1 ∷ 1 ∷ 1 ∷ []
-
-first-count : (l : ℕ) → l < maxLevels → getD startTallies l 0 ≡ 0
-first-count zero h = refl
-first-count (suc zero) h = refl
-first-count (suc (suc zero)) h = refl
-first-count (suc (suc (suc zero))) h = refl
-first-count (suc (suc (suc (suc zero)))) h = refl
-first-count (suc (suc (suc (suc (suc zero))))) h = refl
-first-count (suc (suc (suc (suc (suc (suc zero)))))) h = refl
-first-count (suc (suc (suc (suc (suc (suc (suc zero))))))) h = refl
-first-count (suc (suc (suc (suc (suc (suc (suc (suc l)))))))) h = absurd (omega (arith, h))
-
-first-next : (l : ℕ) → l < maxLevels → getD startTallies (maxLevels + l) 0 ≡ 1
-first-next zero h = refl
-first-next (suc zero) h = refl
-first-next (suc (suc zero)) h = refl
-first-next (suc (suc (suc zero))) h = refl
-first-next (suc (suc (suc (suc zero)))) h = refl
-first-next (suc (suc (suc (suc (suc zero))))) h = refl
-first-next (suc (suc (suc (suc (suc (suc zero)))))) h = refl
-first-next (suc (suc (suc (suc (suc (suc (suc zero))))))) h = refl
-first-next (suc (suc (suc (suc (suc (suc (suc (suc l)))))))) h = absurd (omega (arith, h))
 
 none-rises : InOrder []
 unfolding risingFrom
@@ -76,21 +52,21 @@ module _ (s : List ℕ) (a : verdictOf s ≡ Accepted) where
       let small : l < maxLevels = omega (arith, h, level-limit s a) in
       record {
         few = rw e (omega arith);
-        count = first-count l small ∙ ap (λ t. length (t .ended)) (sym e);
+        count = first-ended l small ∙ ap (λ t. length (t .ended)) (sym e);
         histories = ap (λ t. historiesAt ended l (length (t .ended))) e ∙ histories-none ended l ∙ ap (λ t. t .ended) (sym e);
         rises = rw e none-rises;
         next = first-next l small ∙ ap (λ t. t .next) (sym e);
         pace = rw e (omega arith);
       }
 
-  pub kept-start : (before c ended : List ℕ) → Filled s before c → fieldWords ≤ length before → historyWords ≤ length ended → Kept s (startOf s) c ended startTallies
-  kept-start before c ended f there room =
-      record {
+  pub kept-start : (before c ended tallies : List ℕ) → Filled s before c → fieldWords ≤ length before → historyWords ≤ length ended → tallies ≡ startTallies → Kept s (startOf s) c ended tallies
+  kept-start before c ended tallies f there room first =
+      rw first (record {
         fields-there = rw (f .outside .length-same) there;
         histories-there = room;
         tallies-there = omega arith;
-        counts-few = λ l h. rw (first-count l h) (omega arith);
+        counts-few = λ l h. rw (first-ended l h) (omega arith);
         levels = length-replicate (levelCount s) newTally;
         field = λ o k h j. f .fields-are o k h j ∙ sym (start-field o k);
         counted = λ l h. counted-start ended l h;
-      }
+      })

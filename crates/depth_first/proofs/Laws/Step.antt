@@ -23,7 +23,6 @@ use Rattle.managers.specs.Core.{managerOf, steppedOf, effectOf}
 use Rattle.managers.specs.Steps.{Quietly, Leads, quiet, last}
 use Rattle.managers.specs.declared.Manager as code
 use Rattle.managers.specs.declared.Effect.{Effect}
-use Rattle.managers.specs.declared.Effect.the-variants.{Fork}
 use Rattle.managers.proofs.Laws.Leads.{step-counted, quiet-alike}
 use Rattle.model.specs.Fork as model
 use Rattle.model.specs.DepthFirst.{Progress, tallyAt, fieldNow, effected, finish, runFork}

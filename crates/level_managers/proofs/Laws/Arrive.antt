@@ -18,7 +18,8 @@ use Rattle.model.specs.Level.{Activity, idle, busy, Level, startedCount, arrive
 use Rattle.model.specs.Step.{State, levelAt}
 use Rattle.queues.specs.Queue.{forkOfRow, forksAt, ForksRise, Arrived}
 use Rattle.queues.proofs.Laws.Queue.{forks-length, fork-apart}
-use Rattle.level_managers.specs.Kept.{Words, nextPlace, waitingPlace, versionsPlace, busyPlace, Runs, LevelTold, Told}
+use Rattle.tallies.specs.Places.{nextPlace, waitingPlace, versionsPlace, busyPlace}
+use Rattle.level_managers.specs.Kept.{Words, Runs, LevelTold, Told}
 use Rattle.level_managers.specs.Steps.{startedOf}
 use Rattle.level_managers.proofs.Laws.Told.{Limited, SameAt, started-is, at-own, at-other, told-change}
 

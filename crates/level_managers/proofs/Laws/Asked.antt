@@ -24,9 +24,10 @@ use Rattle.model.specs.Level.{Activity, idle, busy, Level, isBusy, isEmpty, has
 use Rattle.model.specs.Step.{State, levelAt}
 use Rattle.model.specs.Schedule.{question14, question15, stepRefusal}
 use Rattle.model.proofs.Laws.Code.Progress.{refusal-absent, refusal-idle, refusal-blocked, refusal-none, allowed}
-use Rattle.level_managers.specs.Kept.{Words, nextPlace, waitingPlace, versionsPlace, busyPlace, clearPlace, Runs, LevelTold, Told, Says}
-use Rattle.level_managers.specs.Permits.{numberOfPermit, managed, clearOf, endedOf, isClear, permitOf}
-use Rattle.level_managers.specs.declared.tallies.Permit.{Permit}
+use Rattle.tallies.specs.Places.{nextPlace, waitingPlace, versionsPlace, busyPlace, clearPlace}
+use Rattle.level_managers.specs.Kept.{Words, Runs, LevelTold, Told, Says}
+use Rattle.tallies.specs.Permits.{numberOfPermit, managed, clearOf, endedOf, isClear, permitOf}
+use Rattle.tallies.specs.declared.Permit.{Permit}
 
 some-empty : (ws : List Fork) → ltb 0 (length ws) ≡ not (isEmpty ws)
 some-empty [] = refl

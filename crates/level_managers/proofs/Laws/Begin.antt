@@ -18,7 +18,8 @@ use Rattle.model.specs.Level.{idle, busy, Level, isBusy, startedCount, newest}
 use Rattle.model.specs.Step.{State, levelAt}
 use Rattle.queues.specs.Queue.{forkAt, forksAt, ForksRise}
 use Rattle.queues.proofs.Laws.Queue.{forks-first, rises-behind}
-use Rattle.level_managers.specs.Kept.{Words, nextPlace, waitingPlace, versionsPlace, busyPlace, tallyNumbers, LevelTold, Told, placed}
+use Rattle.tallies.specs.Places.{nextPlace, waitingPlace, versionsPlace, busyPlace, tallyNumbers}
+use Rattle.level_managers.specs.Kept.{Words, LevelTold, Told, placed}
 use Rattle.level_managers.specs.Steps.{begunTallies}
 use Rattle.level_managers.proofs.Laws.Told.{Limited, SameAt, at-own, at-other, told-change}
 use Rattle.level_managers.proofs.Laws.Settle.{placed-own, placed-other}

@@ -34,11 +34,13 @@ use Rattle.model.specs.Step.{State, levelAt, readAt, stepAt}
 use Rattle.model.specs.Schedule.{stepRefusal}
 use Rattle.model.proofs.Laws.Code.Live.{Live}
 use Rattle.model.proofs.Laws.Code.Progress.{allowed}
-use Rattle.records.specs.Histories.{HistoryIs, HistoryRoom, Added}
+use Rattle.records.specs.Histories.{HistoryIs, HistoryRoom}
 use Rattle.queues.specs.Queue.{forksAt, isDropped, ChildRow, Arrived}
 use Rattle.queues.proofs.Laws.Queue.{dropped-arrives}
 use Rattle.queues.proofs.Laws.Row.{Fits, row-there}
-use Rattle.level_managers.specs.Kept.{Words, nextPlace, waitingPlace, busyPlace, tallyNumbers, Says, placed}
+use Rattle.tallies.specs.Places.{nextPlace, waitingPlace, busyPlace, tallyNumbers}
+use Rattle.tallies.specs.Places as counted
+use Rattle.level_managers.specs.Kept.{Words, Says, placed}
 use Rattle.level_managers.specs.Steps.{Read, Busy, runningFork, WriteReady, Wrote, startedOf, ForkReady, Forked, EffectReady, Parts, EffectDone, forksAfter, PerformReady, Performed, SettleReady, Settled, CoreSettled, begunTallies, StepDone, StartReady, Started}
 use Rattle.level_managers.proofs.Laws.Ready.{told-rests, told-runs, waits-some, start-ready, busy-settles, effect-ready, settle-after}
 use Rattle.level_managers.proofs.Laws.Script.{Blank, RunsAt, ScriptStep}
@@ -163,11 +165,11 @@ module _ (ended tallies queue : List ℕ) (l : ℕ) (c : Core) where
           ended = ap (λ h. isRunning (h .ending)) is ∙ over;
         }
 
-    pub core-off : (ended' : List ℕ) → Added ended ended' l (getD tallies l 0) h → CoreSettled ended ended' tallies (set (set (set tallies l (getD tallies l 0 + 1)) (nextPlace l) (h .last + 1)) (busyPlace l) 0) queue l c
-    core-off ended' added fs =
+    pub core-off : (ended' tallies' : List ℕ) → counted.Closed l h ended ended' tallies tallies' → CoreSettled ended ended' tallies (set tallies' (busyPlace l) 0) queue l c
+    core-off ended' tallies' z fs =
         let last : h .last ≡ c .first + c .forks = ap (λ h. h .last) is in (
           λ e. absurd (not-both (isRunning (c .ending)) e over),
-          λ _. record { history = h; history-is = rw (stamped 0) (kept-is fs); added = added; tallies-are = rw last refl },
+          λ _. record { history = h; history-is = rw (stamped 0) (kept-is fs); added = z .added; tallies-are = rw (z .counted, last) refl },
         )
 
 pub settled-of : {ended ended' tallies tallies' queue : List ℕ} {l : ℕ} (m : code.Manager) → CoreSettled ended ended' tallies tallies' queue l (m .core) → Settled ended ended' tallies tallies' queue l (managerOf m)

@@ -29,7 +29,8 @@ use Rattle.records.specs.Histories.{historiesAt}
 use Rattle.versions.specs.Log.{maxVersions, logStart, logOf, Within}
 use Rattle.versions.specs.Order.{StampsRise}
 use Rattle.versions.proofs.Laws.Order.{stamps-rise}
-use Rattle.level_managers.specs.Kept.{Words, versionsPlace, LevelTold}
+use Rattle.tallies.specs.Places.{versionsPlace}
+use Rattle.level_managers.specs.Kept.{Words, LevelTold}
 use Rattle.level_managers.specs.Steps.{Busy, IsBusy, runningFork, BoundReady, boundIn, foundIn, ReadIs}
 use Rattle.level_managers.proofs.Laws.Ready.{told-fork, busy-settles}
 use Rattle.level_managers.proofs.Laws.Step.{says-live}

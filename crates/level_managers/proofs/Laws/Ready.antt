@@ -25,7 +25,8 @@ use Rattle.model.specs.Step.{State, levelAt}
 use Rattle.model.proofs.Laws.Code.Live.{Live}
 use Rattle.model.proofs.Laws.Code.Needs.{live-startable, live-write, live-fork}
 use Rattle.queues.specs.Queue.{forkOfRow, forkAt}
-use Rattle.level_managers.specs.Kept.{Words, waitingPlace, versionsPlace, busyPlace, Runs, LevelTold, Roomy, Told}
+use Rattle.tallies.specs.Places.{waitingPlace, versionsPlace, busyPlace}
+use Rattle.level_managers.specs.Kept.{Words, Runs, LevelTold, Roomy, Told}
 use Rattle.level_managers.specs.Steps.{Parts, runningFork, EffectReady, EffectDone, SettleReady, StartReady}
 use Rattle.level_managers.proofs.Laws.Told.{Limited, started-is, busy-fewer}
 use Rattle.level_managers.proofs.Laws.Settle.{stamp-any}

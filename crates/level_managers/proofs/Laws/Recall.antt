@@ -20,7 +20,8 @@ use Rattle.records.specs.Histories.{historiesAt}
 use Rattle.queues.specs.Queue.{forkAt}
 use Rattle.queues.proofs.Laws.Queue.{fork-apart}
 use Rattle.versions.specs.Log.{maxVersions, logStart, logOf}
-use Rattle.level_managers.specs.Kept.{Words, waitingPlace, versionsPlace}
+use Rattle.tallies.specs.Places.{waitingPlace, versionsPlace}
+use Rattle.level_managers.specs.Kept.{Words}
 use Rattle.level_managers.specs.Steps.{foundIn, Wrote, Forked}
 
 -- field k of object o is read at level j, another than that of the manager, l

@@ -6,7 +6,7 @@ use mathlib.Core.List.{List}
 use native.Mathlib.Decide.{ℕ-discrete}
 use native.Mathlib.Omega.{arith}
 use borrow.Author.Tests.{eq-eqb, ne-eqb}
-use lib.ListN.{length, getD, set, length-set}
+use lib.ListN.{length, getD, length-set}
 use lib.Seq.{getD-set-same, getD-set-other}
 use Rattle.session.specs.Limits.{maxLevels, fields}
 use Rattle.session.specs.Parts.{levelCount, objectCount}
@@ -24,7 +24,9 @@ use Rattle.model.specs.Step.{State, levelAt}
 use Rattle.model.proofs.Laws.Invariant.Measure.{inserted-length}
 use Rattle.records.specs.Histories.{historiesAt, InOrder, historyOf}
 use Rattle.queues.specs.Queue.{forkOfRow, forkAt, forksAt}
-use Rattle.level_managers.specs.Kept.{Words, nextPlace, waitingPlace, versionsPlace, busyPlace, tallyNumbers, Runs, LevelTold, Told, placed}
+use Rattle.tallies.specs.Places.{nextPlace, waitingPlace, versionsPlace, busyPlace, tallyNumbers, tallied}
+use Rattle.tallies.proofs.Laws.Closed.{tallied-length, tallied-other, tallied-count, tallied-next}
+use Rattle.level_managers.specs.Kept.{Words, Runs, LevelTold, Told, placed}
 use Rattle.level_managers.specs.Steps.{Closed, Settled}
 use Rattle.level_managers.proofs.Laws.Told.{Limited, SameAt, busy-fewer, at-own, at-other, told-change}
 
@@ -158,36 +160,36 @@ module _ (s : List ℕ) (w : Words) (ms : ℕ → Manager) (st : State) (t : Tol
 
   -- it has ended
   module _ (e : isRunning (m .ending) ≡ false) (c : Closed (w .ended) ended' (w .tallies) tallies' (w .queue) l m) where
-    abbrev t1 : List ℕ
-    t1 = set (w .tallies) l (getD (w .tallies) l 0 + 1)
+    abbrev one : ℕ
+    one = getD (w .tallies) l 0 + 1
 
     abbrev t2 : List ℕ
-    t2 = set t1 (nextPlace l) (m .stamp + 1)
+    t2 = tallied l one (m .stamp + 1) (w .tallies)
+
+    small : l < maxLevels
+    small = omega (arith, h, few)
 
     tally-other : (j : ℕ) → (j ≡ l → ⊥) → (j ≡ nextPlace l → ⊥) → (j ≡ busyPlace l → ⊥) → getD tallies' j 0 ≡ getD (w .tallies) j 0
     tally-other j d1 d2 d3 =
         ap (λ t. getD t j 0) (c .tallies-are)
         ∙ getD-set-other t2 (busyPlace l) j 0 0 d3
-        ∙ getD-set-other t1 (nextPlace l) j (m .stamp + 1) 0 d2
-        ∙ getD-set-other (w .tallies) l j (getD (w .tallies) l 0 + 1) 0 d1
+        ∙ tallied-other l one (m .stamp + 1) (w .tallies) j d1 d2
 
     long : tallyNumbers ≤ length t2
-    long =
-        rw (length-set t1 (nextPlace l) (m .stamp + 1), length-set (w .tallies) l (getD (w .tallies) l 0 + 1)) (t .roomy .tallies)
+    long = rw (tallied-length l one (m .stamp + 1) (w .tallies)) (t .roomy .tallies)
 
     tally-ended : getD tallies' l 0 ≡ length (v .ended) + 1
     tally-ended =
         ap (λ t. getD t l 0) (c .tallies-are)
         ∙ getD-set-other t2 (busyPlace l) l 0 0 (λ q. omega (arith, q, h, few))
-        ∙ getD-set-other t1 (nextPlace l) l (m .stamp + 1) 0 (λ q. omega (arith, q, h, few))
-        ∙ getD-set-same (w .tallies) l (getD (w .tallies) l 0 + 1) 0 (omega (arith, t .roomy .tallies, h, few))
+        ∙ tallied-count l one (m .stamp + 1) (w .tallies) small (t .roomy .tallies)
         ∙ ap (λ k. k + 1) (t .level l h .ended-count)
 
     tally-next : getD tallies' (nextPlace l) 0 ≡ m .stamp + 1
     tally-next =
         ap (λ t. getD t (nextPlace l) 0) (c .tallies-are)
         ∙ getD-set-other t2 (busyPlace l) (nextPlace l) 0 0 (λ q. omega (arith, q, h, few))
-        ∙ getD-set-same t1 (nextPlace l) (m .stamp + 1) 0 (rw (length-set (w .tallies) l (getD (w .tallies) l 0 + 1)) (omega (arith, t .roomy .tallies, h, few)))
+        ∙ tallied-next l one (m .stamp + 1) (w .tallies) small (t .roomy .tallies)
 
     tally-busy : getD tallies' (busyPlace l) 0 ≡ 0
     tally-busy =

@@ -32,7 +32,8 @@ use Rattle.model.proofs.Laws.Code.Live.{Live, present}
 use Rattle.model.proofs.Laws.Code.Needs.{live-fork}
 use Rattle.model.proofs.Laws.Code.Progress.{clear-stays, leads-more, leads-live}
 use Rattle.queues.specs.Queue.{forkAt}
-use Rattle.level_managers.specs.Kept.{Words, nextPlace, waitingPlace, versionsPlace, busyPlace, clearPlace, Told, Says, placed}
+use Rattle.tallies.specs.Places.{nextPlace, waitingPlace, versionsPlace, busyPlace, clearPlace}
+use Rattle.level_managers.specs.Kept.{Words, Told, Says, placed}
 use Rattle.level_managers.specs.Steps.{Parts, EffectDone, Settled, begunTallies, Started}
 use Rattle.level_managers.proofs.Laws.Told.{Limited, at-own, at-other}
 use Rattle.level_managers.proofs.Laws.Settle.{placed-own, placed-other, told-settle}

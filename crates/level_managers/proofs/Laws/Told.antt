@@ -23,7 +23,8 @@ use Rattle.rows.specs.Rows.{rowsAt}
 use Rattle.queues.specs.Queue.{forkWords, forkPlace, forkAt, ForksRise}
 use Rattle.queues.proofs.Laws.Queue.{forks-same}
 use Rattle.versions.specs.Log.{maxVersions, logStart, logOf}
-use Rattle.level_managers.specs.Kept.{Words, nextPlace, waitingPlace, versionsPlace, busyPlace, Runs, LevelTold, Roomy, Told}
+use Rattle.tallies.specs.Places.{nextPlace, waitingPlace, versionsPlace, busyPlace}
+use Rattle.level_managers.specs.Kept.{Words, Runs, LevelTold, Roomy, Told}
 use Rattle.level_managers.specs.Steps.{startedOf}
 
 -- a level within its limits

@@ -5,7 +5,7 @@ use mathlib.Core.List.{List, _∷_}
 use native.Mathlib.Decide.{ℕ-discrete}
 use native.Mathlib.Omega.{arith}
 use borrow.Author.Tests.{eq-eqb, ne-eqb}
-use lib.ListN.{length, getD, set, length-set}
+use lib.ListN.{length, getD, length-set}
 use lib.Seq.{getD-set-same, getD-set-other}
 use Rattle.session.specs.Limits.{maxLevels, fields}
 use Rattle.session.specs.Parts.{levelCount, objectCount}
@@ -17,7 +17,8 @@ use Rattle.model.specs.Lists.{modify}
 use Rattle.model.specs.Level.{Version, Activity, idle, busy, Level, newest}
 use Rattle.model.specs.Step.{State, levelAt}
 use Rattle.versions.specs.Log.{logStart, logOf}
-use Rattle.level_managers.specs.Kept.{Words, nextPlace, waitingPlace, versionsPlace, busyPlace, Runs, LevelTold, Told}
+use Rattle.tallies.specs.Places.{nextPlace, waitingPlace, versionsPlace, busyPlace}
+use Rattle.level_managers.specs.Kept.{Words, Runs, LevelTold, Told}
 use Rattle.level_managers.specs.Steps.{Wrote}
 use Rattle.level_managers.proofs.Laws.Told.{Limited, SameAt, at-own, at-other, told-change}
 

@@ -39,7 +39,8 @@ use Rattle.managers.specs.declared.Manager as code
 use Rattle.model.specs.Fork.{Fork}
 use Rattle.model.specs.Step.{State, readAt}
 use Rattle.model.proofs.Laws.Code.Needs.{live-runs, live-fork}
-use Rattle.level_managers.specs.Kept.{Words, waitingPlace, versionsPlace, busyPlace, placed}
+use Rattle.tallies.specs.Places.{waitingPlace, versionsPlace, busyPlace}
+use Rattle.level_managers.specs.Kept.{Words, placed}
 use Rattle.level_managers.specs.Steps.{Read, IsBusy, foundIn, Answered, Parts, EffectReady, EffectDone, PerformReady, Performed, SettleReady}
 use Rattle.scheduler.specs.Runs.{SameRest}
 use Rattle.scheduler.specs.Running.{Draining, Recalls, OutsideReady, OutsideDone}

@@ -36,8 +36,9 @@ use Rattle.model.proofs.Laws.Code.Direct.{step-advance}
 use Rattle.words.specs.Fields.{fieldAt, knownAt}
 use Rattle.words.specs.Reads.{Sees}
 use Rattle.managers.specs.Steps.{Quietly}
-use Rattle.level_managers.specs.Kept.{Words, busyPlace, Runs, LevelTold, Says, placed}
-use Rattle.level_managers.specs.Permits.{managed}
+use Rattle.tallies.specs.Places.{busyPlace}
+use Rattle.level_managers.specs.Kept.{Words, Runs, LevelTold, Says, placed}
+use Rattle.tallies.specs.Permits.{managed}
 use Rattle.level_managers.specs.Steps.{Busy, Parts, EffectReady, EffectDone, Settled}
 use Rattle.scheduler.specs.Running.{Draining, Recalls}
 use Rattle.level_managers.proofs.Laws.Reads.{found-in}

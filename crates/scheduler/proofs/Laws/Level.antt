@@ -18,7 +18,7 @@ use Rattle.model.proofs.Laws.Order.Accepted.{sound}
 use Rattle.model.proofs.Laws.Code.Live.{Live, present}
 use Rattle.model.proofs.Laws.Code.Progress.{allowed, refusal-none, unmanaged-idle, activity-stays, clear-stays, leads-none, leads-more}
 use Rattle.level_managers.specs.Kept.{Words, LevelTold, Says, placed}
-use Rattle.level_managers.specs.Permits.{managed}
+use Rattle.tallies.specs.Permits.{managed}
 use Rattle.scheduler.specs.Runs.{Rests, SameRest, LevelReady, LevelRun, LevelDone}
 use Rattle.scheduler.specs.Running.{Draining}
 use Rattle.level_managers.proofs.Laws.Told.{told-idle}

@@ -34,14 +34,15 @@ use Rattle.model.proofs.Laws.Order.Accepted.{sound}
 use Rattle.model.proofs.Laws.Order.PlainRun.{read-in-total}
 use Rattle.model.proofs.Laws.Invariant.Tame.{total, step-less}
 use Rattle.model.proofs.Laws.Code.Progress.{allowed, run-made, run-stops, run-ends, run-unended}
-use Rattle.level_managers.specs.Kept.{Words, busyPlace, clearPlace, tallyNumbers, Says, placed}
-use Rattle.level_managers.specs.Permits.{numberOfPermit, busyIn, endedOf, permitOf, noted, Countable}
+use Rattle.tallies.specs.Places.{busyPlace, clearPlace, tallyNumbers}
+use Rattle.level_managers.specs.Kept.{Words, Says, placed}
+use Rattle.tallies.specs.Permits.{numberOfPermit, busyIn, endedOf, permitOf, noted, Countable}
 use Rattle.level_managers.specs.Steps.{Read, IsBusy, TellReady, Answered, PerformReady, SettleReady, StepDone, StartReady, Started}
 use Rattle.scheduler.specs.Runs.{startOf, Rests, SameRest, Ends}
 use Rattle.scheduler.specs.declared.Outcome.{Outcome}
 use Rattle.scheduler.specs.declared.Outcome.the-variants as outcome
-use Rattle.level_managers.specs.declared.tallies.Permit.{Permit}
-use Rattle.level_managers.specs.declared.tallies.Permit.the-variants.{Given, Absent, Idle, Blocked}
+use Rattle.tallies.specs.declared.Permit.{Permit}
+use Rattle.tallies.specs.declared.Permit.the-variants.{Given, Absent, Idle, Blocked}
 use Rattle.level_managers.proofs.Laws.Settle.{placed-own, placed-other}
 use Rattle.level_managers.proofs.Laws.Step.{says-live, told-held}
 use Rattle.level_managers.proofs.Laws.Script.{Blank, Fresh, ScriptStep, able, step-made, asks-busy, asks-told, again-able, again-forgets, again-made}

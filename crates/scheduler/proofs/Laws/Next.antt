@@ -27,8 +27,9 @@ use Rattle.model.specs.Limits.{maxManagers}
 use Rattle.model.specs.Level.{idle, hasManager}
 use Rattle.model.specs.Step.{State, levelAt}
 use Rattle.model.proofs.Laws.Code.Progress.{allowed}
-use Rattle.level_managers.specs.Kept.{Words, nextPlace, waitingPlace, busyPlace, tallyNumbers, Roomy, Runs, placed}
-use Rattle.level_managers.specs.Permits.{managed}
+use Rattle.tallies.specs.Places.{nextPlace, waitingPlace, busyPlace, tallyNumbers}
+use Rattle.level_managers.specs.Kept.{Words, Roomy, Runs, placed}
+use Rattle.tallies.specs.Permits.{managed}
 use Rattle.level_managers.specs.Steps.{Read, Parts, SettleReady, Closed, Settled, CoreSettled, begunTallies, StartReady, Started}
 use Rattle.scheduler.specs.Runs.{SameRest, LevelReady, LevelDone}
 use Rattle.scheduler.specs.Running.{Draining, Recalls, OutsideReady, OutsideDone, NextReady, NextDone}

@@ -25,11 +25,12 @@ use Rattle.model.proofs.Laws.Invariant.Measure.{left, cost}
 use Rattle.model.proofs.Laws.Invariant.Tame.{total, step-less}
 use Rattle.model.proofs.Laws.Code.Live.{Live, live-step}
 use Rattle.model.proofs.Laws.Code.Progress.{allowed, all-ended, leads-none, leads-run}
-use Rattle.level_managers.specs.Kept.{Words, clearPlace, Says}
-use Rattle.level_managers.specs.Permits.{numberOfPermit, permitOf, noted, Countable, isGiven}
+use Rattle.tallies.specs.Places.{clearPlace}
+use Rattle.level_managers.specs.Kept.{Words, Says}
+use Rattle.tallies.specs.Permits.{numberOfPermit, permitOf, noted, Countable, isGiven}
 use Rattle.scheduler.specs.Runs.{startOf, Rests, SameRest, LevelReady, LevelDone, Done}
-use Rattle.level_managers.specs.declared.tallies.Permit.{Permit}
-use Rattle.level_managers.specs.declared.tallies.Permit.the-variants.{Given, Absent, Idle, Blocked}
+use Rattle.tallies.specs.declared.Permit.{Permit}
+use Rattle.tallies.specs.declared.Permit.the-variants.{Given, Absent, Idle, Blocked}
 use Rattle.level_managers.proofs.Laws.Step.{says-live}
 use Rattle.level_managers.proofs.Laws.Asked.{asked-is, wordsNoted, noted-says}
 use Rattle.scheduler.proofs.Laws.Listed.{anyManager}

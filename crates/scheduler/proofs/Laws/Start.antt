@@ -1,15 +1,10 @@
 -- The words of a run once its session is read in: nothing has started, ended or been written, and the root's fork waits. Assumes nothing.
-use Prim.Native.Nat.{ℕ, zero, suc, _+_, _-_, _*_, _<_}
+use Prim.Native.Nat.{ℕ, _+_, _<_}
 use mathlib.Core.Path.{_≡_, refl, sym, _∙_, ap, ap₂}
-use mathlib.Core.Bool.{true}
 use mathlib.Core.List.{List, [], _++_}
 use native.Mathlib.Omega.{arith}
-use borrow.Author.Tests.{eqb-true}
-use lib.Dec.{eqb}
 use lib.ListN.{length, getD, set, drop, replicate, length-replicate, getD-replicate}
 use lib.Seq.{getD-set-other}
-use Rattle.lattice.specs.Range.{all}
-use Rattle.lattice.proofs.Laws.Range.{all-each}
 use Rattle.session.specs.Limits.{maxLevels, maxMethods, fields}
 use Rattle.session.specs.Lists.{risingFrom}
 use Rattle.session.specs.Parts.{levelCount, objectCount}
@@ -36,26 +31,13 @@ use Rattle.queues.specs.Queue.{forkOfRow, RootRow, Room, Arrived}
 use Rattle.queues.proofs.Laws.Queue.{forks-none, rises-none}
 use Rattle.versions.specs.Log.{logStart}
 use Rattle.versions.proofs.Laws.Log.{log-none}
-use Rattle.level_managers.specs.Kept.{Words, nextPlace, waitingPlace, versionsPlace, busyPlace, clearPlace, LevelTold, Roomy, Told}
-use Rattle.scheduler.specs.Runs.{startOf, Rests, startTallies, Fresh, ReadIn}
+use Rattle.tallies.specs.Places.{nextPlace, waitingPlace, versionsPlace, busyPlace, clearPlace, startTallies}
+use Rattle.level_managers.specs.Kept.{Words, LevelTold, Roomy, Told}
+use Rattle.scheduler.specs.Runs.{startOf, Rests, Fresh, ReadIn}
+use Rattle.tallies.proofs.Laws.First.{first-ended, first-next, first-waiting, first-versions, first-busy, first-clear}
 use Rattle.level_managers.proofs.Laws.Told.{Limited}
 use Rattle.level_managers.proofs.Laws.Arrive.{told-arrive}
 use Rattle.level_managers.proofs.Laws.Advance.{told-state}
-
--- what is counted, with the first write stamps of n levels
-abbrev pub firstStamps : ℕ → List ℕ
-firstStamps n = replicate maxLevels 0 ++ replicate n 1 ++ replicate (5 * maxLevels - n) 0
-
-pub stamps-more : (n : ℕ) → n < maxLevels → set (firstStamps n) (maxLevels + n) 1 ≡ firstStamps (n + 1)
-stamps-more zero h = refl
-stamps-more (suc zero) h = refl
-stamps-more (suc (suc zero)) h = refl
-stamps-more (suc (suc (suc zero))) h = refl
-stamps-more (suc (suc (suc (suc zero)))) h = refl
-stamps-more (suc (suc (suc (suc (suc zero))))) h = refl
-stamps-more (suc (suc (suc (suc (suc (suc zero)))))) h = refl
-stamps-more (suc (suc (suc (suc (suc (suc (suc zero))))))) h = refl
-stamps-more (suc (suc (suc (suc (suc (suc (suc (suc n)))))))) h = absurd (omega arith)
 
 none-rises : InOrder []
 unfolding risingFrom
@@ -97,21 +79,18 @@ module _ (s : List ℕ) (a : verdictOf s ≡ Accepted) where
 
   -- words that no run has used, but for the fields
   module _ (w : Words) (roomy : Roomy w) (counts : w .tallies ≡ startTallies) (fresh : List ℕ) (filled : Filled s fresh (w .current)) where
-    -- the same is counted of every level
-    at-first : (place : ℕ → ℕ) (n : ℕ) → all maxLevels (λ l. eqb (getD startTallies (place l) 0) n) ≡ true → (l : ℕ) → l < maxLevels → getD (w .tallies) (place l) 0 ≡ n
-    at-first place n q l h = ap (λ t. getD t (place l) 0) counts ∙ eqb-true _ n (all-each maxLevels _ q l h)
+    -- what is counted is what is counted first
+    at-first : {n : ℕ} (place : ℕ) → getD startTallies place 0 ≡ n → getD (w .tallies) place 0 ≡ n
+    at-first place e = ap (λ t. getD t place 0) counts ∙ e
 
     ended-first : (l : ℕ) → l < maxLevels → getD (w .tallies) l 0 ≡ 0
-    ended-first = at-first (λ l. l) 0 (unfold all in refl)
+    ended-first l h = at-first l (first-ended l h)
 
     waiting-first : (l : ℕ) → l < maxLevels → getD (w .tallies) (waitingPlace l) 0 ≡ 0
-    waiting-first = at-first waitingPlace 0 (unfold all in refl)
+    waiting-first l h = at-first (waitingPlace l) (first-waiting l h)
 
     busy-first : (l : ℕ) → l < maxLevels → getD (w .tallies) (busyPlace l) 0 ≡ 0
-    busy-first = at-first busyPlace 0 (unfold all in refl)
-
-    clear-first : (l : ℕ) → l < maxLevels → getD (w .tallies) (clearPlace l) 0 ≡ 0
-    clear-first = at-first clearPlace 0 (unfold all in refl)
+    busy-first l h = at-first (busyPlace l) (first-busy l h)
 
     level-none : (l : ℕ) (m : Manager) → l < maxLevels → LevelTold (levelCount s) w l m newLevel
     level-none l m h =
@@ -119,11 +98,11 @@ module _ (s : List ℕ) (a : verdictOf s ≡ Accepted) where
           ended-count = ended-first l h;
           ended = histories-none (w .ended) l;
           ended-rises = none-rises;
-          next = at-first nextPlace 1 (unfold all in refl) l h;
+          next = at-first (nextPlace l) (first-next l h);
           waiting-count = waiting-first l h;
           waiting = forks-none (levelCount s) (w .queue) l 0;
           waiting-rises = rises-none (w .queue) l 0;
-          version-count = at-first versionsPlace 0 (unfold all in refl) l h;
+          version-count = at-first (versionsPlace l) (first-versions l h);
           versions = log-none (w .work) (logStart l);
           activity = busy-first l h;
         }
@@ -170,7 +149,7 @@ module _ (s : List ℕ) (a : verdictOf s ≡ Accepted) where
       none-clear : (l : ℕ) → l < levelCount s → getD tallies (clearPlace l) 0 ≡ 0
       none-clear l h =
           getD-set-other (w .tallies) (waitingPlace level) (clearPlace l) count 0 (λ e. omega (arith, e, small))
-          ∙ clear-first l (omega (arith, h, level-limit s a))
+          ∙ at-first (clearPlace l) (first-clear l (omega (arith, h, level-limit s a)))
 
       rests-start : Rests s words (startOf s)
       rests-start =

@@ -23,8 +23,8 @@ not-finished (variant.Refused n p) h e = absurd (not-both (isFinished variant.Fi
     isFinished variant.Finished = true
     isFinished (variant.Refused n p) = false
 
-first-tallies-requires : tie.Need-first-tallies-requires
-first-tallies-requires c = search needs
+first-requires : tie.Need-first-requires
+first-requires c = search needs
 
 slice-aggregate-read-in : tie.Need-slice-aggregate-read-in
 slice-aggregate-read-in c = search needs
@@ -117,7 +117,7 @@ pub run-accepted-spec : {M : Type 1} → statement M
 run-accepted-spec =
     tie.close
     (tie.spec
-    first-tallies-requires
+    first-requires
     slice-aggregate-read-in
     slice-aggregate-read-in-2
     slice-aggregate-read-in-3

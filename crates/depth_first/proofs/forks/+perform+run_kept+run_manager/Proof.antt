@@ -27,7 +27,7 @@ use Rattle.depth_first.proofs.forks.+perform+run_kept+run_manager.Lts-r
 use Rattle.depth_first.proofs.forks.run_manager.Reads as run-manager
 use Rattle.depth_first.proofs.forks.run_manager.Kinds as run-manager-kinds
 use Rattle.depth_first.proofs.forks.+perform+run_kept+run_manager.Lts-run_manager as run-manager-lts
-use Rattle.depth_first.proofs.forks.close.Reads as close-reads
+use Rattle.tallies.proofs.close.Reads as close-reads
 use Rattle.managers.proofs.Core.ended.Reads as ended-reads
 use Rattle.managers.proofs.Manager.advance.Reads as advance-reads
 use Rattle.managers.proofs.Manager.start.Reads as start-reads

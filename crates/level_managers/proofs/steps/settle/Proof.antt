@@ -1,7 +1,5 @@
 -- `level_managers::steps::settle` meets its contract: of a manager that has ended the history is kept, and it counts as ended; one that runs on changes nothing. Assumes nothing.
 use mathlib.Core.Path.{sym, _∙_}
-use native.Mathlib.Omega.{arith}
-use lib.ListN.{length-set}
 use borrow.Author.Needs.{needs}
 use Rattle.level_managers.proofs.Laws.Made.{core-on, core-room, core-off}
 use Rattle.level_managers.proofs.steps.settle.Statement.{statement}
@@ -15,11 +13,11 @@ returns c =
     let z = c .before .before .before .before .before in
     core-on (z .args .ended .now) (z .args .tallies .now) (z .args .queue .now) (z .args .level) (z .args .core) (sym (c .before .is-running .ensures) ∙ c .if1 .taken)
 
-mul-count : tie.Need-mul-count
-mul-count c = search needs
+mul-stamp-at : tie.Need-mul-stamp-at
+mul-stamp-at c = search needs
 
-slice-read-count : tie.Need-slice-read-count
-slice-read-count c = search needs
+slice-read-stamp-at : tie.Need-slice-read-stamp-at
+slice-read-stamp-at c = search needs
 
 stamp-at-requires : tie.Need-stamp-at-requires
 stamp-at-requires c κs = search needs
@@ -27,12 +25,14 @@ stamp-at-requires c κs = search needs
 ended-requires : tie.Need-ended-requires
 ended-requires c κs = search needs
 
-add-requires : tie.Need-add-requires
-add-requires c κs =
-    let at = c .before in
+close-requires : tie.Need-close-requires
+close-requires c κs =
+    let at = c .before .before in
     let z = at .before .before .before .before .before .before .before .before in
-    let stamp = at .before .stamp-at in
-    core-room (z .args .ended .now) (z .args .tallies .now) (z .args .queue .now) (z .args .level) (z .args .core) (stamp .result) (at .ended .result) (sym (at .before .before .before .before .is-running .ensures) ∙ at .before .before .before .if1 .left) (stamp .ensures) (at .ended .ensures) (z .pre .0)
+    let stamp = at .before .stamp-at in (
+      core-room (z .args .ended .now) (z .args .tallies .now) (z .args .queue .now) (z .args .level) (z .args .core) (stamp .result) (at .ended .result) (sym (at .before .before .before .before .is-running .ensures) ∙ at .before .before .before .if1 .left) (stamp .ensures) (at .ended .ensures) (z .pre .0),
+      z .pre .0 .counted,
+    )
 
 add-tallies : tie.Need-add-tallies
 add-tallies c = search needs
@@ -43,30 +43,6 @@ mul-tallies c = search needs
 slice-write-tallies : tie.Need-slice-write-tallies
 slice-write-tallies c = search needs
 
-cast-tallies : tie.Need-cast-tallies
-cast-tallies c = search needs
-
-add-tallies-2 : tie.Need-add-tallies-2
-add-tallies-2 c = search needs
-
-add-tallies-3 : tie.Need-add-tallies-3
-add-tallies-3 c = search needs
-
-mul-tallies-2 : tie.Need-mul-tallies-2
-mul-tallies-2 c = search needs
-
-slice-write-tallies-2 : tie.Need-slice-write-tallies-2
-slice-write-tallies-2 c = simp length-set (omega arith)
-
-add-tallies-4 : tie.Need-add-tallies-4
-add-tallies-4 c = search needs
-
-mul-tallies-3 : tie.Need-mul-tallies-3
-mul-tallies-3 c = search needs
-
-slice-write-tallies-3 : tie.Need-slice-write-tallies-3
-slice-write-tallies-3 c = simp length-set (omega arith)
-
 same-length : tie.Need-same-length
 same-length c = search needs
 
@@ -75,11 +51,11 @@ same-length-2 c = search needs
 
 returns-2 : tie.Need-returns-2
 returns-2 c =
-    let at = c .before .before .before .before .before in
+    let at = c .before .before .before .before .before .before .before in
     let z = at .before .before .before .before .before .before .before .before in
     let stamp = at .before .stamp-at in
-    let called = c .before .before .before .add in
-    core-off (z .args .ended .now) (z .args .tallies .now) (z .args .queue .now) (z .args .level) (z .args .core) (stamp .result) (at .ended .result) (sym (at .before .before .before .before .is-running .ensures) ∙ at .before .before .before .if1 .left) (stamp .ensures) (at .ended .ensures) (called .last .0) (called .ensures)
+    let called = c .before .before .before .before .close in
+    core-off (z .args .ended .now) (z .args .tallies .now) (z .args .queue .now) (z .args .level) (z .args .core) (stamp .result) (at .ended .result) (sym (at .before .before .before .before .is-running .ensures) ∙ at .before .before .before .if1 .left) (stamp .ensures) (at .ended .ensures) (called .last .0) (called .last .1 .0) (called .ensures)
 
 pub settle-spec : {M : Type 1} → statement M
 settle-spec =
@@ -87,22 +63,14 @@ settle-spec =
     (tie.spec
     is-running-requires
     returns
-    mul-count
-    slice-read-count
+    mul-stamp-at
+    slice-read-stamp-at
     stamp-at-requires
     ended-requires
-    add-requires
+    close-requires
     add-tallies
     mul-tallies
     slice-write-tallies
-    cast-tallies
-    add-tallies-2
-    add-tallies-3
-    mul-tallies-2
-    slice-write-tallies-2
-    add-tallies-4
-    mul-tallies-3
-    slice-write-tallies-3
     same-length
     same-length-2
     returns-2)

@@ -23,10 +23,10 @@ use Rattle.managers.specs.declared.Effect.the-variants.{Nothing}
 use Rattle.managers.specs.declared.Manager.{Manager}
 use Rattle.managers.proofs.Effect as effect
 use Rattle.level_managers.specs.Kept.{Words}
-use Rattle.level_managers.specs.Permits.{isGiven}
-use Rattle.level_managers.specs.declared.tallies.Permit.{Permit}
-use Rattle.level_managers.specs.declared.tallies.Permit.the-variants.{Given, Absent, Idle, Blocked}
-use Rattle.level_managers.proofs.tallies.Permit as permit
+use Rattle.tallies.specs.Permits.{isGiven}
+use Rattle.tallies.specs.declared.Permit.{Permit}
+use Rattle.tallies.specs.declared.Permit.the-variants.{Given, Absent, Idle, Blocked}
+use Rattle.tallies.proofs.Permit as permit
 use Rattle.level_managers.proofs.Laws.Script.{asking}
 use Rattle.scheduler.proofs.Laws.Listed.{ListLoop, list-start, list-counted, list-fits, list-finished, list-unended, list-refused, Permitted, permitted, list-present, list-numbers, list-starts, list-started, list-able, list-made, list-tells, list-able-told, list-forgets, list-answered, list-performs, list-done}
 use Rattle.scheduler.proofs.timetable.run.Statement.{statement}

@@ -1,15 +1,34 @@
-// What is counted of each level, in 48 lent numbers; and questions 12 to 15, which look at these alone.
-//
-// Of level l number l is how many managers have ended there; 8 + l the write stamp of the next one;
-// 16 + l how many forks wait; 24 + l how many versions there are; 32 + l is 1 while a manager runs;
-// 40 + l is 1 once question 14 has said yes of the level: from then on it always says so.
-
+// What is counted of each level, in lent numbers of one layout for every run; and questions 12 to 15, which
+// look at these alone.
+use records::histories;
+use scripts::Ended;
+use session::limits::MAX_LEVELS;
 ghost use mathlib.Core.Path.{_≡_};
 ghost use Prim.Native.Nat.{_≤_, _<_};
-ghost use lib.ListN.{length};
+ghost use lib.ListN.{length, getD};
 ghost use Rattle.session.specs.Limits.{maxLevels};
-ghost use Rattle.level_managers.specs.Kept.{tallyNumbers};
-ghost use Rattle.level_managers.specs.Permits.{busyIn, managed, clearOf, endedOf, permitOf, noted, Countable};
+ghost use Rattle.records.specs.Histories.{HistoryRoom};
+ghost use Rattle.tallies.specs.Places.{tallyNumbers, startTallies, Closed};
+ghost use Rattle.tallies.specs.Permits.{busyIn, managed, clearOf, endedOf, permitOf, noted, Countable};
+
+// Where the parts stand, a number for each level in each. How many managers have ended at a level stands at
+// its own number, where `records::write` looks for it. Then the write stamp of its next manager.
+pub const NEXT: usize = MAX_LEVELS;
+
+// How many forks wait.
+pub const WAITING: usize = 2 * MAX_LEVELS;
+
+// How many versions there are.
+pub const VERSIONS: usize = 3 * MAX_LEVELS;
+
+// 1 while a manager runs.
+pub const RUNNING: usize = 4 * MAX_LEVELS;
+
+// 1 once question 14 has said yes of the level: from then on it always says so.
+pub const CLEAR: usize = 5 * MAX_LEVELS;
+
+// How many numbers there are.
+pub const TALLIES: usize = 6 * MAX_LEVELS;
 
 // What questions 12 to 14 say of a scheduler step.
 pub enum Permit {
@@ -22,12 +41,36 @@ pub enum Permit {
     Blocked,
 }
 
+// What is counted of each level before a run: nothing, and the first write stamp is 1.
+pub fn first() -> [usize; TALLIES]
+    ensures { λ r. ⌜ r ≡ startTallies ⌝ }
+{
+    let mut tallies = [0usize; TALLIES];
+    for level in 0..MAX_LEVELS {
+        tallies[NEXT + level] = 1;
+    }
+    tallies
+}
+
+// Keeps the history of a manager that has ended, and counts the manager at its level. The next one there
+// starts one above its end stamp.
+pub fn close(ended: &mut [u32], tallies: &mut [usize], level: usize, history: Ended)
+    requires { ⌜ HistoryRoom (now ended) level (getD (now tallies) level 0) history ⌝ }
+    requires { ⌜ tallyNumbers ≤ length (now tallies) ⌝ }
+    ensures { λ _. ⌜ Closed level history (now (ended .entry)) (now (ended .exit)) (now (tallies .entry)) (now (tallies .exit)) ⌝ }
+{
+    let count = tallies[level];
+    histories::add(ended, level, count, history);
+    tallies[level] = count + 1;
+    tallies[NEXT + level] = history.last as usize + 1;
+}
+
 // Whether a manager runs at a level.
 pub fn is_busy(tallies: &[usize], level: usize) -> bool
     requires { ⌜ (level < maxLevels) × (tallyNumbers ≤ length (now tallies)) ⌝ }
     ensures { λ r. ⌜ r ≡ busyIn (now (tallies .entry)) level ⌝ }
 {
-    tallies[32 + level] > 0
+    tallies[RUNNING + level] > 0
 }
 
 // Whether a level has a manager that hasn't ended.
@@ -35,7 +78,7 @@ pub fn has_manager(tallies: &[usize], level: usize) -> bool
     requires { ⌜ (level < maxLevels) × (tallyNumbers ≤ length (now tallies)) ⌝ }
     ensures { λ r. ⌜ r ≡ managed (now (tallies .entry)) level ⌝ }
 {
-    is_busy(tallies, level) || tallies[16 + level] > 0
+    is_busy(tallies, level) || tallies[WAITING + level] > 0
 }
 
 // Question 14: have all managers ended at the levels that a level strictly dominates?
@@ -76,9 +119,9 @@ pub fn ask(masks: &[u16], tallies: &mut [usize], level: usize) -> Permit
     if !has_manager(tallies, level) {
         return Permit::Idle;
     }
-    if tallies[40 + level] == 0 && !is_clear(masks, tallies, level) {
+    if tallies[CLEAR + level] == 0 && !is_clear(masks, tallies, level) {
         return Permit::Blocked;
     }
-    tallies[40 + level] = 1;
+    tallies[CLEAR + level] = 1;
     Permit::Given
 }

@@ -1,8 +1,8 @@
--- `level_managers::tallies::has_manager` meets its contract. Assumes nothing.
+-- `tallies::has_manager` meets its contract. Assumes nothing.
 use mathlib.Core.Path.{sym, _∙_}
 use borrow.Author.Needs.{needs}
-use Rattle.level_managers.proofs.tallies.has_manager.Statement.{statement}
-use Rattle.level_managers.proofs.tallies.has_manager.Tie as tie
+use Rattle.tallies.proofs.has_manager.Statement.{statement}
+use Rattle.tallies.proofs.has_manager.Tie as tie
 
 is-busy-requires : tie.Need-is-busy-requires
 is-busy-requires c κs = search needs

@@ -8,9 +8,9 @@ use Rattle.lattice.specs.Range.{all, implies}
 use Rattle.lattice.specs.Order.{strictly}
 use Rattle.lattice.specs.Table.{dominates}
 use Rattle.session.specs.Limits.{maxLevels}
-use Rattle.level_managers.specs.Kept.{waitingPlace, busyPlace, clearPlace, tallyNumbers}
-use Rattle.level_managers.specs.declared.tallies.Permit.{Permit}
-use Rattle.level_managers.specs.declared.tallies.Permit.the-variants.{Given, Absent, Idle, Blocked}
+use Rattle.tallies.specs.Places.{waitingPlace, busyPlace, clearPlace, tallyNumbers}
+use Rattle.tallies.specs.declared.Permit.{Permit}
+use Rattle.tallies.specs.declared.Permit.the-variants.{Given, Absent, Idle, Blocked}
 
 -- document 01's number of what questions 12 to 14 say of a step
 abbrev pub numberOfPermit : Permit → ℕ

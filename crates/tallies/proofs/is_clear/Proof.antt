@@ -1,4 +1,4 @@
--- `level_managers::tallies::is_clear` meets its contract. The invariant: question 14 passes each level before this one. Assumes nothing.
+-- `tallies::is_clear` meets its contract. The invariant: question 14 passes each level before this one. Assumes nothing.
 use Prim.Native.Nat.{ℕ, _≤_, _<_, _-_}
 use mathlib.Core.Path.{_≡_, sym, _∙_}
 use mathlib.Core.Bool.{true}
@@ -8,9 +8,9 @@ use borrow.Author.Count.{below-none, below-more}
 use borrow.Author.Needs.{needs}
 use lib.ListN.{length}
 use Rattle.lattice.proofs.Laws.Range.{all-every}
-use Rattle.level_managers.proofs.Laws.Permits.{passes, passes-itself, passes-ended, passes-apart, stops}
-use Rattle.level_managers.proofs.tallies.is_clear.Statement.{statement}
-use Rattle.level_managers.proofs.tallies.is_clear.Tie as tie
+use Rattle.tallies.proofs.Laws.Permits.{passes, passes-itself, passes-ended, passes-apart, stops}
+use Rattle.tallies.proofs.is_clear.Statement.{statement}
+use Rattle.tallies.proofs.is_clear.Tie as tie
 
 abbrev Inv-loop : tie.InvT-loop
 Inv-loop masks tallies level j₀ j-end j =

@@ -1,4 +1,4 @@
--- `level_managers::tallies::all_ended` meets its contract. The invariant: no level before this one has a manager. Assumes nothing.
+-- `tallies::all_ended` meets its contract. The invariant: no level before this one has a manager. Assumes nothing.
 use Prim.Native.Nat.{ℕ, _≤_, _<_, _-_}
 use mathlib.Core.Path.{_≡_, sym, _∙_, ap}
 use mathlib.Core.Bool.{false, not}
@@ -7,9 +7,9 @@ use borrow.Author.Count.{below-none, below-more}
 use borrow.Author.Needs.{needs}
 use lib.ListN.{length}
 use Rattle.lattice.proofs.Laws.Range.{all-every, all-fails}
-use Rattle.level_managers.specs.Permits.{managed}
-use Rattle.level_managers.proofs.tallies.all_ended.Statement.{statement}
-use Rattle.level_managers.proofs.tallies.all_ended.Tie as tie
+use Rattle.tallies.specs.Permits.{managed}
+use Rattle.tallies.proofs.all_ended.Statement.{statement}
+use Rattle.tallies.proofs.all_ended.Tie as tie
 
 abbrev Inv-loop : tie.InvT-loop
 Inv-loop masks tallies j₀ j-end j = (j ≤ length masks) × ((k : ℕ) → k < j → managed tallies k ≡ false)

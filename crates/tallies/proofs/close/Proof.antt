@@ -1,9 +1,9 @@
--- `depth_first::forks::close` meets its contract. Assumes nothing.
+-- `tallies::close` meets its contract. Assumes nothing.
 use native.Mathlib.Omega.{arith}
 use lib.ListN.{length-set}
 use borrow.Author.Needs.{needs}
-use Rattle.depth_first.proofs.forks.close.Statement.{statement}
-use Rattle.depth_first.proofs.forks.close.Tie as tie
+use Rattle.tallies.proofs.close.Statement.{statement}
+use Rattle.tallies.proofs.close.Tie as tie
 
 mul-count : tie.Need-mul-count
 mul-count c = search needs

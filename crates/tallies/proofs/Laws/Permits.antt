@@ -9,9 +9,9 @@ use Rattle.lattice.specs.Range.{implies}
 use Rattle.lattice.specs.Order.{strictly}
 use Rattle.lattice.specs.Table.{dominates}
 use Rattle.lattice.proofs.Laws.Range.{all-fails}
-use Rattle.level_managers.specs.Kept.{clearPlace}
-use Rattle.level_managers.specs.Permits.{managed, clearOf, isClear, permitOf}
-use Rattle.level_managers.specs.declared.tallies.Permit.the-variants.{Given, Absent, Idle, Blocked}
+use Rattle.tallies.specs.Places.{clearPlace}
+use Rattle.tallies.specs.Permits.{managed, clearOf, isClear, permitOf}
+use Rattle.tallies.specs.declared.Permit.the-variants.{Given, Absent, Idle, Blocked}
 
 -- at level j nothing stands against question 14 of level l
 abbrev pub passes : List ℕ → List ℕ → ℕ → ℕ → Bool

@@ -1,11 +1,11 @@
--- `level_managers::tallies::ask` meets its contract: each question is put where the one before says yes. Assumes nothing.
+-- `tallies::ask` meets its contract: each question is put where the one before says yes. Assumes nothing.
 use mathlib.Core.Path.{refl, sym, _∙_}
 use mathlib.Core.Logic.{⊎-elim}
 use borrow.Author.Needs.{needs}
 use borrow.Author.Tests.{not-true, not-false}
-use Rattle.level_managers.proofs.Laws.Permits.{permit-absent, permit-idle, permit-blocked, permit-given, clear-noted, clear-asked}
-use Rattle.level_managers.proofs.tallies.ask.Statement.{statement}
-use Rattle.level_managers.proofs.tallies.ask.Tie as tie
+use Rattle.tallies.proofs.Laws.Permits.{permit-absent, permit-idle, permit-blocked, permit-given, clear-noted, clear-asked}
+use Rattle.tallies.proofs.ask.Statement.{statement}
+use Rattle.tallies.proofs.ask.Tie as tie
 
 returns : tie.Need-returns
 returns c =

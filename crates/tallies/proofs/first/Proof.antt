@@ -1,17 +1,19 @@
--- `scheduler::first_tallies` meets its contract. The invariant: the levels passed have their first write stamps. Assumes nothing.
-use Prim.Native.Nat.{_+_, _-_, _≤_}
+-- `tallies::first` meets its contract. The invariant: the levels passed have their first write stamps. Assumes nothing.
+use Prim.Native.Nat.{_-_, _≤_}
 use mathlib.Core.Path.{_≡_, refl, _∙_, ap}
 use native.Mathlib.Omega.{arith}
 use lib.ListN.{set}
-use Rattle.scheduler.proofs.Laws.Start.{firstStamps, stamps-more}
-use Rattle.scheduler.proofs.first_tallies.Statement.{statement}
-use Rattle.scheduler.proofs.first_tallies.Tie as tie
+use Rattle.session.specs.Limits.{maxLevels}
+use Rattle.tallies.specs.Places.{nextPlace}
+use Rattle.tallies.proofs.Laws.First.{firstStamps, stamps-more}
+use Rattle.tallies.proofs.first.Statement.{statement}
+use Rattle.tallies.proofs.first.Tie as tie
 
 abbrev Inv-loop : tie.InvT-loop
-Inv-loop tallies₀ level₀ tallies level = (level ≤ 8) × (tallies ≡ firstStamps level)
+Inv-loop tallies₀ level₀ tallies level = (level ≤ maxLevels) × (tallies ≡ firstStamps level)
 
 abbrev μ-loop : tie.MeasureT-loop
-μ-loop tallies₀ level₀ tallies level = 8 - level
+μ-loop tallies₀ level₀ tallies level = maxLevels - level
 
 loop-holds : tie.Need-loop-holds Inv-loop μ-loop
 loop-holds c = (omega arith, refl)
@@ -34,16 +36,16 @@ loop-less c = omega arith
 loop-again : tie.Need-loop-again Inv-loop μ-loop
 loop-again c =
     let at = c .before .loop in
-    (omega arith, ap (λ t. set t (8 + at .level) 1) (at .inv .1) ∙ stamps-more (at .level) (c .loop-test .taken))
+    (omega arith, ap (λ t. set t (nextPlace (at .level)) 1) (at .inv .1) ∙ stamps-more (at .level) (c .loop-test .taken))
 
 returns : tie.Need-returns Inv-loop μ-loop
 returns c =
     let at = c .before .loop in
-    let all : at .level ≡ 8 = omega arith in
+    let all : at .level ≡ maxLevels = omega arith in
     at .inv .1 ∙ ap firstStamps all
 
-pub first-tallies-spec : {M : Type 1} → statement M
-first-tallies-spec =
+pub first-spec : {M : Type 1} → statement M
+first-spec =
     tie.close
     (tie.spec
     Inv-loop

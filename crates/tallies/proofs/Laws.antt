@@ -1,0 +1,4 @@
+-- Laws of what is counted of each level.
+pub mod First
+pub mod Closed
+pub mod Permits
