@@ -11,7 +11,6 @@ use Rattle.model.specs.Limits.{resultBytes}
 use Rattle.model.specs.DepthFirst.{Progress, newTally, depthFirst}
 use Rattle.model.specs.Result.{resultOfDepthFirst}
 use Rattle.records.specs.Writing.{bytesIn, Written}
-use Rattle.records.specs.declared.Answer.{Answer}
 use Rattle.depth_first.specs.declared.forks.Fork.{Fork}
 
 -- the root message's fork
@@ -34,7 +33,3 @@ bytesShown s c =
 pub record Shown (s : List ℕ) (c : ℕ) (before after : List ℕ) (count : ℕ) : Type 0 where
   pub written : Written (bytesShown s c) before after count
   pub fits : count ≤ resultBytes
-
--- the answer of a call that question `number` ends
-abbrev pub Refused : ℕ → Answer → Type 0
-Refused number r = (r .number ≡ number) × (r .place ≡ 0) × (r .count ≡ 0)

@@ -1,9 +1,10 @@
 // The depth-first run: a fork that is made and kept runs whole, before its sender continues.
 mod forks;
 
+use entries::Answer;
 use forks::Fork;
-use records::Answer;
 use session::contents;
+use session::limits::MAX_LEVELS;
 use session::limits::MAX_METHODS;
 use words::fields;
 ghost use Prim.Native.Nat.{_≤_};
@@ -16,7 +17,7 @@ ghost use Rattle.session.specs.declared.Verdict.the-variants.{Accepted};
 ghost use Rattle.model.specs.Limits.{resultBytes};
 ghost use Rattle.model.specs.Entries.{deep, Answers};
 ghost use Rattle.depth_first.specs.Kept.{Read, Says};
-ghost use Rattle.depth_first.specs.Runs.{RootFork, startOf, Shown, Refused};
+ghost use Rattle.depth_first.specs.Runs.{RootFork, startOf, Shown};
 
 // The fork of the root message.
 fn root_fork(session: &[u8], masks: &[u16]) -> Fork
@@ -90,38 +91,21 @@ fn run(session: &[u8], masks: &[u16], clearance: usize, result: &mut [u8]) -> us
     )
 }
 
-// The answer of a call that a question ends.
-fn refused(number: u32) -> Answer
-    ensures { λ r. ⌜ Refused number r ⌝ }
-{
-    Answer {
-        number,
-        place: 0,
-        count: 0,
-    }
-}
-
 // Runs a session depth first and writes what a clearance is shown of it: questions 1 to 9 and 11 of any
 // bytes, of any length and content, and then the run.
 pub fn run_depth_first(session: &[u8], clearance: usize, result: &mut [u8]) -> Answer
     ensures { λ r. ⌜ Answers (record { session = now (session .entry); clearance = clearance; work = []; buffer = now (result .entry) }) (deep (record { session = now (session .entry); clearance = clearance; work = []; buffer = now (result .entry) })) (r .number) (r .place) (r .count) [] (now (result .exit)) ⌝ }
 {
-    let number = session::number_of(session::check(session));
+    let mut masks = [0u16; MAX_LEVELS];
+    let opened = entries::open(session, &mut masks);
+    if opened.number != 0 {
+        return entries::refused(opened.number, 0);
+    }
+    let levels = opened.levels;
+    let number = entries::lent_refusal(levels, clearance, true, result.len());
     if number != 0 {
-        return refused(number);
-    }
-    let mut masks = [0u16; 8];
-    let levels = contents::level_table(session, &mut masks);
-    if clearance >= levels {
-        return refused(9);
-    }
-    if result.len() < 4624 {
-        return refused(11);
+        return entries::refused(number, 0);
     }
     let count = run(session, &masks[..levels], clearance, result);
-    Answer {
-        number: 0,
-        place: 0,
-        count: count as u32,
-    }
+    entries::finished(count)
 }

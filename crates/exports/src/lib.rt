@@ -1,21 +1,21 @@
 // The entries as functions for programs in other languages: numbers, and slices as a pointer and a length.
 //
 // Each run returns the number of document 01's answer. Its place and count are written to the front of
-// `rest`, or nothing where that has no room for the two.
-use records::Answer;
+// `place_and_count`, or nothing where that has no room for the two.
+use entries::Answer;
 ghost use mathlib.Core.Path.{_≡_};
 ghost use mathlib.Core.List.{[]};
 ghost use Rattle.session.specs.Questions.{verdictOf, answerOf};
 ghost use Rattle.model.specs.Entries.{timetabled, plain, deep};
 ghost use Rattle.exports.specs.Calls.{told, Call};
 
-// Tells an answer: its place and count to the front of `rest`, its number as the result.
-fn tell(rest: &mut [u32], answer: Answer) -> u32
-    ensures { λ r. ⌜ (r ≡ answer .number) × (now (rest .exit) ≡ told (answer .place) (answer .count) (now (rest .entry))) ⌝ }
+// Tells an answer: its place and count to the front of `place_and_count`, its number as the result.
+fn tell(place_and_count: &mut [u32], answer: Answer) -> u32
+    ensures { λ r. ⌜ (r ≡ answer .number) × (now («place_and_count» .exit) ≡ told (answer .place) (answer .count) (now («place_and_count» .entry))) ⌝ }
 {
-    if rest.len() >= 2 {
-        rest[0] = answer.place;
-        rest[1] = answer.count;
+    if place_and_count.len() >= 2 {
+        place_and_count[0] = answer.place;
+        place_and_count[1] = answer.count;
     }
     answer.number
 }
@@ -37,12 +37,12 @@ pub extern "C" fn lupinpause_run_timetable(
     clearance: usize,
     work: &mut [u32],
     result: &mut [u8],
-    rest: &mut [u32],
+    place_and_count: &mut [u32],
 ) -> u32
-    ensures { λ r. ⌜ Call (record { session = now (session .entry); clearance = clearance; work = now (work .entry); buffer = now (result .entry) }) (λ order. timetabled (record { session = now (session .entry); clearance = clearance; work = now (work .entry); buffer = now (result .entry) }) order (now (timetable .entry))) (now (work .exit)) (now (result .exit)) (now (rest .entry)) (now (rest .exit)) r ⌝ }
+    ensures { λ r. ⌜ Call (record { session = now (session .entry); clearance = clearance; work = now (work .entry); buffer = now (result .entry) }) (λ order. timetabled (record { session = now (session .entry); clearance = clearance; work = now (work .entry); buffer = now (result .entry) }) order (now (timetable .entry))) (now (work .exit)) (now (result .exit)) (now («place_and_count» .entry)) (now («place_and_count» .exit)) r ⌝ }
 {
     let answer = scheduler::run_timetable(session, timetable, clearance, work, result);
-    tell(rest, answer)
+    tell(place_and_count, answer)
 }
 
 // The plain run, with the same buffers.
@@ -52,12 +52,12 @@ pub extern "C" fn lupinpause_run_plain(
     clearance: usize,
     work: &mut [u32],
     result: &mut [u8],
-    rest: &mut [u32],
+    place_and_count: &mut [u32],
 ) -> u32
-    ensures { λ r. ⌜ Call (record { session = now (session .entry); clearance = clearance; work = now (work .entry); buffer = now (result .entry) }) (plain (record { session = now (session .entry); clearance = clearance; work = now (work .entry); buffer = now (result .entry) })) (now (work .exit)) (now (result .exit)) (now (rest .entry)) (now (rest .exit)) r ⌝ }
+    ensures { λ r. ⌜ Call (record { session = now (session .entry); clearance = clearance; work = now (work .entry); buffer = now (result .entry) }) (plain (record { session = now (session .entry); clearance = clearance; work = now (work .entry); buffer = now (result .entry) })) (now (work .exit)) (now (result .exit)) (now («place_and_count» .entry)) (now («place_and_count» .exit)) r ⌝ }
 {
     let answer = scheduler::run_plain(session, clearance, work, result);
-    tell(rest, answer)
+    tell(place_and_count, answer)
 }
 
 // The depth-first run, which has no work slice.
@@ -66,10 +66,10 @@ pub extern "C" fn lupinpause_run_depth_first(
     session: &[u8],
     clearance: usize,
     result: &mut [u8],
-    rest: &mut [u32],
+    place_and_count: &mut [u32],
 ) -> u32
-    ensures { λ r. ⌜ Call (record { session = now (session .entry); clearance = clearance; work = []; buffer = now (result .entry) }) (deep (record { session = now (session .entry); clearance = clearance; work = []; buffer = now (result .entry) })) [] (now (result .exit)) (now (rest .entry)) (now (rest .exit)) r ⌝ }
+    ensures { λ r. ⌜ Call (record { session = now (session .entry); clearance = clearance; work = []; buffer = now (result .entry) }) (deep (record { session = now (session .entry); clearance = clearance; work = []; buffer = now (result .entry) })) [] (now (result .exit)) (now («place_and_count» .entry)) (now («place_and_count» .exit)) r ⌝ }
 {
     let answer = depth_first::run_depth_first(session, clearance, result);
-    tell(rest, answer)
+    tell(place_and_count, answer)
 }

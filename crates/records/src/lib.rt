@@ -7,13 +7,6 @@ mod shown;
 
 ghost use Rattle.records.specs.Writing.{resultIn, bytesIn, Ready, Written};
 
-// What a run answers: its number, its place, and the count of result bytes written.
-pub struct Answer {
-    pub number: u32,
-    pub place: u32,
-    pub count: u32,
-}
-
 // Writes the records of a run that a clearance is shown to the buffer's start, the level groups by rising
 // number, and returns how many bytes they are.
 pub fn write(

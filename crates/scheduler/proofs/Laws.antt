@@ -1,6 +1,5 @@
 -- Laws of the runs: what the proofs of this crate cite.
 pub mod Start
-pub mod Entry
 pub mod Listed
 pub mod Level
 pub mod Lagging

@@ -18,11 +18,11 @@ use Rattle.model.specs.Level.{idle, hasManager}
 use Rattle.model.specs.Step.{State, levelAt}
 use Rattle.model.specs.Schedule.{finished, refused, readIn, stepRefusal, runOf, plainOrder, Leads}
 use Rattle.model.specs.Result.{byNumber}
-use Rattle.model.specs.Entries.{Request, question10, entryRefusal, answerOf}
+use Rattle.model.specs.Entries.{answerOf}
 use Rattle.words.specs.Limits.{fieldWords}
 use Rattle.records.specs.Limits.{historyWords}
 use Rattle.records.specs.Writing.{resultIn, bytesIn, Written}
-use Rattle.records.specs.declared.Answer.{Answer}
+use Rattle.entries.specs.declared.Answer.{Answer}
 use Rattle.queues.specs.Queue.{queueWords}
 use Rattle.tallies.specs.Places.{startTallies}
 use Rattle.level_managers.specs.Kept.{Words, Told, Says}
@@ -30,20 +30,6 @@ use Rattle.tallies.specs.Permits.{numberOfPermit}
 use Rattle.scheduler.specs.declared.Outcome.{Outcome}
 use Rattle.scheduler.specs.declared.Outcome.the-variants as outcome
 use Rattle.tallies.specs.declared.Permit.{Permit}
-
--- the lowest of questions 1 to 11 that says no, or 0, of any request with this session, this clearance and slices of these lengths
-abbrev pub EntryRefusal : List ℕ → ℕ → ℕ → ℕ → ℕ → Type 0
-EntryRefusal s clearance work result r =
-    (q : Request)
-    → q .session ≡ s
-    → q .clearance ≡ clearance
-    → length (q .work) ≡ work
-    → length (q .buffer) ≡ result
-    → entryRefusal (question10 q) q ≡ r
-
--- the answer of a call that question `number` ends, at a place
-abbrev pub Refused : ℕ → ℕ → Answer → Type 0
-Refused number place r = (r .number ≡ number) × (r .place ≡ place) × (r .count ≡ 0)
 
 -- the session as read in
 abbrev pub startOf : List ℕ → State
@@ -105,11 +91,6 @@ pub record LevelDone (s : List ℕ) (w w' : Words) (level : ℕ) : Type 0 where
 -- the words say the state in which some list of scheduler steps of session s finishes
 abbrev pub Done : List ℕ → Words → Type 0
 Done s w = (ls : List ℕ) × Ends s ls w outcome.Finished
-
--- the answer of a list of steps that was refused
-abbrev pub RefusedBy : Outcome → Answer → Type 0
-RefusedBy outcome.Finished r = Refused 0 0 r
-RefusedBy (outcome.Refused number place) r = Refused number place r
 
 -- the records of the words' result for a clearance are written
 pub record Shows (s current ended tallies : List ℕ) (clearance level : ℕ) (before after : List ℕ) (r : Answer) : Type 0 where

@@ -2,8 +2,10 @@
 mod plain;
 mod timetable;
 
-use records::Answer;
+use entries::Answer;
 use session::contents;
+use session::limits::MAX_LEVELS;
+use session::limits::MAX_METHODS;
 use tallies::WAITING;
 use words::fields;
 ghost use Rattle.session.specs.Meaning.{levelOf, rootObject};
@@ -11,45 +13,13 @@ ghost use Rattle.scripts.specs.Valid.{Leveled};
 ghost use Rattle.model.specs.Entries.{timetabled, plain as plainly, Answers};
 ghost use Rattle.records.specs.Writing.{Ready};
 ghost use Rattle.level_managers.specs.Steps.{Read};
-ghost use Rattle.scheduler.specs.Runs.{startOf, listOf, EntryRefusal, Rests, Fresh, ReadIn, Ends, SameRest, Shows, RunReady, ListDone, Refused, RefusedBy};
+ghost use Rattle.scheduler.specs.Runs.{startOf, listOf, Rests, Fresh, ReadIn, Ends, SameRest, Shows, RunReady, ListDone};
 
 // How the scheduler steps of a run end.
 pub enum Outcome {
     Finished,
     // By a question, 12 to 15, and its place.
     Refused { number: u32, place: u32 },
-}
-
-// The lowest of questions 1 to 11 that says no, or 0.
-fn entry_refusal(session: &[u8], clearance: usize, work: usize, result: usize) -> u32
-    ensures { λ r. ⌜ EntryRefusal (now (session .entry)) clearance work result r ⌝ }
-{
-    let number = session::number_of(session::check(session));
-    if number != 0 {
-        return number;
-    }
-    let mut masks = [0u16; 8];
-    if clearance >= contents::level_table(session, &mut masks) {
-        return 9;
-    }
-    if work < 8192 {
-        return 10;
-    }
-    if result < 4624 {
-        return 11;
-    }
-    0
-}
-
-// The answer of a call that a question ends.
-fn refused(number: u32, place: u32) -> Answer
-    ensures { λ r. ⌜ Refused number place r ⌝ }
-{
-    Answer {
-        number,
-        place,
-        count: 0,
-    }
 }
 
 // Fills the words of a run with the session as read in: the method index, the first fields, and the
@@ -99,21 +69,7 @@ fn show(
         level,
         result,
     );
-    Answer {
-        number: 0,
-        place: 0,
-        count: count as u32,
-    }
-}
-
-// The answer of a list of scheduler steps that was refused.
-fn refused_by(outcome: Outcome) -> Answer
-    ensures { λ r. ⌜ RefusedBy outcome r ⌝ }
-{
-    match outcome {
-        Outcome::Finished => refused(0, 0),
-        Outcome::Refused { number, place } => refused(number, place),
-    }
+    entries::finished(count)
 }
 
 // Makes scheduler steps from the session as read in: those of a timetable, if it is listed, of which one can
@@ -164,7 +120,7 @@ fn run_accepted(
     requires { ⌜ RunReady (now session) (now masks) (now work) (now result) ⌝ }
     ensures { λ r. ⌜ ListDone (now (session .entry)) (listOf (now (session .entry)) (now (timetable .entry)) listed) clearance (now (work .entry)) (now (work .exit)) (now (result .entry)) (now (result .exit)) r ⌝ }
 {
-    let mut index = [0u16; 513];
+    let mut index = [0u16; MAX_METHODS + 1];
     let mut current = [0u32; 192];
     let mut ended = [0u32; 2048];
     let mut queue = [0u32; 3584];
@@ -190,9 +146,9 @@ fn run_accepted(
         work,
     );
     versions::clear(work);
-    let Outcome::Finished = outcome else {
-        return refused_by(outcome);
-    };
+    if let Outcome::Refused { number, place } = outcome {
+        return entries::refused(number, place);
+    }
     show(
         session,
         masks,
@@ -203,6 +159,27 @@ fn run_accepted(
         level,
         result,
     )
+}
+
+// Runs a session that is opened, with its level table: questions 9 to 15.
+fn run_opened(
+    session: &[u8],
+    timetable: &[u8],
+    listed: bool,
+    masks: &[u16],
+    clearance: usize,
+    work: &mut [u32],
+    result: &mut [u8],
+) -> Answer
+    requires { ⌜ Leveled (now session) (now masks) ⌝ }
+    ensures { λ r. ⌜ Answers (record { session = now (session .entry); clearance = clearance; work = now (work .entry); buffer = now (result .entry) }) (λ order. timetabled (record { session = now (session .entry); clearance = clearance; work = now (work .entry); buffer = now (result .entry) }) order (listOf (now (session .entry)) (now (timetable .entry)) listed)) (r .number) (r .place) (r .count) (now (work .exit)) (now (result .exit)) ⌝ }
+{
+    let ten = entries::is_work(work.len());
+    let number = entries::lent_refusal(masks.len(), clearance, ten, result.len());
+    if number != 0 {
+        return entries::refused(number, 0);
+    }
+    run_accepted(session, timetable, listed, masks, clearance, work, result)
 }
 
 // Runs a session, by a timetable or plainly, and writes what a clearance is shown of it: questions 1 to 15.
@@ -216,13 +193,13 @@ fn run_session(
 ) -> Answer
     ensures { λ r. ⌜ Answers (record { session = now (session .entry); clearance = clearance; work = now (work .entry); buffer = now (result .entry) }) (λ order. timetabled (record { session = now (session .entry); clearance = clearance; work = now (work .entry); buffer = now (result .entry) }) order (listOf (now (session .entry)) (now (timetable .entry)) listed)) (r .number) (r .place) (r .count) (now (work .exit)) (now (result .exit)) ⌝ }
 {
-    let number = entry_refusal(session, clearance, work.len(), result.len());
-    if number != 0 {
-        return refused(number, 0);
+    let mut masks = [0u16; MAX_LEVELS];
+    let opened = entries::open(session, &mut masks);
+    if opened.number != 0 {
+        return entries::refused(opened.number, 0);
     }
-    let mut masks = [0u16; 8];
-    let levels = contents::level_table(session, &mut masks);
-    run_accepted(
+    let levels = opened.levels;
+    run_opened(
         session,
         timetable,
         listed,
@@ -260,13 +237,22 @@ pub fn run_plain(session: &[u8], clearance: usize, work: &mut [u32], result: &mu
 pub fn run_for_root(session: &[u8], work: &mut [u32], result: &mut [u8]) -> Answer
     ensures { λ r. ⌜ Answers (record { session = now (session .entry); clearance = levelOf (now (session .entry)) (rootObject (now (session .entry))); work = now (work .entry); buffer = now (result .entry) }) (plainly (record { session = now (session .entry); clearance = levelOf (now (session .entry)) (rootObject (now (session .entry))); work = now (work .entry); buffer = now (result .entry) })) (r .number) (r .place) (r .count) (now (work .exit)) (now (result .exit)) ⌝ }
 {
-    let number = session::number_of(session::check(session));
-    if number != 0 {
-        return refused(number, 0);
+    let mut masks = [0u16; MAX_LEVELS];
+    let opened = entries::open(session, &mut masks);
+    if opened.number != 0 {
+        return entries::refused(opened.number, 0);
     }
-    let mut masks = [0u16; 8];
-    let levels = contents::level_table(session, &mut masks);
+    let levels = opened.levels;
     let message = contents::root(session);
     let level = contents::level_of(session, &masks[..levels], message.object as usize);
-    run_plain(session, level, work, result)
+    let no_timetable = [0u8; 0];
+    run_opened(
+        session,
+        &no_timetable,
+        false,
+        &masks[..levels],
+        level,
+        work,
+        result,
+    )
 }

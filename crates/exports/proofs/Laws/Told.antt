@@ -8,15 +8,15 @@ use lib.ListN.{length, set}
 use Rattle.model.specs.Entries.{Request, Answer, Answers}
 use Rattle.exports.specs.Calls.{told, Call}
 
-pub told-both : (a b : ℕ) (rest : List ℕ) → 2 ≤ length rest → set (set rest 0 a) 1 b ≡ told a b rest
+pub told-both : (a b : ℕ) (slice : List ℕ) → 2 ≤ length slice → set (set slice 0 a) 1 b ≡ told a b slice
 told-both a b [] h = absurd (omega arith)
 told-both a b (x ∷ []) h = absurd (omega arith)
 told-both a b (x ∷ y ∷ zs) h = rw (le-leb 2 (length (x ∷ y ∷ zs)) h) refl
 
-pub told-none : (a b : ℕ) (rest : List ℕ) → length rest < 2 → rest ≡ told a b rest
-told-none a b rest h = rw (lt-leb 2 (length rest) h) refl
+pub told-none : (a b : ℕ) (slice : List ℕ) → length slice < 2 → slice ≡ told a b slice
+told-none a b slice h = rw (lt-leb 2 (length slice) h) refl
 
 -- a call whose answer is told
-pub call-told : (q : Request) (of : List ℕ → Answer) (work buffer rest rest' : List ℕ) (number place count r : ℕ) → Answers q of number place count work buffer → (r ≡ number) × (rest' ≡ told place count rest) → Call q of work buffer rest rest' r
-call-told q of work buffer rest rest' number place count r a (e, t) =
-    record { place = place; count = count; answers = rw e a; rest-is = t }
+pub call-told : (q : Request) (of : List ℕ → Answer) (work buffer before after : List ℕ) (number place count r : ℕ) → Answers q of number place count work buffer → (r ≡ number) × (after ≡ told place count before) → Call q of work buffer before after r
+call-told q of work buffer before after number place count r a (e, t) =
+    record { place = place; count = count; answers = rw e a; both = t }

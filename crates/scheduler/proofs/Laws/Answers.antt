@@ -1,36 +1,39 @@
 -- The answers of the timetabled and the plain run. Assumes nothing.
-use Prim.Native.Nat.{ℕ, _≤_, _<_}
+use Prim.Native.Nat.{ℕ, _^_, _≤_, _<_}
 use mathlib.Core.Path.{_≡_, refl, sym, _∙_, ap}
-use mathlib.Core.List.{List, [], _++_}
+use mathlib.Core.Bool.{Bool}
+use mathlib.Core.List.{List}
 use native.Mathlib.Omega.{arith}
-use borrow.Author.Tests.{ne-eqb, leb-true}
-use lib.ListN.{length, take, replicate, length-replicate}
-use lib.Seq.{take-at}
-use Rattle.session.specs.Parts.{levelCount, objectCount, masksOf}
+use borrow.Author.Tests.{leb-true}
+use lib.ListN.{length, replicate, length-replicate}
+use Rattle.session.specs.Parts.{levelCount, objectCount}
 use Rattle.session.specs.Meaning.{levelOf, rootObject, rootOf}
 use Rattle.session.specs.Program.{programOf}
 use Rattle.session.specs.Questions.{verdictOf}
 use Rattle.session.specs.declared.Verdict.the-variants.{Accepted}
 use Rattle.session.proofs.Laws.Accepted.{level-present, root-present}
-use Rattle.session.proofs.Laws.Contents.{level-limit, masks-length}
+use Rattle.session.proofs.Laws.Contents.{level-limit, object-limit, masks-length}
 use Rattle.scripts.specs.Valid.{Leveled}
 use Rattle.scripts.specs.State.{Manager}
 use Rattle.model.specs.Limits.{workNumbers, resultBytes}
 use Rattle.model.specs.Step.{State, levelAt}
 use Rattle.model.specs.Schedule.{Outcome, finished, refused, runOf, plainOrder}
 use Rattle.model.specs.Result.{resultOf, byNumber}
-use Rattle.model.specs.Entries.{Request, question10, entryRefusal, untouched, cleared, success, answerOf, timetabled, plain, Answers}
+use Rattle.model.specs.Entries.{Request, question10, entryRefusal, cleared, success, answerOf, timetabled, plain, Answers}
 use Rattle.model.proofs.Laws.Order.Accepted.{any-order}
 use Rattle.model.proofs.Laws.Order.PlainRun.{accepted-plain}
 use Rattle.model.proofs.Laws.Reader.Answers.{passes}
 use Rattle.records.specs.Histories.{historiesAt, endedIn}
 use Rattle.records.specs.Writing.{resultIn, bytesIn, Ready, Written}
-use Rattle.records.specs.declared.Answer.{Answer}
 use Rattle.records.proofs.Laws.Depends.{bytes-depend-by-number}
+use Rattle.records.proofs.Laws.Histories.{ended-few}
 use Rattle.records.proofs.Laws.Orders.{by-number-shown}
+use Rattle.records.proofs.Laws.Written.{bytes-fit}
+use Rattle.entries.specs.declared.Answer.{Answer}
+use Rattle.entries.specs.Opening.{Refused, LentRefusal}
 use Rattle.versions.proofs.Laws.Cleared.{cleared-rest}
 use Rattle.level_managers.specs.Kept.{Words, Told}
-use Rattle.scheduler.specs.Runs.{EntryRefusal, Refused, SameRest, Ends, Done, RefusedBy, Shows, ListDone}
+use Rattle.scheduler.specs.Runs.{SameRest, Ends, Done, Shows, RunReady, ListDone}
 use Rattle.scheduler.specs.declared.Outcome as code
 use Rattle.scheduler.specs.declared.Outcome.the-variants as outcome
 
@@ -75,13 +78,13 @@ module _ (s : List ℕ) (a : verdictOf s ≡ Accepted) where
     emptied = zero ∙ cleared-rest work work1 same
 
     -- the list was refused
-    pub list-refused : (w : Words) (o : code.Outcome) (r : Answer) → Ends s ls w o → RefusedBy o r → buffer' ≡ buffer → (o ≡ outcome.Finished → ⊥) → ListDone s ls c work work' buffer buffer' r
-    list-refused w outcome.Finished r e z b n = absurd (n refl)
-    list-refused w (outcome.Refused number place) r e (i, j, k) b n =
-        rw (i, j, k, emptied, b) (sym (ap (answerOf q (byNumber (programOf s) c)) e ∙ answer))
+    pub list-refused : (w : Words) (o : code.Outcome) (number place : ℕ) (r : Answer) → Ends s ls w o → o ≡ outcome.Refused number place → Refused number place r → buffer' ≡ buffer → ListDone s ls c work work' buffer buffer' r
+    list-refused w o number place r e is (i, j, k) b =
+        let ends : runOf (programOf s) (rootOf s) ls ≡ refused number place = rw is at e in
+        rw (i, j, k, emptied, b) (sym (ap (answerOf q (byNumber (programOf s) c)) ends ∙ answer number place))
       where
-        answer : answerOf q (byNumber (programOf s) c) (refused number place) ≡ record { number = number; place = place; count = 0; work = cleared work; buffer = buffer }
-        answer = unfold answerOf in refl
+        answer : (number place : ℕ) → answerOf q (byNumber (programOf s) c) (refused number place) ≡ record { number = number; place = place; count = 0; work = cleared work; buffer = buffer }
+        answer number place = unfold answerOf in refl
 
     -- it finished, and the records are written
     pub list-finished : (w : Words) (level : ℕ) (r : Answer) → Ends s ls w outcome.Finished → level ≡ levelOf s (rootObject s) → Shows s (w .current) (w .ended) (w .tallies) c level buffer buffer' r → ListDone s ls c work work' buffer buffer' r
@@ -106,28 +109,24 @@ module _ (s : List ℕ) (c : ℕ) (work buffer : List ℕ) where
   abbrev pub request : Request
   request = record { session = s; clearance = c; work = work; buffer = buffer }
 
-  -- a question, 1 to 11, says no
-  module _ (number : ℕ) (r : Answer) (e : entryRefusal (question10 request) request ≡ number) (n : number ≡ 0 → ⊥) (z : Refused number 0 r) where
-    untouched-is : (ls : List ℕ) → timetabled request [] ls ≡ untouched request number
-    unfolding timetabled
-    untouched-is ls = rw (e, ne-eqb number 0 n) refl
+  -- questions 9 to 11, put of an opened session with its level table
+  pub entry-is : (masks : List ℕ) → Leveled s masks → (ten : Bool) → ten ≡ question10 request → (number : ℕ) → LentRefusal (length masks) c ten (length buffer) number → entryRefusal (question10 request) request ≡ number
+  entry-is masks y ten e number h =
+      ap (λ t. entryRefusal t request) (sym e) ∙ h request (y .accepted) (sym (ap length (y .masks-are) ∙ masks-length s (y .accepted))) refl refl
 
-    pub answered-refusal : (ls : List ℕ) → Answers request (λ order. timetabled request order ls) (r .number) (r .place) (r .count) work buffer
-    answered-refusal ls =
-        record {
-          order = [];
-          groups = λ k. absurd (n (sym (z .0) ∙ k));
-          answer = rw (z .0, z .1, z .2) (sym (untouched-is ls));
-        }
+  -- questions 1 to 11 say yes
+  module _ (e : entryRefusal (question10 request) request ≡ 0) where
+    pub run-ready : (masks : List ℕ) → Leveled s masks → RunReady s masks work buffer
+    run-ready masks leveled =
+        let p = passes (question10 request) request e in
+        record { leveled = leveled; work-room = leb-true workNumbers (length work) (p .work); result-room = leb-true resultBytes (length buffer) (p .room) }
 
-  -- all of them say yes
-  module _ (e : entryRefusal (question10 request) request ≡ 0) (work' buffer' : List ℕ) (r : Answer) where
     ran-is : (order ls : List ℕ) → timetabled request order ls ≡ answerOf request order (runOf (programOf s) (rootOf s) ls)
     unfolding timetabled
     ran-is order ls = rw e refl
 
-    pub answered-list : (ls : List ℕ) → ListDone s ls c work work' buffer buffer' r → Answers request (λ order. timetabled request order ls) (r .number) (r .place) (r .count) work' buffer'
-    answered-list ls d =
+    pub answered-list : (work' buffer' : List ℕ) (r : Answer) (ls : List ℕ) → ListDone s ls c work work' buffer buffer' r → Answers request (λ order. timetabled request order ls) (r .number) (r .place) (r .count) work' buffer'
+    answered-list work' buffer' r ls d =
         record {
           order = byNumber (programOf s) c;
           groups = λ _. by-number-shown (programOf s) c;
@@ -156,29 +155,20 @@ pub show-ready : (s masks ls : List ℕ) (w : Words) (level : ℕ) (buffer : Lis
 show-ready s masks ls w level buffer y (ms, (st, (run, t))) e room =
     write-ready s (y .accepted) w ms st t masks level buffer y e room
 
--- what questions 1 to 11 have shown
-pub record Entered (s : List ℕ) (c : ℕ) (work buffer : List ℕ) : Type 0 where
-  pub accepted : verdictOf s ≡ Accepted
-  pub work-room : workNumbers ≤ length work
-  pub result-room : resultBytes ≤ length buffer
-
-pub entered : (s : List ℕ) (c : ℕ) (work buffer : List ℕ) → EntryRefusal s c (length work) (length buffer) 0 → Entered s c work buffer
-entered s c work buffer e =
-    let p = passes (question10 (request s c work buffer)) (request s c work buffer) (e (request s c work buffer) refl refl refl refl) in
-    record { accepted = p .accepted; work-room = leb-true workNumbers (length work) (p .work); result-room = leb-true resultBytes (length buffer) (p .room) }
-
--- the level table, from the front of the masks
-pub table-made : (s : List ℕ) (a : verdictOf s ≡ Accepted) (masks rest : List ℕ) (levels : ℕ) → masks ≡ masksOf s ++ rest → levels ≡ levelCount s → take levels masks ≡ masksOf s
-table-made s a masks rest levels e l =
-    ap (take levels) e ∙ take-at (masksOf s) rest levels (masks-length s a ∙ sym l)
-
-pub table-within : (s : List ℕ) (a : verdictOf s ≡ Accepted) (masks : List ℕ) (levels : ℕ) → levels ≡ levelCount s → length masks ≡ 8 → levels ≤ length masks
-table-within s a masks levels l n = omega (arith, l, n, level-limit s a)
-
--- no question said no
-pub refusal-0 : (s : List ℕ) (c work result n : ℕ) → EntryRefusal s c work result n → n ≡ 0 → EntryRefusal s c work result 0
-refusal-0 s c work result n x e q i j k l = x q i j k l ∙ e
-
 -- the root's level, however it is come by
 pub answered-root : (s : List ℕ) (c d : ℕ) (work buffer : List ℕ) (number place count : ℕ) (work' buffer' : List ℕ) → c ≡ d → Answers (request s c work buffer) (plain (request s c work buffer)) number place count work' buffer' → Answers (request s d work buffer) (plain (request s d work buffer)) number place count work' buffer'
 answered-root s c d work buffer number place count work' buffer' e x = rw (sym e) x
+
+-- the count of the bytes shown is a number of 32 bits
+pub shown-fits : (s masks current ended tallies : List ℕ) (level : ℕ) (buffer : List ℕ) → Ready s masks current ended tallies level buffer
+    → (clearance count : ℕ) (before after : List ℕ) → Written (bytesIn s (resultIn current ended tallies) clearance level) before after count
+    → count < 2 ^ 32
+unfolding programOf
+shown-fits s masks current ended tallies level buffer r clearance count before after t =
+    let few = level-limit s (r .fields-ready .accepted) in
+    omega (
+      arith,
+      t .number,
+      bytes-fit (programOf s) (resultIn current ended tallies) clearance level few (object-limit s (r .fields-ready .accepted))
+          (λ l h. ended-few ended tallies (r .histories-ready) l (omega (arith, h, few))),
+    )
