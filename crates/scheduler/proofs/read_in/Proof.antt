@@ -66,7 +66,7 @@ returns c =
     let z = c .before .before .before .before .before .before .before .before .before .before .before .before .before .before .before .before .before .before .before .before .before .before .before in
     let l = c .before .before .before .before .before .before in
     let f = l .before .before .before .before .before in
-    read-in _ (z .pre .0 .accepted) _ _ _ _ (z .pre .1) _ _ (l .before .before .root .ensures) (l .level-of .ensures) _ _ _ _ _ (f .before .before .before .before .index-methods .ensures) (f .fill .ensures) (c .before .before .before .before .before .root-row .ensures) (c .before .before .arrive .ensures)
+    read-in _ (z .pre .0 .accepted) _ _ _ _ (z .pre .1) _ _ (l .before .before .root .ensures) (l .level-of .ensures) _ _ _ _ _ (f .before .before .before .before .index-methods .ensures) (f .fill .ensures) (c .before .before .before .before .before .root-row .ensures .1) (c .before .before .arrive .ensures)
 
 pub read-in-spec : {M : Type 1} → statement M
 read-in-spec =

@@ -97,7 +97,7 @@ returns-2 c =
     let z = made .before .before .before .before .before .before .before .before in
     let stamp = made .before .stamp-at in
     let depth = made .before .before .before .depth-at in
-    forked (z .args .tallies .now) (z .args .queue .now) (z .args .level) (z .args .forks) (z .args .above) (depth .result) (stamp .result) (depth .ensures) (stamp .ensures) (came .last .0) (z .args .stamp) (made .child-stamp .result) (z .args .message) (row .result) (came .result) (made .child-stamp .ensures) (row .ensures) (came .ensures)
+    forked (z .args .tallies .now) (z .args .queue .now) (z .args .level) (z .args .forks) (z .args .above) (depth .result) (stamp .result) (depth .ensures) (stamp .ensures) (came .last .0) (z .args .stamp) (made .child-stamp .result) (z .args .message) (row .result) (came .result) (made .child-stamp .ensures) (row .ensures .1) (came .ensures)
 
 pub fork-spec : {M : Type 1} → statement M
 fork-spec =
