@@ -27,21 +27,6 @@ returnsOf answer = leb registers answer
 abbrev pub answerOf : ℕ → Bool → ℕ
 answerOf into returns = cond returns (into + registers) into
 
--- the frame on top, without the place of its method
-abbrev pub frameOf : Frame → defined.Frame
-frameOf f =
-    record {
-      object = f .object;
-      name = f .name;
-      next = f .next;
-      into = intoOf (f .answer);
-      returns = returnsOf (f .answer);
-      r0 = f .r0;
-      r1 = f .r1;
-      r2 = f .r2;
-      r3 = f .r3;
-    }
-
 -- a frame that waits
 abbrev pub asideOf : Waiting → defined.Frame
 asideOf f =
@@ -84,6 +69,10 @@ topFrom w start count =
 abbrev pub asideFrom : Frame → Waiting
 asideFrom f =
     record { object = f .object; name = f .name; next = f .next; answer = f .answer; r0 = f .r0; r1 = f .r1; r2 = f .r2; r3 = f .r3 }
+
+-- the frame on top, without the place of its method
+abbrev pub frameOf : Frame → defined.Frame
+frameOf f = asideOf (asideFrom f)
 
 -- the first n frames that wait, the last one first
 unfoldable pub below : List Waiting → ℕ → List defined.Frame

@@ -131,21 +131,29 @@ pub record Asks (s seen : List ℕ) (all : Bool) (c : Core) (o k : ℕ) : Type 0
   pub object : c .top .object ≡ o
   pub shut : isOpen s seen all (c .level) o k ≡ false
 
--- the first frame has popped with a reply
-abbrev pub finishedAs : Core → Value → Core
-finishedAs c v =
+-- the core with another number of frames, ending and reply
+abbrev pub stoodAs : Core → ℕ → Ending → Value → Core
+stoodAs c h e v =
     record {
       level = c .level;
       first = c .first;
       steps = c .steps;
       writes = c .writes;
       forks = c .forks;
-      height = 0;
-      ending = Finished;
+      height = h;
+      ending = e;
       reply = v;
       top = c .top;
-      effect = End;
+      effect = c .effect;
     }
+
+-- a step has ended it
+abbrev pub endedAs : Core → ℕ → Ending → Value → Core
+endedAs c h e v = causing (stoodAs c h e v) End
+
+-- the first frame has popped with a reply
+abbrev pub finishedAs : Core → Value → Core
+finishedAs c v = endedAs c 0 Finished v
 
 -- the top, at its script's end, is to pop
 abbrev pub endingAs : Core → Core
@@ -227,22 +235,6 @@ pub record Popped (s : List ℕ) (c : Core) (below : Waiting) (v : Value) (r : C
   pub top-is : frameOf (r .top) ≡ withRegister (asideOf below) (intoOf (c .top .answer)) (cond (returnsOf (c .top .answer)) v Nil)
   pub answer-is : r .top .answer ≡ below .answer
   pub top-placed : Placed s (r .top)
-
--- the core with another number of frames, ending and reply
-abbrev pub stoodAs : Core → ℕ → Ending → Value → Core
-stoodAs c h e v =
-    record {
-      level = c .level;
-      first = c .first;
-      steps = c .steps;
-      writes = c .writes;
-      forks = c .forks;
-      height = h;
-      ending = e;
-      reply = v;
-      top = c .top;
-      effect = c .effect;
-    }
 
 -- how it stands once no frame above the first is at its script's end: a first frame at its end pops, replying NIL; "the 256th step left frames"
 abbrev pub closedAs : Core → Core

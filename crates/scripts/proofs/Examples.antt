@@ -104,7 +104,17 @@ chain = programWith [] ((Send 0 0 1 ∷ []) ∷ (Send 0 0 2 ∷ []) ∷ (Set 0 8
 abbrev forking : Program
 forking = programWith (0 ∷ 1 ∷ []) ((filling ++ replicate 15 (Send 0 0 1) ++ Send 2 0 1 ∷ Quit 2 ∷ []) ∷ [])
 
+-- a manager at level 2 and write stamp 5, started for a message by a name to object 1, which has a method 0
+abbrev startedBy : ℕ → Manager
+startedBy name = started (programWith [] ([] ∷ eight ∷ [])) 2 5 (record { object = 1; name = name; parameter = Number 4 })
+
 pub record Examples : Type 0 where
+  -- a manager's start: its level and write stamps, and its first frame, for its message
+  start-level : startedBy 0 .level ≡ 2
+  start-stamps : stamps (startedBy 0) ≡ 0 ∷ 5 ∷ 5 ∷ []
+  start-stands : standing (startedBy 0) ≡ 1 ∷ 0 ∷ 0 ∷ 0 ∷ []
+  start-registers : registers (startedBy 0) ≡ Number 4 ∷ Nil ∷ Nil ∷ Nil ∷ []
+  start-name : standing (startedBy 1) ≡ 0 ∷ 0 ∷ 0 ∷ 0 ∷ []
   -- "SET a to n"
   set : alone (Set 1 3 ∷ Quit 1 ∷ []) 2 .reply ≡ Number 3
   fills : registers (alone (filling ++ Quit 0 ∷ []) 3) ≡ Number 4 ∷ Number 5 ∷ Number 6 ∷ Number 7 ∷ []
@@ -198,6 +208,11 @@ pub examples : Examples
 unfolding all first isLeast join dominates fateOf sum isNilOr0 withRegister popped settled concluded started written called forked sent operated stepped manager
 examples =
     record {
+      start-level = refl;
+      start-stamps = refl;
+      start-stands = refl;
+      start-registers = refl;
+      start-name = refl;
       set = refl;
       fills = refl;
       add = refl;

@@ -2,7 +2,7 @@
 use Prim.Native.Nat.{ℕ, zero, suc, _+_, _-_, _*_, _≤_, _<_}
 use mathlib.Core.Path.{_≡_, refl, sym, _∙_, ap, subst}
 use mathlib.Core.Bool.{Bool, true, false, cond, _&&_}
-use mathlib.Core.List.{List, [], _∷_}
+use mathlib.Core.List.{List, _∷_}
 use native.Mathlib.Decide.{ℕ-discrete}
 use native.Mathlib.Omega.{arith}
 use borrow.Author.Tests.{ltb-true}
@@ -12,8 +12,6 @@ use lib.Seq.{getD-set-same, getD-set-other}
 use Rattle.lattice.proofs.Laws.Range.{not-both, and-left, and-right}
 use Rattle.session.specs.Program.{Program, programOf}
 use Rattle.session.specs.declared.Value.{Value}
-use Rattle.session.specs.declared.Step.{Step}
-use Rattle.session.specs.declared.Step.the-variants as op
 use Rattle.session.proofs.Laws.Lists.{holds, fails, truth}
 use Rattle.scripts.specs.Limits.{maxFrames, maxScriptSteps}
 use Rattle.scripts.specs.Ending.{isRunning}

@@ -12,7 +12,6 @@ use Rattle.session.specs.declared.Value.{Value}
 use Rattle.session.proofs.Laws.Lists.{holds, fails, truth}
 use Rattle.scripts.specs.Ending.{isRunning}
 use Rattle.scripts.specs.Effect as effect
-use Rattle.scripts.specs.State as defined
 use Rattle.scripts.specs.Manager.{topOf, top, nextStep}
 use Rattle.words.specs.Reads.{isOpen, shownIn}
 use Rattle.managers.specs.Frames.{frameOf, below}

@@ -25,11 +25,11 @@ use Rattle.scripts.specs.declared.Ending.{Ending}
 use Rattle.scripts.specs.declared.Ending.the-variants.{OutOfWrites, Finished}
 use Rattle.managers.specs.Frames.{intoOf, returnsOf, answerOf, frameOf, Same, Becomes, Method}
 use Rattle.managers.specs.Core.{bare, standing, stackOf, comesTo, isOver, isAsking, Tall, Present, Sits}
-use Rattle.managers.specs.Moves.{Able, Moves, Makes, passed, pastOf, nextTop, causing, finishedAs, ownWritten, counting}
+use Rattle.managers.specs.Moves.{Able, Moves, Makes, passed, pastOf, nextTop, causing, endedAs, finishedAs, ownWritten, counting}
 use Rattle.managers.specs.declared.Core.{Core}
 use Rattle.managers.specs.declared.frames.Frame.{Frame}
 use Rattle.managers.specs.declared.Effect.{Effect}
-use Rattle.managers.specs.declared.Effect.the-variants.{Nothing, End, Write, Fork, Call, Pop}
+use Rattle.managers.specs.declared.Effect.the-variants.{Nothing, Write, Fork, Call, Pop}
 use Rattle.managers.proofs.Laws.Frames.{answer-into, answer-returns, register-next, becomes-placed}
 
 -- a step that leaves another top of the same method
@@ -82,38 +82,6 @@ module _ (c r : Core) (a b : ℕ) where
   pub moves-stayed : isNilOr0 (register (frameOf (c .top)) a) ≡ false → Moves c r (pastOf c) → Moves c r (cond (isNilOr0 (register (pastOf c) a)) (atStep (pastOf c) b) (pastOf c))
   moves-stayed test m = subst (Moves c r) (ap (λ t. cond t (atStep (pastOf c) b) (pastOf c)) (sym test)) m
 
--- the core one script step on, with another top, other counts of writes and forks, and another effect: it goes on
-abbrev going : Core → Frame → ℕ → ℕ → Effect → Core
-going c f w k x =
-    record {
-      level = c .level;
-      first = c .first;
-      steps = c .steps + 1;
-      writes = w;
-      forks = k;
-      height = c .height;
-      ending = c .ending;
-      reply = c .reply;
-      top = f;
-      effect = x;
-    }
-
--- or it has ended, with so many frames, and a reply
-abbrev over : Core → Frame → ℕ → Ending → Value → Core
-over c f h e v =
-    record {
-      level = c .level;
-      first = c .first;
-      steps = c .steps + 1;
-      writes = c .writes;
-      forks = c .forks;
-      height = h;
-      ending = e;
-      reply = v;
-      top = f;
-      effect = End;
-    }
-
 -- a core with other counts of writes and forks, and another effect
 abbrev effecting : Core → ℕ → ℕ → Effect → Core
 effecting c w k x =
@@ -130,21 +98,13 @@ effecting c w k x =
       effect = x;
     }
 
--- or ended, with so many frames and a reply
-abbrev endedAs : Core → ℕ → Ending → Value → Core
-endedAs c h e v =
-    record {
-      level = c .level;
-      first = c .first;
-      steps = c .steps;
-      writes = c .writes;
-      forks = c .forks;
-      height = h;
-      ending = e;
-      reply = v;
-      top = c .top;
-      effect = End;
-    }
+-- such a core one script step on, with another top: it goes on
+abbrev going : Core → Frame → ℕ → ℕ → Effect → Core
+going c f w k x = effecting (nextTop c f) w k x
+
+-- or the step has ended it, with so many frames, and a reply
+abbrev over : Core → Frame → ℕ → Ending → Value → Core
+over c f h e v = endedAs (nextTop c f) h e v
 
 -- the frames below a single one
 alone : (gs : List defined.Frame) → length gs ≡ 0 → gs ≡ []

@@ -1,5 +1,5 @@
 -- `managers::Manager::start` meets its contract. Assumes nothing.
-use Prim.Native.Nat.{ℕ, _+_}
+use Prim.Native.Nat.{ℕ, _+_, _≤_, _<_}
 use mathlib.Core.Path.{_≡_, refl, sym, _∙_, ap, ap₂}
 use mathlib.Core.Bool.{true, false}
 use mathlib.Core.List.{List, [], _∷_}
@@ -15,10 +15,12 @@ use Rattle.session.specs.declared.Message.{Message}
 use Rattle.session.specs.declared.Value.the-variants.{Nil}
 use Rattle.session.specs.declared.Verdict.the-variants.{Accepted}
 use Rattle.session.proofs.Laws.Lists.{holds, fails, truth}
+use Rattle.scripts.specs.Ending.{isRunning}
 use Rattle.scripts.specs.State as defined
 use Rattle.scripts.specs.Frame.{frameFor}
 use Rattle.scripts.specs.Manager.{isEnd, nextStep, started}
 use Rattle.scripts.specs.Valid.{Startable}
+use Rattle.scripts.specs.declared.Ending.{Ending}
 use Rattle.scripts.specs.declared.Ending.the-variants.{Running, Finished}
 use Rattle.scripts.proofs.Laws.Settle.{concluded-last, concluded-not}
 use Rattle.managers.specs.Frames.{frameOf, below, Placed}
@@ -76,21 +78,22 @@ module _ (s : List ℕ) (a : verdictOf s ≡ Accepted) (level stamp : ℕ) (m : 
       let g = frameFor (m .object) (m .name) 0 true (m .parameter) in
       rw none (sym (concluded-last (programOf s) (alone level stamp stamp g) g (ap (λ x. isEnd (nextStep (programOf s) x)) (sym is) ∙ at-end s a f p q)))
 
-  ends-held : Held s (record { core = stoodAs (begun level stamp f) 0 Finished Nil; waiting = ws })
-  ends-held =
+  -- it is within its limits, however it stands
+  stood-held : (n : ℕ) (e : Ending) → n ≤ 1 → (isRunning e ≡ true → (0 < n) × (f .next < f .count)) → Held s (record { core = stoodAs (begun level stamp f) n e Nil; waiting = ws })
+  stood-held n e low live =
       record {
         level = h .placed;
-        low = omega arith;
+        low = omega (arith, low);
         made = omega arith;
         wrote = omega arith;
         forked = omega arith;
         fits = h .fits;
         top = p;
         room = room;
-        each = λ k l. absurd (omega arith);
-        live = λ r. absurd (not-both false r refl);
-        few = λ r. absurd (not-both false r refl);
-        goes = λ r. absurd (not-both false r refl);
+        each = λ k l. absurd (omega (arith, l, low));
+        live = λ r. live r .0;
+        few = λ r. omega arith;
+        goes = λ r. live r .1;
       }
 
   -- another runs
@@ -102,27 +105,10 @@ module _ (s : List ℕ) (a : verdictOf s ≡ Accepted) (level stamp : ℕ) (m : 
       ∙ sym (concluded-not (programOf s) (alone level stamp stamp g) g [] refl refl (omega arith)
       (ap (λ x. isEnd (nextStep (programOf s) x)) (sym is) ∙ not-end s a f p (leb-false (f .count) (f .next) q)))
 
-  goes-held : leb (f .count) (f .next) ≡ false → Held s (record { core = begun level stamp f; waiting = ws })
-  goes-held q =
-      record {
-        level = h .placed;
-        low = omega arith;
-        made = omega arith;
-        wrote = omega arith;
-        forked = omega arith;
-        fits = h .fits;
-        top = p;
-        room = room;
-        each = λ k l. absurd (omega arith);
-        live = λ r. omega arith;
-        few = λ r. omega arith;
-        goes = λ r. leb-false (f .count) (f .next) q;
-      }
-
   starts : (c : Core) → c ≡ closedAs (begun level stamp f) → (managerOf (record { core = c; waiting = ws }) ≡ started (programOf s) level stamp m) × Held s (record { core = c; waiting = ws })
   starts c e = elim (truth (leb (f .count) (f .next))) [
-    | holds q ↦ rw (e ∙ closed-last (begun level stamp f) refl q) (ends q, ends-held)
-    | fails q ↦ rw (e ∙ closed-goes (begun level stamp f) refl q (omega arith)) (goes q, goes-held q)
+    | holds q ↦ rw (e ∙ closed-last (begun level stamp f) refl q) (ends q, stood-held 0 Finished (omega arith) (λ r. absurd (not-both false r refl)))
+    | fails q ↦ rw (e ∙ closed-goes (begun level stamp f) refl q (omega arith)) (goes q, stood-held 1 Running (omega arith) (λ _. (omega arith, leb-false (f .count) (f .next) q)))
   ]
 
 new-requires : tie.Need-new-requires
