@@ -1,5 +1,6 @@
 -- Laws of the depth-first run.
 pub mod Kept
+pub mod Spared
 pub mod Step
 pub mod Perform
 pub mod Run

@@ -19,7 +19,8 @@ use Rattle.scripts.specs.Limits.{maxForks}
 use Rattle.scripts.specs.State.{Manager}
 use Rattle.scripts.specs.declared.Ended.{Ended}
 use Rattle.words.specs.Limits.{fieldWords}
-use Rattle.words.specs.Fields.{fieldAt}
+use Rattle.words.specs.Outside.{Outside}
+use Rattle.words.specs.Fields.{fieldPlace, fieldAt}
 use Rattle.managers.specs.Core.{effectOf, Present}
 use Rattle.managers.specs.declared.Effect.{Effect}
 use Rattle.managers.specs.declared.Effect.the-variants as effect
@@ -28,8 +29,8 @@ use Rattle.model.specs.Lists.{inserted}
 use Rattle.model.specs.Fork as model
 use Rattle.model.specs.DepthFirst.{Progress, tallyAt, fieldNow, effected, runFork}
 use Rattle.records.specs.Limits.{historyWords}
-use Rattle.records.specs.Histories.{historiesAt, InOrder, historyOf}
-use Rattle.tallies.specs.Places.{nextPlace, tallyNumbers}
+use Rattle.records.specs.Histories.{levelPlace, historiesAt, InOrder, historyOf}
+use Rattle.tallies.specs.Places.{nextPlace, waitingPlace, tallyNumbers}
 use Rattle.depth_first.specs.declared.forks.Fork.{Fork}
 
 -- an accepted session, its level table and its method index
@@ -84,6 +85,13 @@ pub record Words : Type 0 where
 abbrev pub Says : List ℕ → Progress → Words → Type 0
 Says s g w = Kept s g (w .current) (w .ended) (w .tallies)
 
+-- of a run's words only the fields of present objects, the histories of present levels, and what is counted of managers that have ended and of
+-- next write stamps may have become others
+pub record Spared (s : List ℕ) (w w' : Words) : Type 0 where
+  pub current : Outside (w .current) (w' .current) 0 (fieldPlace (objectCount s) 0)
+  pub ended : Outside (w .ended) (w' .ended) 0 (levelPlace (levelCount s))
+  pub tallies : Outside (w .tallies) (w' .tallies) 0 (waitingPlace 0)
+
 -- a step that makes a fork makes one more than the manager had made before
 abbrev pub Forking : Effect → ℕ → ℕ → Type 0
 Forking e before forks = (u o b : ℕ) (v : Value) → e ≡ effect.Fork u o b v → forks ≡ before + 1
@@ -99,26 +107,29 @@ pub record Performable (s : List ℕ) (left : ℕ) (f : Fork) (forks : ℕ) (e :
 -- it is done to the words, as the definition does it for the manager n that made the step
 abbrev pub Performed : List ℕ → ℕ → Fork → ℕ → Effect → Words → Words → Type 0
 Performed s left f forks e w w' =
-    (g : Progress) (x : model.Fork) (n : Manager)
+    Spared s w w'
+    × ((g : Progress) (x : model.Fork) (n : Manager)
     → Says s g w
     → Same f x
     → Forking e (n .forks) forks
-    → Says s (effected (runFork left (programOf s)) (f .level) x n (effectOf e) g) w'
+    → Says s (effected (runFork left (programOf s)) (f .level) x n (effectOf e) g) w')
 
 -- what a fork that is made does to the words
 abbrev pub ForkDone : List ℕ → ℕ → Fork → Words → Words → Type 0
 ForkDone s left f w w' =
-    (g : Progress) (x : model.Fork)
+    Spared s w w'
+    × ((g : Progress) (x : model.Fork)
     → Says s g w
     → Same f x
-    → Says s (cond (ltb (length (tallyAt g (f .level) .ended)) maxManagers) (runFork left (programOf s) (f .level) x g) g) w'
+    → Says s (cond (ltb (length (tallyAt g (f .level) .ended)) maxManagers) (runFork left (programOf s) (f .level) x g) g) w')
 
 -- what the run of a fork that is kept does to the words, and what it hands back: the history that the definition keeps of it, so that its
 -- script steps are as many as the definition makes
 abbrev pub RunDone : List ℕ → ℕ → Fork → Words → Words → Ended → Type 0
 RunDone s left f w w' r =
-    (g : Progress) (x : model.Fork)
+    Spared s w w'
+    × ((g : Progress) (x : model.Fork)
     → Says s g w
     → Same f x
     → Says s (runFork left (programOf s) (f .level) x g) w'
-    × (0 < left → tallyAt (runFork left (programOf s) (f .level) x g) (f .level) .ended ≡ inserted (λ h. h .stamp) (historyOf r) (tallyAt g (f .level) .ended))
+    × (0 < left → tallyAt (runFork left (programOf s) (f .level) x g) (f .level) .ended ≡ inserted (λ h. h .stamp) (historyOf r) (tallyAt g (f .level) .ended)))

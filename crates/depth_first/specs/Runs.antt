@@ -11,6 +11,8 @@ use Rattle.model.specs.Limits.{resultBytes}
 use Rattle.model.specs.DepthFirst.{Progress, newTally, depthFirst}
 use Rattle.model.specs.Result.{resultOfDepthFirst}
 use Rattle.records.specs.Writing.{bytesIn, Written}
+use Rattle.records.specs.declared.Answer.{Answer}
+use Rattle.depth_first.specs.Kept.{Words, Says, Spared}
 use Rattle.depth_first.specs.declared.forks.Fork.{Fork}
 
 -- the root message's fork
@@ -33,3 +35,9 @@ bytesShown s c =
 pub record Shown (s : List ℕ) (c : ℕ) (before after : List ℕ) (count : ℕ) : Type 0 where
   pub written : Written (bytesShown s c) before after count
   pub fits : count ≤ resultBytes
+
+-- a run over words of its own: they say the whole run then, nothing else in them became another, and the bytes stand in the buffer
+pub record RanOver (s : List ℕ) (c : ℕ) (w w' : Words) (before after : List ℕ) (count : ℕ) : Type 0 where
+  pub says : Says s (depthFirst (programOf s) (rootOf s)) w'
+  pub spared : Spared s w w'
+  pub shown : Shown s c before after count

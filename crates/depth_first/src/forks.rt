@@ -6,7 +6,6 @@
 // of that name.
 use managers::Effect;
 use managers::Manager;
-use model::MAX_MANAGERS;
 use scripts::Ended;
 use session::Message;
 use tallies::NEXT;
@@ -92,7 +91,7 @@ fn run_kept(
     requires { ⌜ Runnable (now session) left fork ⌝ }
     ensures { λ _. ⌜ ForkDone (now (session .entry)) left fork (record { current = now (current .entry); ended = now (ended .entry); tallies = now (tallies .entry) }) (record { current = now (current .exit); ended = now (ended .exit); tallies = now (tallies .exit) }) ⌝ }
 {
-    if tallies[fork.level as usize] < MAX_MANAGERS {
+    if tallies::has_room(tallies, fork.level as usize) {
         run_manager(session, masks, index, current, ended, tallies, left, fork);
     }
 }

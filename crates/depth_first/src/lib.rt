@@ -17,7 +17,7 @@ ghost use Rattle.session.specs.declared.Verdict.the-variants.{Accepted};
 ghost use Rattle.model.specs.Limits.{resultBytes};
 ghost use Rattle.model.specs.Entries.{deep, Answers};
 ghost use Rattle.depth_first.specs.Kept.{Read, Says};
-ghost use Rattle.depth_first.specs.Runs.{RootFork, startOf, Shown};
+ghost use Rattle.depth_first.specs.Runs.{RootFork, startOf, Shown, RanOver};
 
 // The fork of the root message.
 fn root_fork(session: &[u8], masks: &[u16]) -> Fork
@@ -49,7 +49,7 @@ fn run_over(
     requires { ⌜ Read (now session) (now masks) (now index) ⌝ }
     requires { ⌜ Says (now session) (startOf (now session)) (record { current = now current; ended = now ended; tallies = now tallies }) ⌝ }
     requires { ⌜ resultBytes ≤ length (now result) ⌝ }
-    ensures { λ r. ⌜ Shown (now (session .entry)) clearance (now (result .entry)) (now (result .exit)) r ⌝ }
+    ensures { λ r. ⌜ RanOver (now (session .entry)) clearance (record { current = now (current .entry); ended = now (ended .entry); tallies = now (tallies .entry) }) (record { current = now (current .exit); ended = now (ended .exit); tallies = now (tallies .exit) }) (now (result .entry)) (now (result .exit)) r ⌝ }
 {
     let root = root_fork(session, masks);
     let level = root.level as usize;

@@ -1,12 +1,15 @@
 // What is counted of each level, in lent numbers of one layout for every run; and questions 12 to 15, which
 // look at these alone.
+use model::MAX_MANAGERS;
 use records::histories;
 use scripts::Ended;
 use session::limits::MAX_LEVELS;
 ghost use mathlib.Core.Path.{_≡_};
 ghost use Prim.Native.Nat.{_≤_, _<_};
+ghost use lib.Dec.{ltb};
 ghost use lib.ListN.{length, getD};
 ghost use Rattle.session.specs.Limits.{maxLevels};
+ghost use Rattle.model.specs.Limits.{maxManagers};
 ghost use Rattle.records.specs.Histories.{HistoryRoom};
 ghost use Rattle.tallies.specs.Places.{tallyNumbers, startTallies, Closed};
 ghost use Rattle.tallies.specs.Permits.{busyIn, managed, clearOf, endedOf, permitOf, noted, Countable};
@@ -65,6 +68,14 @@ pub fn close(ended: &mut [u32], tallies: &mut [usize], level: usize, history: En
     tallies[NEXT + level] = history.last as usize + 1;
 }
 
+// Whether a level at which all forks that it kept have ended keeps one more. Each level counts its own.
+pub fn has_room(tallies: &[usize], level: usize) -> bool
+    requires { ⌜ (level < maxLevels) × (tallyNumbers ≤ length (now tallies)) ⌝ }
+    ensures { λ r. ⌜ r ≡ ltb (getD (now (tallies .entry)) level 0) maxManagers ⌝ }
+{
+    tallies[level] < MAX_MANAGERS
+}
+
 // Whether a manager runs at a level.
 pub fn is_busy(tallies: &[usize], level: usize) -> bool
     requires { ⌜ (level < maxLevels) × (tallyNumbers ≤ length (now tallies)) ⌝ }
@@ -99,8 +110,8 @@ pub fn all_ended(masks: &[u16], tallies: &[usize]) -> bool
     requires { ⌜ Countable (now masks) (now tallies) ⌝ }
     ensures { λ r. ⌜ r ≡ endedOf (now (masks .entry)) (now (tallies .entry)) ⌝ }
 {
-    for j in 0..masks.len() {
-        if has_manager(tallies, j) {
+    for level in 0..masks.len() {
+        if has_manager(tallies, level) {
             return false;
         }
     }

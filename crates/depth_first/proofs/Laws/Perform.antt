@@ -20,6 +20,7 @@ use Rattle.model.proofs.Laws.Invariant.Stamps.{child-within}
 use Rattle.depth_first.specs.Kept.{Read, Keeps, Runnable, Same, Words, Says, Performable, Performed, ForkDone}
 use Rattle.depth_first.specs.declared.forks.Fork as fork
 use Rattle.depth_first.proofs.Laws.Kept.{kept-write}
+use Rattle.depth_first.proofs.Laws.Spared.{spared-none, spared-write}
 
 -- the fork that a step makes
 abbrev pub child : fork.Fork → ℕ → ℕ → Message → fork.Fork
@@ -32,8 +33,10 @@ module _ {s masks index : List ℕ} (a : Read s masks index) {left : ℕ} {f : f
   -- a step that did nothing outside its manager
   pub perform-nothing : (w : Words) → effectOf e ≡ effect.Nothing → Performed s left f forks e w w
   unfolding effected
-  perform-nothing w none g x n says same forking =
-      subst (λ t. Says s (effected (runFork left p) (f .level) x n t g) w) (sym none) says
+  perform-nothing w none = (
+    spared-none s w,
+    λ g x n says same forking. subst (λ t. Says s (effected (runFork left p) (f .level) x n t g) w) (sym none) says,
+  )
 
   -- one that wrote a field
   module _ {o i : ℕ} {v : Value} (is : e ≡ Write o i v) where
@@ -50,8 +53,10 @@ module _ {s masks index : List ℕ} (a : Read s masks index) {left : ℕ} {f : f
 
     pub perform-writes : (w : Words) (c' : List ℕ) → FieldSet (w .current) c' o i v → Performed s left f forks e w (record { current = c'; ended = w .ended; tallies = w .tallies })
     unfolding effected
-    perform-writes w c' set g x n says same forking =
-        rw is (kept-write s g (w .current) c' (w .ended) (w .tallies) o i v says (there .0) (there .1) set)
+    perform-writes w c' set = (
+      spared-write s w c' o i v (there .0) (there .1) set,
+      λ g x n says same forking. rw is (kept-write s g (w .current) c' (w .ended) (w .tallies) o i v says (there .0) (there .1) set),
+    )
 
   -- one that made a fork: it runs whole, if its level keeps it
   module _ {u o b : ℕ} {v : Value} (is : e ≡ Fork u o b v) where
@@ -91,5 +96,7 @@ module _ {s masks index : List ℕ} (a : Read s masks index) {left : ℕ} {f : f
 
       pub perform-forks : (w w' : Words) → ForkDone s left (child f u stamp message) w w' → Performed s left f forks e w w'
       unfolding effected
-      perform-forks w w' done g x n says same forking =
-          rw is (done g (model.childOf (f .level) x n message) says (same-child x n same (forking u o b v is)))
+      perform-forks w w' done = (
+        done .0,
+        λ g x n says same forking. rw is (done .1 g (model.childOf (f .level) x n message) says (same-child x n same (forking u o b v is))),
+      )

@@ -2,10 +2,10 @@
 -- nothing.
 use Prim.Native.Nat.{ℕ, zero, suc, _+_, _-_, _^_, _≤_, _<_}
 use mathlib.Core.Path.{_≡_, refl, sym, _∙_, ap, subst}
-use mathlib.Core.Bool.{true, false, cond}
+use mathlib.Core.Bool.{Bool, true, false, cond}
 use mathlib.Core.List.{List, []}
 use native.Mathlib.Omega.{arith}
-use borrow.Author.Tests.{lt-ltb, le-ltb}
+use lib.Dec.{ltb}
 use lib.ListN.{length, getD}
 use Rattle.lattice.proofs.Laws.Range.{not-both}
 use Rattle.session.specs.Limits.{maxLevels}
@@ -39,9 +39,10 @@ use Rattle.model.specs.DepthFirst.{Progress, tallyAt, fieldNow, close, finish, 
 use Rattle.model.proofs.Laws.Code.DepthFirst.{finish-over}
 use Rattle.records.specs.Histories.{historyOf, HistoryRoom}
 use Rattle.tallies.specs.Places.{nextPlace, tallyNumbers, tallied, Closed}
-use Rattle.depth_first.specs.Kept.{Read, Keeps, Runnable, Same, Words, Says, Performable, Performed, ForkDone, RunDone}
+use Rattle.depth_first.specs.Kept.{Read, Keeps, Runnable, Same, Words, Says, Spared, Performable, Performed, ForkDone, RunDone}
 use Rattle.depth_first.specs.declared.forks.Fork.{Fork}
 use Rattle.depth_first.proofs.Laws.Kept.{ended-own, kept-close}
+use Rattle.depth_first.proofs.Laws.Spared.{spared-none, spared-then, spared-close}
 use Rattle.depth_first.proofs.Laws.Step.{led-valid, led-forking, led-ends}
 
 -- the fork with no write stamps carried
@@ -63,9 +64,6 @@ module _ {s masks index : List ℕ} (a : Read s masks index) (l : ℕ) (h : l < 
     pub next-there : nextPlace l < length t
     next-there = omega (arith, level-small, q .1 .tallies-there)
 
-    pub count-there : l < length t
-    count-there = omega (arith, level-small, q .1 .tallies-there)
-
     pub next-fits : getD t (nextPlace l) 0 + maxForks + 1 < 2 ^ 16
     next-fits =
         let k = q .1 .counted l h in
@@ -73,20 +71,19 @@ module _ {s masks index : List ℕ} (a : Read s masks index) (l : ℕ) (h : l < 
 
 -- a fork that is made: one whose level is full does nothing, any other runs
 module _ {s : List ℕ} {left : ℕ} {f : Fork} (r : Runnable s left f) (w : Words) where
-  pub fork-kept : (w' : Words) (h : Ended) → getD (w .tallies) (f .level) 0 < maxManagers → RunDone s left f w w' h → ForkDone s left f w w'
-  fork-kept w' h less d g x q k =
-      let room : length (tallyAt g (f .level) .ended) < maxManagers = omega (arith, q .counted (f .level) (r .placed) .count, less) in
-      rw (lt-ltb (length (tallyAt g (f .level) .ended)) maxManagers room) (d g x q k .0)
+  room-is : (b : Bool) → ltb (getD (w .tallies) (f .level) 0) maxManagers ≡ b → (g : Progress) → Says s g w → ltb (length (tallyAt g (f .level) .ended)) maxManagers ≡ b
+  room-is b e g q = ap (λ n. ltb n maxManagers) (sym (q .counted (f .level) (r .placed) .count)) ∙ e
 
-  pub fork-dropped : maxManagers ≤ getD (w .tallies) (f .level) 0 → ForkDone s left f w w
-  fork-dropped most g x q k =
-      let full : maxManagers ≤ length (tallyAt g (f .level) .ended) = omega (arith, q .counted (f .level) (r .placed) .count, most) in
-      rw (le-ltb (length (tallyAt g (f .level) .ended)) maxManagers full) q
+  pub fork-kept : (w' : Words) (h : Ended) → ltb (getD (w .tallies) (f .level) 0) maxManagers ≡ true → RunDone s left f w w' h → ForkDone s left f w w'
+  fork-kept w' h room d = (d .0, λ g x q k. rw (room-is true room g q) (d .1 g x q k .0))
+
+  pub fork-dropped : ltb (getD (w .tallies) (f .level) 0) maxManagers ≡ false → ForkDone s left f w w
+  fork-dropped full = (spared-none s w, λ g x q k. rw (room-is false full g q) q)
 
 -- with no level left there is no run
 pub run-none : (s : List ℕ) (left : ℕ) (f : Fork) (w : Words) (h : Ended) → left ≡ 0 → RunDone s left f w w h
 unfolding runFork
-run-none s left f w h e g x q k = rw e (q, λ z. absurd (omega (arith, z)))
+run-none s left f w h e = (spared-none s w, λ g x q k. rw e (q, λ z. absurd (omega (arith, z))))
 
 -- the last write stamp of a manager, and the next one's, fit 16 bits
 pub last-fits : {s : List ℕ} {m : Manager} → Held s m → m .core .first + m .core .forks + 1 < 2 ^ 16
@@ -122,6 +119,7 @@ pub record Looped (s : List ℕ) (left : ℕ) (f : Fork) (w₀ w : Words) (m : M
   pub valid : Valid s (managerOf m)
   pub level : m .core .level ≡ f .level
   pub first : m .core .first ≡ getD (w₀ .tallies) (nextPlace (f .level)) 0
+  pub spared : Spared s w₀ w
   pub ahead : (g₀ : Progress) (x : model.Fork) → Says s g₀ w₀ → Same f x → Ahead s left f (managerOf m) w g₀ x
 
 -- each time round but the last makes this less
@@ -150,6 +148,7 @@ module _ {s masks index : List ℕ} (a : Read s masks index) {left : ℕ} {f : F
         valid = subst (Valid s) (sym e) (started-valid s (a .accepted) (f .level) next (f .message) (fork-starts a r q));
         level = ap (λ m. m .level) e ∙ ap (λ c. c .level) counts;
         first = ap (λ m. m .first) e ∙ ap (λ c. c .first) counts;
+        spared = spared-none s w;
         ahead = λ g x says same. record {
           now = g;
           says = says;
@@ -203,6 +202,7 @@ module _ {s masks index : List ℕ} (a : Read s masks index) {left : ℕ} {f : F
             valid = led-valid s (a .accepted) (fieldNow p (here .now)) (managerOf m) (steppedOf n) (l .valid) (leads (here .now) (here .says));
             level = ad .level-is ∙ l .level;
             first = ad .first-is ∙ l .first;
+            spared = spared-then s w₀ w w' (l .spared) (done .0);
             ahead = λ g x says same.
                 let b = l .ahead g x says same in
                 let at : managerOf m .level ≡ f .level = unfold managerOf in l .level in
@@ -254,20 +254,23 @@ module _ {s masks index : List ℕ} (a : Read s masks index) {left : ℕ} {f : F
 
       pub run-ends : (e' t' : List ℕ) → Closed (f .level) h (w .ended) e' (w .tallies) t' → RunDone s left f w₀ (record { current = w .current; ended = e'; tallies = t' }) h
       unfolding managerOf
-      run-ends e' t' done g x says same =
-          let n = managerOf m in
-          let b = l .ahead g x says same in
-          let at = says .counted (f .level) (r .placed) in
-          let run : runFork left p (f .level) x g ≡ close (f .level) x n (b .now) =
-          sym (b .ends) ∙ finish-over (runFork (left - 1) p) (maxScriptSteps - n .steps) p (f .level) x n (b .now) over in
-          let history-is : historyOf h ≡ history.historyOf x n = ap historyOf is ∙ rw (same .stamp) refl in
-          let more = few-ended says b in
-          let pace : n .stamp ≤ tallyAt (b .now) (f .level) .next + maxForks =
-          rw (ap (λ t. t .next) (b .own)) (omega (arith, l .held .forked, l .first, at .next)) in
-          let counted : t' ≡ tallied (f .level) (getD (w .tallies) (f .level) 0 + 1) (n .stamp + 1) (w .tallies) =
-          done .counted ∙ ap (λ h. tallied (f .level) (getD (w .tallies) (f .level) 0 + 1) (h .last + 1) (w .tallies)) is in
-          rw (run, counted) (
-            kept-close s (b .now) (w .current) (w .ended) e' (w .tallies) (b .says) (few s (a .accepted)) (f .level) (r .placed) x n h history-is more (done .added) pace,
-            λ _. ended-own s (b .now) (w .current) (w .ended) e' (w .tallies) (b .says) (few s (a .accepted)) (f .level) (r .placed) x n h history-is more (done .added) pace
-                ∙ ap (λ t. inserted (λ h. h .stamp) (historyOf h) (t .ended)) (b .own),
-          )
+      run-ends e' t' done = (
+        spared-then s w₀ w _ (l .spared) (spared-close s w e' t' (f .level) h (r .placed) (level-small a (f .level) (r .placed)) (run-room .0 .more) done),
+        λ g x says same.
+            let n = managerOf m in
+            let b = l .ahead g x says same in
+            let at = says .counted (f .level) (r .placed) in
+            let run : runFork left p (f .level) x g ≡ close (f .level) x n (b .now) =
+            sym (b .ends) ∙ finish-over (runFork (left - 1) p) (maxScriptSteps - n .steps) p (f .level) x n (b .now) over in
+            let history-is : historyOf h ≡ history.historyOf x n = ap historyOf is ∙ rw (same .stamp) refl in
+            let more = few-ended says b in
+            let pace : n .stamp ≤ tallyAt (b .now) (f .level) .next + maxForks =
+            rw (ap (λ t. t .next) (b .own)) (omega (arith, l .held .forked, l .first, at .next)) in
+            let counted : t' ≡ tallied (f .level) (getD (w .tallies) (f .level) 0 + 1) (n .stamp + 1) (w .tallies) =
+            done .counted ∙ ap (λ h. tallied (f .level) (getD (w .tallies) (f .level) 0 + 1) (h .last + 1) (w .tallies)) is in
+            rw (run, counted) (
+              kept-close s (b .now) (w .current) (w .ended) e' (w .tallies) (b .says) (few s (a .accepted)) (f .level) (r .placed) x n h history-is more (done .added) pace,
+              λ _. ended-own s (b .now) (w .current) (w .ended) e' (w .tallies) (b .says) (few s (a .accepted)) (f .level) (r .placed) x n h history-is more (done .added) pace
+                  ∙ ap (λ t. inserted (λ h. h .stamp) (historyOf h) (t .ended)) (b .own),
+            ),
+      )

@@ -103,12 +103,12 @@ module _ (s : List ℕ) (a : verdictOf s ≡ Accepted) where
   pub led-ends : (left : ℕ) (f : fork.Fork) (w w' : Words) (m : Manager) (r : code.Manager) → Valid s m → f .level < levelCount s → m .level ≡ f .level → Performed s left f (r .core .forks) (r .core .effect) w w' → (g : Progress) (x : model.Fork) → Says s g w → Same f x → Leads p (fieldNow p g) m (steppedOf r) → SameEnd left f w w' m (managerOf r) g x
   unfolding effected
   led-ends left f w w' m r v placed at does g x says same (quiet k q none) =
-      let said = does g x m says same (quiet-forking (r .core .effect) (m .forks) (r .core .forks) none) in
+      let said = does .1 g x m says same (quiet-forking (r .core .effect) (m .forks) (r .core .forks) none) in
       (g, (subst (λ e. Says s (effected (runFork left p) (f .level) x m e g) w') none said, (quiet-ends left (f .level) x k m (managerOf r) g v q, refl)))
   led-ends left f w w' m r v placed at does g x says same (last k n q run e) =
       let read = fieldNow p g in
       let there : f .level < p .levels = unfold programOf in placed in
       let step = step-does left (f .level) x n (steppedOf r) g (quiet-valid read k m n v q) run there (quiet-alike p read k m n q .0 ∙ at) e in (
         effected (runFork left p) (f .level) x n (effectOf (r .core .effect)) g,
-        (does g x n says same (step-forking p read n r e), (quiet-ends left (f .level) x k m n g v q ∙ step .0, step .1)),
+        (does .1 g x n says same (step-forking p read n r e), (quiet-ends left (f .level) x k m n g v q ∙ step .0, step .1)),
       )

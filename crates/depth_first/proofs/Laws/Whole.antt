@@ -19,7 +19,7 @@ use Rattle.records.specs.Writing.{resultIn, bytesIn, Ready, Written}
 use Rattle.records.proofs.Laws.Depends.{bytes-depend-by-number}
 use Rattle.records.proofs.Laws.Written.{bytes-fit}
 use Rattle.depth_first.specs.Kept.{Read, Runnable, Same, Words, Says, RunDone}
-use Rattle.depth_first.specs.Runs.{RootFork, startOf, bytesShown, Shown}
+use Rattle.depth_first.specs.Runs.{RootFork, startOf, bytesShown, RanOver}
 use Rattle.depth_first.specs.declared.forks.Fork.{Fork}
 use Rattle.depth_first.proofs.Laws.Start.{start-tally}
 
@@ -85,7 +85,7 @@ module _ (s masks index : List ℕ) (a : Read s masks index) where
     -- the words then say the whole run
     pub run-says : (w w' : Words) (h : Ended) → Says s (startOf s) w → RunDone s (length masks) f w w' h → Says s (depthFirst p (rootOf s)) w'
     run-says w w' h q d =
-        rw (sym run-is) (d (startOf s) (model.rootFork (levelCount s) (rootOf s)) q root-same .0)
+        rw (sym run-is) (d .1 (startOf s) (model.rootFork (levelCount s) (rootOf s)) q root-same .0)
 
     module _ (w w' : Words) (h : Ended) (q : Says s (startOf s) w) (d : RunDone s (length masks) f w w' h) where
       pub write-ready : (buffer : List ℕ) → resultBytes ≤ length buffer → Ready s masks (w' .current) (w' .ended) (w' .tallies) (f .level) buffer
@@ -102,10 +102,14 @@ module _ (s masks index : List ℕ) (a : Read s masks index) where
             room = room;
           }
 
-      pub run-shown : (c count : ℕ) (before after : List ℕ) → Written (bytesIn s (resultIn (w' .current) (w' .ended) (w' .tallies)) c (f .level)) before after count → Shown s c before after count
+      pub run-shown : (c count : ℕ) (before after : List ℕ) → Written (bytesIn s (resultIn (w' .current) (w' .ended) (w' .tallies)) c (f .level)) before after count → RanOver s c w w' before after count
       run-shown c count before after t =
           let k = run-says w w' h q d in
           let e : bytesIn s (resultIn (w' .current) (w' .ended) (w' .tallies)) c (f .level) ≡ bytesShown s c =
           ap (bytesIn s (resultIn (w' .current) (w' .ended) (w' .tallies)) c) (r .level) ∙ same-bytes (depthFirst p (rootOf s)) w' k c in
           let t' : Written (bytesShown s c) before after count = rw e at t in
-          record { written = t'; fits = omega (arith, t' .number, bytes-few (depthFirst p (rootOf s)) w' k c) }
+          record {
+            says = k;
+            spared = d .0;
+            shown = record { written = t'; fits = omega (arith, t' .number, bytes-few (depthFirst p (rootOf s)) w' k c) };
+          }

@@ -54,7 +54,7 @@ same-length : tie.Need-same-length
 same-length c = search needs
 
 returns : tie.Need-returns
-returns c = search needs
+returns c = c .before .before .before .before .before .run-over .ensures .shown
 
 pub run-spec : {M : Type 1} → statement M
 run-spec =

@@ -12,10 +12,11 @@ use Rattle.tallies.proofs.all_ended.Statement.{statement}
 use Rattle.tallies.proofs.all_ended.Tie as tie
 
 abbrev Inv-loop : tie.InvT-loop
-Inv-loop masks tallies j₀ j-end j = (j ≤ length masks) × ((k : ℕ) → k < j → managed tallies k ≡ false)
+Inv-loop masks tallies level₀ level-end level =
+    (level ≤ length masks) × ((k : ℕ) → k < level → managed tallies k ≡ false)
 
 abbrev μ-loop : tie.MeasureT-loop
-μ-loop masks tallies j₀ j-end j = length masks - j
+μ-loop masks tallies level₀ level-end level = length masks - level
 
 loop-holds : tie.Need-loop-holds Inv-loop μ-loop
 loop-holds c = (omega arith, below-none _)
@@ -26,12 +27,12 @@ has-manager-requires c κs = search needs
 returns : tie.Need-returns Inv-loop μ-loop
 returns c =
     let g = c .before .before .before .before .before .before .args in
-    sym (all-fails (length (g .masks .now)) (λ j. not (managed (g .tallies .now) j)) (c .before .before .before .loop .j)
+    sym (all-fails (length (g .masks .now)) (λ j. not (managed (g .tallies .now) j)) (c .before .before .before .loop .level)
     (c .before .before .loop-test .taken)
     (ap not (sym (c .before .has-manager .ensures) ∙ c .if1 .taken)))
 
-add-j : tie.Need-add-j Inv-loop μ-loop
-add-j c = omega arith
+add-level : tie.Need-add-level Inv-loop μ-loop
+add-level c = omega arith
 
 loop-less : tie.Need-loop-less Inv-loop μ-loop
 loop-less c = omega arith
@@ -57,7 +58,7 @@ all-ended-spec =
     loop-holds
     has-manager-requires
     returns
-    add-j
+    add-level
     loop-less
     loop-again
     returns-2)

@@ -4,6 +4,7 @@ use mathlib.Core.Path.{_≡_, refl, sym, _∙_, ap}
 use mathlib.Core.List.{List, [], _∷_}
 use native.Mathlib.Omega.{arith}
 use types.Run.{OneOf, miss}
+use borrow.Author.Tests.{ltb-true}
 use denote.Enum.Declared.{tagOf}
 use lib.ListN.{length}
 use Rattle.scripts.specs.Ending.{isRunning}
@@ -14,7 +15,7 @@ use Rattle.managers.specs.declared.Effect.the-variants.{Nothing, End, Write, Re
 use Rattle.managers.proofs.Effect.{the-type}
 use Rattle.depth_first.specs.Kept.{Words}
 use Rattle.depth_first.proofs.Laws.Perform.{perform-nothing, write-there, perform-writes, fork-some, fork-stamps, fork-runs, perform-forks}
-use Rattle.depth_first.proofs.Laws.Run.{Looped, stepsLeft, level-small, next-there, count-there, next-fits, fork-kept, fork-dropped, run-none, last-fits, fork-starts, run-starts, run-keeps, run-able, run-performable, run-again, run-less, run-room, run-ends}
+use Rattle.depth_first.proofs.Laws.Run.{Looped, stepsLeft, level-small, next-there, next-fits, fork-kept, fork-dropped, run-none, last-fits, fork-starts, run-starts, run-keeps, run-able, run-performable, run-again, run-less, run-room, run-ends}
 use borrow.Author.Needs.{needs}
 use borrow.Fn.Kinds.{In}
 use borrow.Fn.PlainCycle.{Measures, is, falls, and}
@@ -28,6 +29,7 @@ use Rattle.depth_first.proofs.forks.run_manager.Reads as run-manager
 use Rattle.depth_first.proofs.forks.run_manager.Kinds as run-manager-kinds
 use Rattle.depth_first.proofs.forks.+perform+run_kept+run_manager.Lts-run_manager as run-manager-lts
 use Rattle.tallies.proofs.close.Reads as close-reads
+use Rattle.tallies.proofs.has_room.Reads as has-room-reads
 use Rattle.managers.proofs.Core.ended.Reads as ended-reads
 use Rattle.managers.proofs.Manager.advance.Reads as advance-reads
 use Rattle.managers.proofs.Manager.start.Reads as start-reads
@@ -70,7 +72,7 @@ perform-claims t =
     (set-reads.Asked, set-reads.Learnt, child-stamp-reads.Asked, child-stamp-reads.Learnt, run-kept-below t, run-kept.Post)
 
 abbrev run-kept-claims : ℕ → run-kept-lts.Claims
-run-kept-claims t = (run-manager-below t, run-manager.Post)
+run-kept-claims t = (has-room-reads.Asked, has-room-reads.Learnt, run-manager-below t, run-manager.Post)
 
 abbrev run-manager-claims : ℕ → run-manager-lts.Claims
 run-manager-claims t = (
@@ -169,21 +171,18 @@ perform-returns-3 t c =
     let w = words (z .args .current .now) (z .args .ended .now) (z .args .tallies .now) in
     perform-nothing (z .pre .1 .0) (z .pre .1 .1 .1) w (other (z .args .effect) (c .match .keys3))
 
-run-kept-cast-if1 : (t : ℕ) → run-kept-lts.Need-cast-if1 (run-kept-claims t) (run-kept-at t) run-kept.Post
-run-kept-cast-if1 t c = search needs
+run-kept-cast-has-room : (t : ℕ) → run-kept-lts.Need-cast-has-room (run-kept-claims t) (run-kept-at t) run-kept.Post
+run-kept-cast-has-room t c = search needs
 
-run-kept-mul-if1 : (t : ℕ) → run-kept-lts.Need-mul-if1 (run-kept-claims t) (run-kept-at t) run-kept.Post
-run-kept-mul-if1 t c = search needs
-
-run-kept-slice-read-if1 : (t : ℕ) → run-kept-lts.Need-slice-read-if1 (run-kept-claims t) (run-kept-at t) run-kept.Post
-run-kept-slice-read-if1 t c =
+run-kept-has-room-requires : (t : ℕ) → run-kept-lts.Need-has-room-requires (run-kept-claims t) (run-kept-at t) run-kept.Post
+run-kept-has-room-requires t c κs =
     let z = c .before .before .before .before .before .before .before .before in
-    count-there (z .pre .1 .0) (z .args .fork .level) (z .pre .1 .1 .1 .placed) (z .pre .1 .1 .0)
+    (level-small (z .pre .1 .0) (z .args .fork .level) (z .pre .1 .1 .1 .placed), z .pre .1 .1 .0 .1 .tallies-there)
 
 run-kept-run-manager-requires : (t : ℕ) → run-kept-lts.Need-run-manager-requires (run-kept-claims t) (run-kept-at t) run-kept.Post
 run-kept-run-manager-requires t c κs =
-    let z = c .before .before .before .before .before .before .before .before .before .before .before .before in
-    (omega (arith, z .pre .0), (z .pre .1 .0, (z .pre .1 .1 .0, (z .pre .1 .1 .1, omega (arith, c .before .before .before .if1 .taken)))))
+    let z = c .before .before .before .before .before .before .before .before .before .before .before .before .before in
+    (omega (arith, z .pre .0), (z .pre .1 .0, (z .pre .1 .1 .0, (z .pre .1 .1 .1, ltb-true _ _ (sym (c .before .before .before .before .has-room .ensures) ∙ c .before .before .before .if1 .taken)))))
 
 run-kept-same-length : (t : ℕ) → run-kept-lts.Need-same-length (run-kept-claims t) (run-kept-at t) run-kept.Post
 run-kept-same-length t c =
@@ -199,17 +198,20 @@ run-kept-same-length-3 t c =
 
 run-kept-returns : (t : ℕ) → run-kept-lts.Need-returns (run-kept-claims t) (run-kept-at t) run-kept.Post
 run-kept-returns t c =
-    let z = c .before .before .before .before .before .before .before .before .before .before .before .before .before .before .before .before .before .before .before in
+    let z = c .before .before .before .before .before .before .before .before .before .before .before .before .before .before .before .before .before .before .before .before in
     let w = words (z .args .current .now) (z .args .ended .now) (z .args .tallies .now) in
     let r = c .before .before .before .before .before .before .run-manager in
     let w' = words (r .last .1 .1 .1 .0) (r .last .1 .1 .1 .1 .0) (r .last .1 .1 .1 .1 .1 .0) in
-    fork-kept (z .pre .1 .1 .1) w w' (r .result) (omega (arith, c .before .before .before .before .before .before .before .before .before .before .if1 .taken)) (r .ensures)
+    fork-kept (z .pre .1 .1 .1) w w' (r .result) (sym (c .before .before .before .before .before .before .before .before .before .before .before .has-room .ensures) ∙ c .before .before .before .before .before .before .before .before .before .before .if1 .taken) (r .ensures)
+
+run-kept-same-length-4 : (t : ℕ) → run-kept-lts.Need-same-length-4 (run-kept-claims t) (run-kept-at t) run-kept.Post
+run-kept-same-length-4 t c = search needs
 
 run-kept-returns-2 : (t : ℕ) → run-kept-lts.Need-returns-2 (run-kept-claims t) (run-kept-at t) run-kept.Post
 run-kept-returns-2 t c =
-    let z = c .before .before .before .before .before .before .before .before .before in
+    let z = c .before .before .before .before .before .before .before .before .before .before in
     let w = words (z .args .current .now) (z .args .ended .now) (z .args .tallies .now) in
-    fork-dropped (z .pre .1 .1 .1) w (omega (arith, c .if1 .left))
+    fork-dropped (z .pre .1 .1 .1) w (sym (c .before .has-room .ensures) ∙ c .if1 .left)
 
 abbrev run-manager-Inv-loop : run-manager-lts.InvT-loop
 run-manager-Inv-loop session masks index current₀ ended₀ tallies₀ left fork level next m₀ limit ending₀ current ended tallies m ending =
@@ -347,14 +349,14 @@ pub +perform+run-kept+run-manager-spec : {M : Type 1} → statement M
     (perform-returns-2 t)
     (perform-returns-3 t))
     (λ t. run-kept-lts.spec (run-kept-claims t) (run-kept-at t) run-kept.Post
-    (run-kept-cast-if1 t)
-    (run-kept-mul-if1 t)
-    (run-kept-slice-read-if1 t)
+    (run-kept-cast-has-room t)
+    (run-kept-has-room-requires t)
     (run-kept-run-manager-requires t)
     (run-kept-same-length t)
     (run-kept-same-length-2 t)
     (run-kept-same-length-3 t)
     (run-kept-returns t)
+    (run-kept-same-length-4 t)
     (run-kept-returns-2 t))
     λ t. run-manager-lts.spec (run-manager-claims t) (run-manager-at t) run-manager.Post run-manager-Inv-loop run-manager-μ-loop
     (run-manager-cast-level t)
