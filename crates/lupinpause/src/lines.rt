@@ -1,5 +1,6 @@
 // What the program prints, as ASCII. Each function writes to a text from `at` on, or from its start, and
 // returns the place behind what it wrote.
+use session::limits::RECORD_BYTES;
 ghost use Prim.Native.Nat.{_+_, _*_, _≤_, _<_};
 ghost use mathlib.Core.Path.{_≡_};
 ghost use mathlib.Core.List.{[], _∷_};
@@ -8,6 +9,12 @@ ghost use Rattle.io.specs.Digits.{glyph};
 ghost use Rattle.session.specs.Record.{recordAt, recordCount};
 ghost use Rattle.records.specs.Writing.{Placed, Written};
 ghost use Rattle.lupinpause.specs.Lines.{hexOf, lineOf, lineSize, linesOf, decimalOf, decimalSize, refusalLine, refusalSize};
+
+// The characters of a record's line: two for each byte, and a line feed.
+pub const LINE_BYTES: usize = 2 * RECORD_BYTES + 1;
+
+// The most digits of a number of 64 bits, for which io::decimal asks room.
+const DIGITS: usize = 20;
 
 // The digit of a number below 16, in lower case.
 fn digit(n: u8) -> u8
@@ -40,9 +47,9 @@ fn put_record(text: &mut [u8], at: usize, bytes: &[u8], number: usize) -> usize
     requires { ⌜ (at + lineSize ≤ length (now text)) × (number < recordCount (now bytes)) ⌝ }
     ensures { λ next. ⌜ Placed (lineOf (recordAt (now (bytes .entry)) number)) at (now (text .entry)) (now (text .exit)) next ⌝ }
 {
-    let start = 16 * number;
+    let start = RECORD_BYTES * number;
     let mut next = at;
-    for i in 0..16 {
+    for i in 0..RECORD_BYTES {
         next = put_byte(text, next, bytes[start + i]);
     }
     put(text, next, b'\n')
@@ -54,7 +61,7 @@ pub fn put_records(text: &mut [u8], bytes: &[u8]) -> usize
     ensures { λ next. ⌜ Written (linesOf (now (bytes .entry))) (now (text .entry)) (now (text .exit)) next ⌝ }
 {
     let mut at = 0;
-    for number in 0..bytes.len() / 16 {
+    for number in 0..bytes.len() / RECORD_BYTES {
         at = put_record(text, at, bytes, number);
     }
     at
@@ -65,7 +72,7 @@ fn put_decimal(text: &mut [u8], at: usize, number: u32) -> usize
     requires { ⌜ at + decimalSize ≤ length (now text) ⌝ }
     ensures { λ next. ⌜ Placed (decimalOf number) at (now (text .entry)) (now (text .exit)) next ⌝ }
 {
-    let mut digits = [0u8; 20];
+    let mut digits = [0u8; DIGITS];
     let count = io::decimal(number as u64, &mut digits);
     for i in 0..count {
         text[at + i] = digits[i];

@@ -4,12 +4,24 @@ mod lines;
 
 use libc::STDIN_FILENO;
 use libc::STDOUT_FILENO;
-ghost use Prim.Native.Nat.{_≤_};
+use lines::LINE_BYTES;
+use model::RESULT_BYTES;
+use model::WORK_NUMBERS;
+use session::limits::MAX_RECORDS;
+use session::limits::RECORD_BYTES;
+ghost use Prim.Native.Nat.{_*_, _≤_, _<_};
 ghost use lib.ListN.{length};
+ghost use Rattle.session.specs.Limits.{recordBytes, maxRecords};
 ghost use Rattle.session.specs.Meaning.{levelOf, rootObject};
 ghost use Rattle.model.specs.Limits.{resultBytes};
 ghost use Rattle.lupinpause.specs.Lines.{textSize};
 ghost use Rattle.lupinpause.specs.Program.{Prints, Within};
+
+// The bytes of the longest session.
+const SESSION_BYTES: usize = RECORD_BYTES * MAX_RECORDS;
+
+// The characters of the lines of a full result buffer.
+const TEXT_BYTES: usize = LINE_BYTES * (RESULT_BYTES / RECORD_BYTES);
 
 // How many interrupted reads are tried again. A bound, so that reading ends.
 const INTERRUPTIONS: usize = 1000;
@@ -22,9 +34,11 @@ enum Input {
     Failed,
 }
 
-// Reads standard input to its end, or until the buffer is full. A read may give less than it is asked for,
-// and one that a signal interrupts is tried again.
+// Reads standard input to its end, or until the buffer is full, which is longer than any session: then question 1
+// says no of what was read. A read may give less than it is asked for, and one that a signal interrupts is tried
+// again.
 fn read_input(buffer: &mut [u8]) -> Input
+    requires { ⌜ recordBytes * maxRecords < length (now buffer) ⌝ }
     ensures { λ r. ⌜ Within r (now (buffer .exit)) ⌝ }
 {
     let mut done = 0;
@@ -63,15 +77,15 @@ fn answer(session: &[u8], work: &mut [u32], result: &mut [u8], text: &mut [u8]) 
 
 fn main() {
     // One byte more than the longest session, so that a longer input is refused for its length.
-    let mut session = [0u8; 4753];
+    let mut session = [0u8; SESSION_BYTES + 1];
     let input = read_input(&mut session);
     let Input::Read(length) = input else {
         os::fail(b"standard input");
         return;
     };
-    let mut work = [0u32; 8192];
-    let mut result = [0u8; 4624];
-    let mut text = [0u8; 9537];
+    let mut work = [0u32; WORK_NUMBERS];
+    let mut result = [0u8; RESULT_BYTES];
+    let mut text = [0u8; TEXT_BYTES];
     let count = answer(&session[..length], &mut work, &mut result, &mut text);
     if !io::write_all(STDOUT_FILENO, &text[..count]) {
         os::fail(b"standard output");

@@ -2,6 +2,7 @@
 pub mod Start
 pub mod Listed
 pub mod Level
+pub mod Asks
 pub mod Lagging
 pub mod Going
 pub mod Next

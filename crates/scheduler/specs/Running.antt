@@ -3,7 +3,7 @@
 -- its start to its end (`Next`); a level until it has no manager (`Level`).
 use Prim.Native.Nat.{ℕ, _+_, _<_}
 use mathlib.Core.Path.{_≡_}
-use mathlib.Core.Bool.{true, false}
+use mathlib.Core.Bool.{true}
 use mathlib.Core.List.{List}
 use lib.ListN.{getD}
 use Rattle.session.specs.Limits.{fields}
@@ -12,15 +12,12 @@ use Rattle.session.specs.Meaning.{levelOf}
 use Rattle.session.specs.Program.{programOf}
 use Rattle.scripts.specs.State.{Manager}
 use Rattle.words.specs.Fields.{fieldAt, knownAt}
-use Rattle.managers.specs.Core.{effectOf, isAsking}
-use Rattle.managers.specs.declared.Core.{Core}
-use Rattle.managers.specs.declared.Effect.the-variants as outside
 use Rattle.model.specs.Level.{idle}
 use Rattle.model.specs.Step.{State, levelAt}
 use Rattle.model.specs.Schedule.{question14, Leads}
 use Rattle.tallies.specs.Places.{waitingPlace, busyPlace}
 use Rattle.level_managers.specs.Kept.{Words, Says, placed}
-use Rattle.level_managers.specs.Steps.{IsBusy, foundIn, TellReady, Answered, Parts, PerformReady, Performed}
+use Rattle.level_managers.specs.Steps.{foundIn}
 use Rattle.scheduler.specs.Runs.{SameRest}
 
 -- the level is being run, from state from: m is the only manager that may run
@@ -36,17 +33,6 @@ pub record Draining (s : List ℕ) (from : State) (w : Words) (l : ℕ) (m : Man
 abbrev pub Recalls : List ℕ → Words → ℕ → List ℕ → Type 0
 Recalls s w l seen =
     (o k : ℕ) → o < objectCount s → k < fields → (levelOf s o ≡ l → ⊥) → knownAt seen o k ≡ true → fieldAt seen o k ≡ foundIn s w l o k
-
--- what its last step did outside a manager of level l can be done there; what its next one asks for can be read
-pub record OutsideReady (s : List ℕ) (w : Words) (seen : List ℕ) (l : ℕ) (c : Core) : Type 0 where
-  pub performs : PerformReady (w .current) (w .tallies) (w .queue) (w .work) l (c .first) (c .forks) (effectOf (c .effect))
-  pub tells : (o k : ℕ) → c .effect ≡ outside.Read o k → IsBusy s w l × TellReady s seen o k
-
--- it is done; it was read, and is kept
-pub record OutsideDone (s : List ℕ) (w : Words) (q : Parts) (seen seen' : List ℕ) (l : ℕ) (c : Core) : Type 0 where
-  pub performed : Performed (record { current = w .current; tallies = w .tallies; queue = w .queue; work = w .work }) q l (c .first) (c .forks) (effectOf (c .effect))
-  pub told : (o k : ℕ) → c .effect ≡ outside.Read o k → Answered s w seen seen' l o k
-  pub untold : isAsking (c .effect) ≡ false → seen' ≡ seen
 
 -- a manager waits at level l, and none runs there
 pub record NextReady (s : List ℕ) (w : Words) (l : ℕ) : Type 0 where

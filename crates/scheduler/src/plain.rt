@@ -1,67 +1,18 @@
 // The plain run: each scheduler step by the lowest-numbered level that may step.
 use level_managers::steps;
-use managers::Core;
 use managers::Effect;
 use scripts::MAX_SCRIPT_STEPS;
 use tallies::Permit;
 use tallies::WAITING;
 ghost use mathlib.Core.Path.{_≡_};
-ghost use Rattle.scripts.specs.Valid.{Leveled};
 ghost use Rattle.tallies.specs.Permits.{isGiven};
 ghost use Rattle.level_managers.specs.Steps.{Read};
 ghost use Rattle.scheduler.specs.Runs.{startOf, Rests, LevelReady, LevelDone, Done, SameRest};
-ghost use Rattle.scheduler.specs.Running.{OutsideReady, OutsideDone, NextReady, NextDone};
-
-// What the last script step of the manager that runs at a level did outside it is done; or what its next one
-// asks for is read. Nobody else steps meanwhile, and the manager writes at its own level alone: what it has
-// read elsewhere it would read again, so that is kept in `seen`.
-fn perform_or_tell(
-    session: &[u8],
-    masks: &[u16],
-    current: &mut [u32],
-    ended: &[u32],
-    tallies: &mut [usize],
-    queue: &mut [u32],
-    work: &mut [u32],
-    seen: &mut [u32],
-    level: usize,
-    core: Core,
-)
-    requires { ⌜ Leveled (now session) (now masks) ⌝ }
-    requires { ⌜ OutsideReady (now session) (record { current = now current; ended = now ended; tallies = now tallies; queue = now queue; work = now work }) (now seen) level core ⌝ }
-    ensures { λ _. ⌜ OutsideDone (now (session .entry)) (record { current = now (current .entry); ended = now (ended .entry); tallies = now (tallies .entry); queue = now (queue .entry); work = now (work .entry) }) (record { current = now (current .exit); tallies = now (tallies .exit); queue = now (queue .exit); work = now (work .exit) }) (now (seen .entry)) (now (seen .exit)) level core ⌝ }
-{
-    let effect = core.effect;
-    if let Effect::Read { object, field } = effect {
-        steps::tell(
-            session,
-            masks,
-            current,
-            ended,
-            tallies,
-            queue,
-            work,
-            seen,
-            level,
-            object,
-            field,
-        );
-        return;
-    }
-    steps::perform(
-        current,
-        tallies,
-        queue,
-        work,
-        level,
-        core.first,
-        core.forks,
-        effect,
-    );
-}
+ghost use Rattle.scheduler.specs.Running.{NextReady, NextDone};
 
 // Starts the fork of smallest stamp that waits at a level that may step, and makes the steps of its manager
-// until that has ended: it is stepped by nobody else meanwhile.
+// until that has ended. Nobody else steps meanwhile, and the manager writes at its own level alone: what it has
+// read elsewhere it would read again, so that is kept in `seen`.
 fn run_next(
     session: &[u8],
     masks: &[u16],
@@ -92,20 +43,25 @@ fn run_next(
             MAX_SCRIPT_STEPS,
         );
         let core = m.core;
-        perform_or_tell(
-            session,
-            masks,
-            current,
-            ended,
-            tallies,
-            queue,
-            work,
-            &mut seen,
-            level,
-            core,
-        );
-        steps::settle(ended, tallies, queue, level, core);
         ending = core.ending;
+        let effect = core.effect;
+        if let Effect::Read { object, field } = effect {
+            steps::tell(
+                session,
+                masks,
+                current,
+                ended,
+                tallies,
+                queue,
+                work,
+                &mut seen,
+                level,
+                object,
+                field,
+            );
+            continue;
+        }
+        steps::done(current, ended, tallies, queue, work, level, core);
     }
 }
 

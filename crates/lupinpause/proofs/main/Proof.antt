@@ -26,10 +26,10 @@ returns : tie.Need-returns
 returns c = search needs
 
 array-share-prefix-session : tie.Need-array-share-prefix-session
-array-share-prefix-session c = rw (c .before .input .given .1) at (c .before .before .before .before .read-input .ensures) .0
+array-share-prefix-session c = rw (c .before .input .given .1) at (c .before .before .before .before .read-input .ensures) .0 .0
 
 slice-aggregate-answer : tie.Need-slice-aggregate-answer
-slice-aggregate-answer c = rw (c .before .before .input .given .1) at (c .before .before .before .before .before .read-input .ensures) .1
+slice-aggregate-answer c = rw (c .before .before .input .given .1) at (c .before .before .before .before .before .read-input .ensures) .0 .1
 
 slice-aggregate-answer-2 : tie.Need-slice-aggregate-answer-2
 slice-aggregate-answer-2 c = search needs

@@ -5,6 +5,7 @@ use native.Mathlib.Omega.{arith}
 use borrow.Author.Needs.{needs}
 use lib.ListN.{length}
 use Rattle.io.proofs.Counting.{counts}
+use Rattle.lupinpause.proofs.Answered.{full-refused}
 use Rattle.lupinpause.proofs.read_input.Statement.{statement}
 use Rattle.lupinpause.proofs.read_input.Tie as tie
 
@@ -54,7 +55,7 @@ same-length : tie.Need-same-length Inv-loop μ-loop
 same-length c = search needs
 
 returns : tie.Need-returns Inv-loop μ-loop
-returns c = counts _ _ (omega arith)
+returns c = (counts _ _ (omega arith), λ full. absurd (omega (arith, full)))
 
 errno-requires : tie.Need-errno-requires Inv-loop μ-loop
 errno-requires c κs = search needs
@@ -78,7 +79,9 @@ same-length-3 : tie.Need-same-length-3 Inv-loop μ-loop
 same-length-3 c = search needs
 
 returns-3 : tie.Need-returns-3 Inv-loop μ-loop
-returns-3 c = counts _ _ (omega arith)
+returns-3 c =
+    let l = c .before .loop in
+    (counts _ _ (omega arith), full-refused (l .done) (l .buffer) (omega arith))
 
 pub read-input-spec : {M : Type 1} → statement M
 read-input-spec =

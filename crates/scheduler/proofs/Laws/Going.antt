@@ -39,16 +39,17 @@ use Rattle.managers.specs.declared.Manager as code
 use Rattle.model.specs.Fork.{Fork}
 use Rattle.model.specs.Step.{State, readAt}
 use Rattle.model.proofs.Laws.Code.Needs.{live-runs, live-fork}
-use Rattle.tallies.specs.Places.{waitingPlace, versionsPlace, busyPlace}
+use Rattle.tallies.specs.Places.{waitingPlace, versionsPlace, busyPlace, tallyNumbers}
 use Rattle.level_managers.specs.Kept.{Words, placed}
-use Rattle.level_managers.specs.Steps.{Read, IsBusy, foundIn, Answered, Parts, EffectReady, EffectDone, PerformReady, Performed, SettleReady}
+use Rattle.level_managers.specs.Steps.{Read, IsBusy, foundIn, TellReady, Answered, Parts, EffectReady, EffectDone, PerformReady, Performed, SettleReady}
 use Rattle.scheduler.specs.Runs.{SameRest}
-use Rattle.scheduler.specs.Running.{Draining, Recalls, OutsideReady, OutsideDone}
+use Rattle.scheduler.specs.Running.{Draining, Recalls}
 use Rattle.level_managers.proofs.Laws.Reads.{found-in, read-few}
 use Rattle.level_managers.proofs.Laws.Recall.{write-recalls, fork-recalls}
 use Rattle.level_managers.proofs.Laws.Ready.{busy-settles, settle-after}
 use Rattle.level_managers.proofs.Laws.Step.{says-live, rest-effect}
 use Rattle.level_managers.proofs.Laws.Made.{partsOf, performs, performed, held-fits}
+use Rattle.scheduler.proofs.Laws.Asks.{Asking, asks, not-asks, asked}
 use Rattle.scheduler.proofs.Laws.Lagging.{Lagging, Running, running-busy, running-effect, running-step, running-quiet, lag-quiet, lag-none, running-start, running-sees}
 
 -- an effect leaves how many managers have ended at a level, and that one runs there
@@ -97,19 +98,11 @@ abbrev pub stepsLeft : List ℕ → List ℕ → code.Manager → ℕ
 stepsLeft s seen m =
     cond (isRunning (m .core .ending)) (1 + 2 * (maxScriptSteps - m .core .steps) + cond {A = ℕ} (isShut s seen false (m .core)) 1 0) 0
 
--- is a READ asked for
-data Asking (e : Outside) : Type 0 where
-  asks : (o k : ℕ) → e ≡ outside.Read o k → Asking e
-  not-asks : isAsking e ≡ false → Asking e
-
-asking : (e : Outside) → Asking e
-asking outside.Nothing = not-asks refl
-asking outside.End = not-asks refl
-asking (outside.Write o k v) = not-asks refl
-asking (outside.Read o k) = asks o k refl
-asking (outside.Fork u o b v) = not-asks refl
-asking (outside.Call o b a v) = not-asks refl
-asking (outside.Pop v) = not-asks refl
+-- what its last step did outside a manager of level l is done; what its next one asks for was read, and is kept
+pub record OutsideDone (s : List ℕ) (w : Words) (q : Parts) (seen seen' : List ℕ) (l : ℕ) (c : Core) : Type 0 where
+  pub performed : Performed (partsOf w) q l (c .first) (c .forks) (effectOf (c .effect))
+  pub told : (o k : ℕ) → c .effect ≡ outside.Read o k → Answered s w seen seen' l o k
+  pub untold : isAsking (c .effect) ≡ false → seen' ≡ seen
 
 -- one was asked for and read; or none is, and what was done outside is done
 pub told-outside : {s : List ℕ} {w : Words} {seen seen' : List ℕ} {l : ℕ} {c : Core} {o k : ℕ} → c .effect ≡ outside.Read o k → Answered s w seen seen' l o k → OutsideDone s w (partsOf w) seen seen' l c
@@ -255,36 +248,37 @@ module _ {s masks index : List ℕ} (rd : Read s masks index) {w : Words} {l : �
           let (x, begun) = begins g in
           comes g begun (ad .held) (ad .leads (readAt p (g .state) l x) (sees g begun))
 
-      pub outside-ready : OutsideReady s w seen l (r .core)
-      outside-ready =
+      pub outside-performs : PerformReady (w .current) (w .tallies) (w .queue) (w .work) l (r .core .first) (r .core .forks) (effectOf (r .core .effect))
+      outside-performs = came .performs
+
+      pub outside-tells : (o k : ℕ) → r .core .effect ≡ outside.Read o k → IsBusy s w l × TellReady s seen o k
+      outside-tells o k e =
           let (x, begun) = begins g in
-          record {
-            performs = came .performs;
-            tells = λ o k e. (
-              is-busy g begun,
-              record { present = present o k e .0; field = present o k e .1; there = go .seen-there },
-            );
-          }
+          (is-busy g begun, record { present = present o k e .0; field = present o k e .1; there = go .seen-there })
+
+      -- there is room for its history
+      pub outside-settles : SettleReady (w .ended) (w .tallies) (w .queue) l
+      outside-settles =
+          let (x, begun) = begins g in
+          let busy = running-busy s acc l h from w (managerOf m) x (readAt p (g .state) l x) begun (λ _. managerOf m) in
+          let live = says-live s acc w (placed l (managerOf m) (λ _. managerOf m)) (begun .drain .state) (busy .says) in
+          busy-settles s acc (level-limit s acc) (object-limit s acc) w (placed l (managerOf m) (λ _. managerOf m)) (begun .drain .state) (busy .says .told) live l h x (managerOf m) (busy .runs)
 
       -- what the last one did outside it is done, or what the next one asks for is read
       module _ {q : Parts} {seen' : List ℕ} (out : OutsideDone s w q seen seen' l (r .core)) where
         done : EffectDone (partsOf w) q l (came .stamp) (came .made) (effectOf (r .core .effect))
         done = came .done q (out .performed)
 
-        pub outside-settles : SettleReady (w .ended) (q .tallies) (q .queue) l
-        outside-settles =
-            let (x, begun) = begins g in
-            let busy = running-busy s acc l h from w (managerOf m) x (readAt p (g .state) l x) begun (λ _. managerOf m) in
-            let live = says-live s acc w (placed l (managerOf m) (λ _. managerOf m)) (begun .drain .state) (busy .says) in
-            settle-after (partsOf w) q (w .ended) l (came .stamp) (came .made) (effectOf (r .core .effect)) done
-            (busy-settles s acc (level-limit s acc) (object-limit s acc) w (placed l (managerOf m) (λ _. managerOf m)) (begun .drain .state) (busy .says .told) live l h x (managerOf m) (busy .runs))
+        pub outside-counted : tallyNumbers ≤ length (q .tallies)
+        outside-counted =
+            settle-after (partsOf w) q (w .ended) l (came .stamp) (came .made) (effectOf (r .core .effect)) done outside-settles .counted
 
         pub outside-drains : Lagging s from (withParts w q) l (managerOf r)
         outside-drains = came .lags q done
 
         pub outside-recalls : Recalls s (withParts w q) l seen'
         outside-recalls o k ho hk apart known =
-            by (asking (r .core .effect)) o k ho hk apart known ∙ sym (came .found q done o k ho apart)
+            by (asked (r .core .effect)) o k ho hk apart known ∙ sym (came .found q done o k ho apart)
           where
             by : Asking (r .core .effect) → Recalls s w l seen'
             by (asks o k e) = remembers g seen' o k (present o k e .0) (out .told o k e)
@@ -323,7 +317,7 @@ module _ {s masks index : List ℕ} (rd : Read s masks index) {w : Words} {l : �
     stays (outside.Pop v) is run same done quiet-then ask = not-both false done refl
 
     shut-no-more : {q : Parts} {seen' : List ℕ} → OutsideDone s w q seen seen' l (r .core) → isRunning (r .core .ending) ≡ true → r .core .steps ≡ m .core .steps → effectOf (r .core .effect) ≡ effect.Nothing → isShut s seen' false (r .core) ≡ false
-    shut-no-more {q} {seen'} out run same e = by (asking (r .core .effect))
+    shut-no-more {q} {seen'} out run same e = by (asked (r .core .effect))
       where
         by : Asking (r .core .effect) → isShut s seen' false (r .core) ≡ false
         by (asks o k is) = open-then seen' o k is (out .told o k is)

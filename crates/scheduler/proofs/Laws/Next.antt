@@ -1,5 +1,5 @@
 -- The managers of a level run one after the other, each from its start to its end. Assumes nothing.
-use Prim.Native.Nat.{ℕ, _+_, _-_, _^_, _≤_, _<_}
+use Prim.Native.Nat.{ℕ, _+_, _-_, _≤_, _<_}
 use mathlib.Core.Path.{_≡_, refl, sym, _∙_, ap, subst}
 use mathlib.Core.Bool.{true, false, cond}
 use mathlib.Core.List.{List, []}
@@ -20,8 +20,9 @@ use Rattle.scripts.specs.Ending.{isRunning}
 use Rattle.scripts.specs.State.{Manager}
 use Rattle.scripts.proofs.Laws.Counts.{started-counts}
 use Rattle.words.specs.Limits.{fieldWords}
-use Rattle.managers.specs.Core.{managerOf}
+use Rattle.managers.specs.Core.{managerOf, effectOf, isAsking}
 use Rattle.managers.specs.Steps.{Held, Advanced}
+use Rattle.managers.specs.declared.Effect.the-variants as outside
 use Rattle.managers.specs.declared.Manager as code
 use Rattle.model.specs.Limits.{maxManagers}
 use Rattle.model.specs.Level.{idle, hasManager}
@@ -30,15 +31,15 @@ use Rattle.model.proofs.Laws.Code.Progress.{allowed}
 use Rattle.tallies.specs.Places.{nextPlace, waitingPlace, busyPlace, tallyNumbers}
 use Rattle.level_managers.specs.Kept.{Words, Roomy, Runs, placed}
 use Rattle.tallies.specs.Permits.{managed}
-use Rattle.level_managers.specs.Steps.{Read, Parts, SettleReady, Closed, Settled, CoreSettled, begunTallies, StartReady, Started}
+use Rattle.level_managers.specs.Steps.{Read, IsBusy, TellReady, Answered, Parts, PerformReady, SettleReady, Closed, Settled, CoreSettled, StepDone, begunTallies, StartReady, Started}
 use Rattle.scheduler.specs.Runs.{SameRest, LevelReady, LevelDone}
-use Rattle.scheduler.specs.Running.{Draining, Recalls, OutsideReady, OutsideDone, NextReady, NextDone}
+use Rattle.scheduler.specs.Running.{Draining, Recalls, NextReady, NextDone}
 use Rattle.level_managers.proofs.Laws.Ready.{told-rests, waits-some, start-ready}
 use Rattle.level_managers.proofs.Laws.Step.{says-start}
-use Rattle.level_managers.proofs.Laws.Made.{settled-of, held-fits}
+use Rattle.level_managers.proofs.Laws.Made.{settled-of}
 use Rattle.scheduler.proofs.Laws.Listed.{anyManager, blank-zeros}
 use Rattle.scheduler.proofs.Laws.Level.{LevelLoop, drain-told, drain-has, drain-live, drain-allowed, drain-on, level-start, level-done}
-use Rattle.scheduler.proofs.Laws.Going.{Goes, stepsLeft, outside-ready, outside-settles, outside-drains, outside-recalls, outside-count, outside-busy, outside-rest, steps-less}
+use Rattle.scheduler.proofs.Laws.Going.{Goes, stepsLeft, OutsideDone, told-outside, performed-outside, outside-performs, outside-tells, outside-settles, outside-counted, outside-drains, outside-recalls, outside-count, outside-busy, outside-rest, steps-less}
 
 -- a manager has ended: none runs at its level then, and one more has ended there
 closed-counts : (ended ended' tallies tallies' queue : List ℕ) (l : ℕ) (m : Manager) → l < maxLevels → tallyNumbers ≤ length tallies → Closed ended ended' tallies tallies' queue l m → (getD tallies' (busyPlace l) 0 ≡ 0) × (getD tallies' l 0 ≡ getD tallies l 0 + 1)
@@ -200,14 +201,15 @@ module _ {s masks index : List ℕ} (rd : Read s masks index) {w₀ : Words} {l 
 
       -- it runs on
       module _ (run : isRunning (m' .core .ending) ≡ true) {r : code.Manager} (ad : Advanced s (w .current) seen false maxScriptSteps m' r) where
-        pub next-outside : OutsideReady s w seen l (r .core)
-        next-outside = outside-ready rd (i .goes run) ad next-drains
+        pub next-tells : {o k : ℕ} → r .core .effect ≡ outside.Read o k → IsBusy s w l × TellReady s seen o k
+        next-tells {o} {k} = outside-tells rd (i .goes run) ad next-drains o k
+
+        pub next-performs : PerformReady (w .current) (w .tallies) (w .queue) (w .work) l (r .core .first) (r .core .forks) (effectOf (r .core .effect)) × SettleReady (w .ended) (w .tallies) (w .queue) l
+        next-performs =
+            (outside-performs rd (i .goes run) ad next-drains, outside-settles rd (i .goes run) ad next-drains)
 
         module _ {q : Parts} {seen' : List ℕ} (out : OutsideDone s w q seen seen' l (r .core)) where
-          pub next-settles : SettleReady (w .ended) (q .tallies) (q .queue) l × (r .core .first + r .core .forks < 2 ^ 16)
-          next-settles = (outside-settles rd (i .goes run) ad next-drains out, held-fits (ad .held))
-
-          pub next-less : stepsLeft s seen' r < stepsLeft s seen m'
+          next-less : stepsLeft s seen' r < stepsLeft s seen m'
           next-less = steps-less rd (i .goes run) ad out
 
           module _ {ended'' tallies'' : List ℕ} (e : CoreSettled (w .ended) ended'' (q .tallies) tallies'' (q .queue) l (r .core)) where
@@ -217,15 +219,15 @@ module _ {s masks index : List ℕ} (rd : Read s masks index) {w₀ : Words} {l 
 
             counts-then : (getD tallies'' (busyPlace l) 0 ≡ bit r) × (getD tallies'' l 0 + bit r ≡ getD (q .tallies) l 0 + 1)
             counts-then =
-                settled-counts r small (next-settles .0 .counted) (outside-busy rd (i .goes run) ad next-drains out) (settled-of r e)
+                settled-counts r small (outside-counted rd (i .goes run) ad next-drains out) (outside-busy rd (i .goes run) ad next-drains out) (settled-of r e)
 
             recalls-then : isRunning (r .core .ending) ≡ true → Recalls s then l seen'
             recalls-then on =
                 let same = e [] .0 on in
                 rw (same .0, same .1) (outside-recalls rd (i .goes run) ad next-drains out)
 
-            pub next-again : length seen' ≡ length seen → length (q .current) ≡ length (w .current) → length ended'' ≡ length (w .ended) → length tallies'' ≡ length (q .tallies) → length (q .tallies) ≡ length (w .tallies) → length (q .queue) ≡ length (w .queue) → length (q .work) ≡ length (w .work) → NextLoop s begunWords then l m r seen'
-            next-again c0 c1 c2 c3 c4 c5 c6 =
+            next-again : length seen' ≡ length seen → length (q .current) ≡ length (w .current) → length ended'' ≡ length (w .ended) → length tallies'' ≡ length (w .tallies) → length (q .queue) ≡ length (w .queue) → length (q .work) ≡ length (w .work) → NextLoop s begunWords then l m r seen'
+            next-again c0 c1 c2 c3 c4 c5 =
                 let go = i .goes run in
                 let before : getD (w .tallies) l 0 + 1 ≡ getD tallies' l 0 + bit m = rw run at (i .count) in
                 record {
@@ -245,10 +247,27 @@ module _ {s masks index : List ℕ} (rd : Read s masks index) {w₀ : Words} {l 
                   seen-long = c0 ∙ i .seen-long;
                   current-long = c1 ∙ i .current-long;
                   ended-long = c2 ∙ i .ended-long;
-                  tallies-long = c3 ∙ c4 ∙ i .tallies-long;
-                  queue-long = c5 ∙ i .queue-long;
-                  work-long = c6 ∙ i .work-long;
+                  tallies-long = c3 ∙ i .tallies-long;
+                  queue-long = c4 ∙ i .queue-long;
+                  work-long = c5 ∙ i .work-long;
                 }
+
+        -- what its next step asks for was read: the manager stands before that step, and runs
+        module _ {o k : ℕ} (e : r .core .effect ≡ outside.Read o k) {seen' : List ℕ} (told : Answered s w seen seen' l o k) where
+          pub told-less : stepsLeft s seen' r < stepsLeft s seen m'
+          told-less = next-less (told-outside e told)
+
+          pub told-again : length seen' ≡ length seen → NextLoop s begunWords w l m r seen'
+          told-again c0 =
+              next-again (told-outside e told) (λ fs. (λ _. (refl, refl), λ over. absurd (not-both (isRunning (r .core .ending)) (ad .asks o k e .0) over))) c0 refl refl refl refl refl
+
+        -- what its last step did outside it is done, and its history kept where it has ended
+        module _ (no' : isAsking (r .core .effect) ≡ false) {w' : Words} (x : StepDone w w' l (r .core)) where
+          pub done-less : stepsLeft s seen r < stepsLeft s seen m'
+          done-less = next-less (performed-outside no' (x .performed))
+
+          pub done-again : length (w' .current) ≡ length (w .current) → length (w' .ended) ≡ length (w .ended) → length (w' .tallies) ≡ length (w .tallies) → length (w' .queue) ≡ length (w .queue) → length (w' .work) ≡ length (w .work) → NextLoop s begunWords w' l m r seen
+          done-again = next-again (performed-outside no' (x .performed)) (x .settled) refl
 
 -- the managers in turn
 pub record Turns (s : List ℕ) (w₀ w : Words) (l : ℕ) : Type 0 where

@@ -1,10 +1,12 @@
 -- `scheduler::plain::run_next` meets its contract. The invariant: the words say a state that the steps of the manager have led to since its
 -- start, and what is kept of its reads is what it reads. Assumes nothing.
 use mathlib.Core.Path.{_≡_, refl, sym, _∙_, ap}
+use mathlib.Core.Bool.{true}
 use borrow.Author.Needs.{needs}
 use Rattle.scripts.specs.Ending.{isRunning}
+use Rattle.scheduler.proofs.Laws.Asks.{asks-nothing}
 use Rattle.scheduler.proofs.Laws.Going.{stepsLeft, able, able-more}
-use Rattle.scheduler.proofs.Laws.Next.{NextLoop, starts, next-start, next-outside, next-settles, next-less, next-again, next-done}
+use Rattle.scheduler.proofs.Laws.Next.{NextLoop, starts, next-start, next-tells, next-performs, told-less, told-again, done-less, done-again, next-done}
 use Rattle.scheduler.proofs.plain.run_next.Statement.{statement}
 use Rattle.scheduler.proofs.plain.run_next.Tie as tie
 
@@ -17,14 +19,14 @@ abbrev μ-loop : tie.MeasureT-loop
 
 start-requires : tie.Need-start-requires Inv-loop μ-loop
 start-requires c κs =
-    let s = c .before .before .before .before .before .before .before .before .before .before .before in
-    starts (s .pre .0) (s .pre .1)
+    let z = c .before .before .before .before .before .before .before .before .before .before .before in
+    starts (z .pre .0) (z .pre .1)
 
 loop-holds : tie.Need-loop-holds Inv-loop μ-loop
 loop-holds c =
-    let s = c .before .before .before .before .before .before .before .before .before .before .before .before .before .before .before .before .before in
-    let r = c .before .before .before .before .before .start in
-    (next-start (s .pre .0) (s .pre .1) (r .ensures .0) (r .ensures .1), refl)
+    let b = c .before .before .before .before .before in
+    let z = b .before .before .before .before .before .before .before .before .before .before .before .before in
+    (next-start (z .pre .0) (z .pre .1) (b .start .ensures .0) (b .start .ensures .1), refl)
 
 is-running-requires : tie.Need-is-running-requires Inv-loop μ-loop
 is-running-requires c κs = search needs
@@ -34,49 +36,67 @@ slice-aggregate-advance c = search (needs, c .before .before .before .before .lo
 
 advance-requires : tie.Need-advance-requires Inv-loop μ-loop
 advance-requires c κs =
-    let s = c .before .before .before .before .before .before .before .before .before .before .before .before .before .before .before .before .before .before .before .before .before .before in
+    let z = c .before .before .before .before .before .before .before .before .before .before .before .before .before .before .before .before .before .before .before .before .before .before in
     let i = c .before .before .before .before .loop .inv in
     let go = i .0 .goes (ap isRunning (sym (i .1)) ∙ sym (c .before .before .before .is-running .ensures) ∙ c .before .before .if1 .taken) in
-    (able (s .pre .0) go, able-more (s .pre .0) go)
+    (able (z .pre .0) go, able-more (z .pre .0) go)
 
-slice-aggregate-perform-or-tell : tie.Need-slice-aggregate-perform-or-tell Inv-loop μ-loop
-slice-aggregate-perform-or-tell c = search (needs, c .before .before .before .before .before .before .before .before .before .before .before .before .loop .inv .0 .seen-long)
+-- it ran when it advanced
+abbrev runs : (a : tie.After-advance Inv-loop μ-loop) → isRunning (a .before .before .before .before .before .loop .m .core .ending) ≡ true
+runs a =
+    ap isRunning (sym (a .before .before .before .before .before .loop .inv .1)) ∙ sym (a .before .before .before .before .is-running .ensures) ∙ a .before .before .before .if1 .taken
 
-perform-or-tell-requires : tie.Need-perform-or-tell-requires Inv-loop μ-loop
-perform-or-tell-requires c κs =
-    let s = c .before .before .before .before .before .before .before .before .before .before .before .before .before .before .before .before .before .before .before .before .before .before .before .before .before .before .before .before .before .before in
-    let r = c .before .before .before .before .before .before .before .before .before .before .before .before .before .before .before .before .before .before .start in
-    let i = c .before .before .before .before .before .before .before .before .before .before .before .before .loop .inv in
-    let run = ap isRunning (sym (i .1)) ∙ sym (c .before .before .before .before .before .before .before .before .before .before .before .is-running .ensures) ∙ c .before .before .before .before .before .before .before .before .before .before .if1 .taken in
-    (s .pre .0 .leveled, next-outside (s .pre .0) (s .pre .1) (r .ensures .0) (r .ensures .1) (i .0) run (c .before .before .before .before .before .before .before .advance .ensures))
+enum-known-effect : tie.Need-enum-known-effect Inv-loop μ-loop
+enum-known-effect c = search needs
 
-settle-requires : tie.Need-settle-requires Inv-loop μ-loop
-settle-requires c κs =
-    let s = c .before .before .before .before .before .before .before .before .before .before .before .before .before .before .before .before .before .before .before .before .before .before .before .before .before .before .before .before .before .before .before .before .before .before .before .before .before .before .before .before .before .before .before in
-    let r = c .before .before .before .before .before .before .before .before .before .before .before .before .before .before .before .before .before .before .before .before .before .before .before .before .before .before .before .before .before .before .before .start in
-    let i = c .before .before .before .before .before .before .before .before .before .before .before .before .before .before .before .before .before .before .before .before .before .before .before .before .before .loop .inv in
-    let run = ap isRunning (sym (i .1)) ∙ sym (c .before .before .before .before .before .before .before .before .before .before .before .before .before .before .before .before .before .before .before .before .before .before .before .before .is-running .ensures) ∙ c .before .before .before .before .before .before .before .before .before .before .before .before .before .before .before .before .before .before .before .before .before .before .before .if1 .taken in
-    next-settles (s .pre .0) (s .pre .1) (r .ensures .0) (r .ensures .1) (i .0) run (c .before .before .before .before .before .before .before .before .before .before .before .before .before .before .before .before .before .before .before .before .advance .ensures) (c .before .before .before .before .before .before .before .before .before .before .before .before .perform-or-tell .ensures)
+-- it asks for a field
+slice-aggregate-tell : tie.Need-slice-aggregate-tell Inv-loop μ-loop
+slice-aggregate-tell c = search (needs, c .before .before .before .before .before .before .before .before .before .before .before .before .before .before .before .loop .inv .0 .seen-long)
+
+tell-requires : tie.Need-tell-requires Inv-loop μ-loop
+tell-requires c κs =
+    let a = c .before .before .before .before .before .before .before .before .before .before in
+    let b = a .before .before .before .before .before .before .before .before .before .before .before in
+    let z = b .before .before .before .before .before .before .before .before .before .before .before .before in
+    let e = c .before .before .before .before .before .before .before .effect .given in
+    (z .pre .0 .leveled, next-tells (z .pre .0) (z .pre .1) (b .start .ensures .0) (b .start .ensures .1) (a .before .before .before .before .before .loop .inv .0) (runs a) (a .advance .ensures) (e .1))
 
 loop-less : tie.Need-loop-less Inv-loop μ-loop
 loop-less c =
-    let s = c .before .before .before .before .before .before .before .before .before .before .before .before .before .before .before .before .before .before .before .before .before .before .before .before .before .before .before .before .before .before .before .before .before .before .before .before .before .before .before .before .before .before .before .before .before .before .before .before in
-    let r = c .before .before .before .before .before .before .before .before .before .before .before .before .before .before .before .before .before .before .before .before .before .before .before .before .before .before .before .before .before .before .before .before .before .before .before .before .start in
-    let i = c .before .before .before .before .before .before .before .before .before .before .before .before .before .before .before .before .before .before .before .before .before .before .before .before .before .before .before .before .before .before .loop .inv in
-    let run = ap isRunning (sym (i .1)) ∙ sym (c .before .before .before .before .before .before .before .before .before .before .before .before .before .before .before .before .before .before .before .before .before .before .before .before .before .before .before .before .before .is-running .ensures) ∙ c .before .before .before .before .before .before .before .before .before .before .before .before .before .before .before .before .before .before .before .before .before .before .before .before .before .before .before .before .if1 .taken in
-    next-less (s .pre .0) (s .pre .1) (r .ensures .0) (r .ensures .1) (i .0) run (c .before .before .before .before .before .before .before .before .before .before .before .before .before .before .before .before .before .before .before .before .before .before .before .before .before .advance .ensures) (c .before .before .before .before .before .before .before .before .before .before .before .before .before .before .before .before .before .perform-or-tell .ensures)
+    let a = c .before .before .before .before .before .before .before .before .before .before .before .before in
+    let b = a .before .before .before .before .before .before .before .before .before .before .before in
+    let z = b .before .before .before .before .before .before .before .before .before .before .before .before in
+    told-less (z .pre .0) (z .pre .1) (b .start .ensures .0) (b .start .ensures .1) (a .before .before .before .before .before .loop .inv .0) (runs a) (a .advance .ensures) (c .before .before .before .before .before .before .before .before .before .effect .given .1) (c .before .tell .ensures)
 
 loop-again : tie.Need-loop-again Inv-loop μ-loop
 loop-again c =
-    let s = c .before .before .before .before .before .before .before .before .before .before .before .before .before .before .before .before .before .before .before .before .before .before .before .before .before .before .before .before .before .before .before .before .before .before .before .before .before .before .before .before .before .before .before .before .before .before .before .before in
-    let r = c .before .before .before .before .before .before .before .before .before .before .before .before .before .before .before .before .before .before .before .before .before .before .before .before .before .before .before .before .before .before .before .before .before .before .before .before .start in
-    let i = c .before .before .before .before .before .before .before .before .before .before .before .before .before .before .before .before .before .before .before .before .before .before .before .before .before .before .before .before .before .before .loop .inv in
-    let run = ap isRunning (sym (i .1)) ∙ sym (c .before .before .before .before .before .before .before .before .before .before .before .before .before .before .before .before .before .before .before .before .before .before .before .before .before .before .before .before .before .is-running .ensures) ∙ c .before .before .before .before .before .before .before .before .before .before .before .before .before .before .before .before .before .before .before .before .before .before .before .before .before .before .before .before .if1 .taken in
-    let o = c .before .before .before .before .before .before .before .before .before .before .before .before .before .before .before .before .before .perform-or-tell in
-    let e = c .before .before .before .before .settle in (
-      next-again (s .pre .0) (s .pre .1) (r .ensures .0) (r .ensures .1) (i .0) run (c .before .before .before .before .before .before .before .before .before .before .before .before .before .before .before .before .before .before .before .before .before .before .before .before .before .advance .ensures) (o .ensures) (e .ensures) (o .kept .1 .1 .1 .1 .1 .1 .1 .0) (o .kept .1 .1 .0) (e .kept .0) (e .kept .1 .0) (o .kept .1 .1 .1 .1 .0) (o .kept .1 .1 .1 .1 .1 .0) (o .kept .1 .1 .1 .1 .1 .1 .0),
-      refl,
-    )
+    let a = c .before .before .before .before .before .before .before .before .before .before .before .before in
+    let b = a .before .before .before .before .before .before .before .before .before .before .before in
+    let z = b .before .before .before .before .before .before .before .before .before .before .before .before in
+    (told-again (z .pre .0) (z .pre .1) (b .start .ensures .0) (b .start .ensures .1) (a .before .before .before .before .before .loop .inv .0) (runs a) (a .advance .ensures) (c .before .before .before .before .before .before .before .before .before .effect .given .1) (c .before .tell .ensures) (c .before .tell .kept .1 .1 .1 .1 .1 .1 .1 .0), refl)
+
+-- it asks for none
+done-requires : tie.Need-done-requires Inv-loop μ-loop
+done-requires c κs =
+    let a = c .before .before .before .before .before .before .before in
+    let b = a .before .before .before .before .before .before .before .before .before .before .before in
+    let z = b .before .before .before .before .before .before .before .before .before .before .before .before in
+    next-performs (z .pre .0) (z .pre .1) (b .start .ensures .0) (b .start .ensures .1) (a .before .before .before .before .before .loop .inv .0) (runs a) (a .advance .ensures)
+
+loop-less-2 : tie.Need-loop-less-2 Inv-loop μ-loop
+loop-less-2 c =
+    let a = c .before .before .before .before .before .before .before .before .before .before .before .before .before .before .before .before .before .before in
+    let b = a .before .before .before .before .before .before .before .before .before .before .before in
+    let z = b .before .before .before .before .before .before .before .before .before .before .before .before in
+    done-less (z .pre .0) (z .pre .1) (b .start .ensures .0) (b .start .ensures .1) (a .before .before .before .before .before .loop .inv .0) (runs a) (a .advance .ensures) (asks-nothing (a .advance .result .core .effect) (c .before .before .before .before .before .before .before .before .before .before .before .before .before .before .before .before .match .keys2)) (c .before .before .before .before .before .before .before .before .before .before .done .ensures)
+
+loop-again-2 : tie.Need-loop-again-2 Inv-loop μ-loop
+loop-again-2 c =
+    let a = c .before .before .before .before .before .before .before .before .before .before .before .before .before .before .before .before .before .before in
+    let b = a .before .before .before .before .before .before .before .before .before .before .before in
+    let z = b .before .before .before .before .before .before .before .before .before .before .before .before in
+    let d = c .before .before .before .before .before .before .before .before .before .before .done in
+    (done-again (z .pre .0) (z .pre .1) (b .start .ensures .0) (b .start .ensures .1) (a .before .before .before .before .before .loop .inv .0) (runs a) (a .advance .ensures) (asks-nothing (a .advance .result .core .effect) (c .before .before .before .before .before .before .before .before .before .before .before .before .before .before .before .before .match .keys2)) (d .ensures) (d .kept .0) (d .kept .1 .0) (d .kept .1 .1 .0) (d .kept .1 .1 .1 .0) (d .kept .1 .1 .1 .1 .0), refl)
 
 same-length : tie.Need-same-length Inv-loop μ-loop
 same-length c = c .before .before .loop .inv .0 .current-long
@@ -95,10 +115,10 @@ same-length-5 c = c .before .before .loop .inv .0 .work-long
 
 returns : tie.Need-returns Inv-loop μ-loop
 returns c =
-    let s = c .before .before .before .before .before .before .before .before .before .before .before .before .before .before .before .before .before .before .before .before in
-    let r = c .before .before .before .before .before .before .before .before .start in
+    let b = c .before .before .before .before .before .before .before .before in
+    let z = b .before .before .before .before .before .before .before .before .before .before .before .before in
     let i = c .before .before .loop .inv in
-    next-done (s .pre .0) (s .pre .1) (r .ensures .0) (r .ensures .1) (i .0) (ap isRunning (sym (i .1)) ∙ sym (c .before .is-running .ensures) ∙ c .if1 .left)
+    next-done (z .pre .0) (z .pre .1) (b .start .ensures .0) (b .start .ensures .1) (i .0) (ap isRunning (sym (i .1)) ∙ sym (c .before .is-running .ensures) ∙ c .if1 .left)
 
 pub run-next-spec : {M : Type 1} → statement M
 run-next-spec =
@@ -111,11 +131,14 @@ run-next-spec =
     is-running-requires
     slice-aggregate-advance
     advance-requires
-    slice-aggregate-perform-or-tell
-    perform-or-tell-requires
-    settle-requires
+    enum-known-effect
+    slice-aggregate-tell
+    tell-requires
     loop-less
     loop-again
+    done-requires
+    loop-less-2
+    loop-again-2
     same-length
     same-length-2
     same-length-3

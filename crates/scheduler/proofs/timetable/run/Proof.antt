@@ -2,7 +2,6 @@
 -- does; the managers that run are as their steps leave them, and nothing is kept of what they read. Assumes nothing.
 use Prim.Native.Nat.{ℕ, _*_, _-_, _<_}
 use mathlib.Core.Path.{_≡_, refl, sym, _∙_, ap}
-use mathlib.Core.Bool.{false}
 use mathlib.Core.List.{[], _∷_}
 use native.Mathlib.Omega.{arith}
 use lib.ListN.{length}
@@ -14,20 +13,16 @@ use borrow.Author.Needs.{needs}
 use borrow.Author.Tests.{not-true, not-false}
 use Rattle.lattice.proofs.Laws.Range.{not-both}
 use Rattle.session.specs.declared.Value.the-variants.{Nil}
-use Rattle.session.proofs.Laws.Lists.{holds, fails, truth}
 use Rattle.scripts.specs.Ending.{isRunning}
 use Rattle.scripts.specs.declared.Ending.the-variants.{Running}
-use Rattle.managers.specs.Core.{isAsking}
-use Rattle.managers.specs.declared.Effect.{Effect}
 use Rattle.managers.specs.declared.Effect.the-variants.{Nothing}
 use Rattle.managers.specs.declared.Manager.{Manager}
-use Rattle.managers.proofs.Effect as effect
 use Rattle.level_managers.specs.Kept.{Words}
 use Rattle.tallies.specs.Permits.{isGiven}
 use Rattle.tallies.specs.declared.Permit.{Permit}
 use Rattle.tallies.specs.declared.Permit.the-variants.{Given, Absent, Idle, Blocked}
 use Rattle.tallies.proofs.Permit as permit
-use Rattle.level_managers.proofs.Laws.Script.{asking}
+use Rattle.scheduler.proofs.Laws.Asks.{asks-nothing}
 use Rattle.scheduler.proofs.Laws.Listed.{ListLoop, list-start, list-counted, list-fits, list-finished, list-unended, list-refused, Permitted, permitted, list-present, list-numbers, list-starts, list-started, list-able, list-made, list-tells, list-able-told, list-forgets, list-answered, list-performs, list-done}
 use Rattle.scheduler.proofs.timetable.run.Statement.{statement}
 use Rattle.scheduler.proofs.timetable.run.Tie as tie
@@ -57,13 +52,6 @@ not-given Given h e = miss (1 ∷ 2 ∷ 3 ∷ []) 0 tt h
 not-given Absent h e = not-both (isGiven Given) refl (sym (ap isGiven e))
 not-given Idle h e = not-both (isGiven Given) refl (sym (ap isGiven e))
 not-given Blocked h e = not-both (isGiven Given) refl (sym (ap isGiven e))
-
--- an effect of another tag than a READ's
-asks-nothing : (e : Effect) → OneOf (0 ∷ 1 ∷ 2 ∷ 4 ∷ 5 ∷ 6 ∷ []) (tagOf effect.the-type e) → isAsking e ≡ false
-asks-nothing e h = elim (truth (isAsking e)) [
-  | fails q ↦ q
-  | holds q ↦ let (o, (k, is)) = asking e q in absurd (miss (0 ∷ 1 ∷ 2 ∷ 4 ∷ 5 ∷ 6 ∷ []) 3 tt (rw is at h))
-]
 
 -- the bytes of a manager
 abbrev managerBytes : ℕ
