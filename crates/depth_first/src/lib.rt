@@ -3,10 +3,12 @@ mod forks;
 
 use entries::Answer;
 use forks::Fork;
+use records::limits::HISTORY_WORDS;
 use session::contents;
 use session::limits::MAX_LEVELS;
 use session::limits::MAX_METHODS;
 use words::fields;
+use words::fields::FIELD_WORDS;
 ghost use Prim.Native.Nat.{_≤_};
 ghost use mathlib.Core.Path.{_≡_};
 ghost use mathlib.Core.List.{[]};
@@ -75,9 +77,9 @@ fn run(session: &[u8], masks: &[u16], clearance: usize, result: &mut [u8]) -> us
 {
     let mut index = [0u16; MAX_METHODS + 1];
     contents::index_methods(session, &mut index);
-    let mut current = [0u32; 192];
+    let mut current = [0u32; FIELD_WORDS];
     fields::fill(session, masks, &mut current);
-    let mut ended = [0u32; 2048];
+    let mut ended = [0u32; HISTORY_WORDS];
     let mut tallies = tallies::first();
     run_over(
         session,

@@ -3,11 +3,14 @@ mod plain;
 mod timetable;
 
 use entries::Answer;
+use queues::QUEUE_WORDS;
+use records::limits::HISTORY_WORDS;
 use session::contents;
 use session::limits::MAX_LEVELS;
 use session::limits::MAX_METHODS;
 use tallies::WAITING;
 use words::fields;
+use words::fields::FIELD_WORDS;
 ghost use Rattle.session.specs.Meaning.{levelOf, rootObject};
 ghost use Rattle.scripts.specs.Valid.{Leveled};
 ghost use Rattle.model.specs.Entries.{timetabled, plain as plainly, Answers};
@@ -121,9 +124,9 @@ fn run_accepted(
     ensures { λ r. ⌜ ListDone (now (session .entry)) (listOf (now (session .entry)) (now (timetable .entry)) listed) clearance (now (work .entry)) (now (work .exit)) (now (result .entry)) (now (result .exit)) r ⌝ }
 {
     let mut index = [0u16; MAX_METHODS + 1];
-    let mut current = [0u32; 192];
-    let mut ended = [0u32; 2048];
-    let mut queue = [0u32; 3584];
+    let mut current = [0u32; FIELD_WORDS];
+    let mut ended = [0u32; HISTORY_WORDS];
+    let mut queue = [0u32; QUEUE_WORDS];
     let mut tallies = tallies::first();
     let level = read_in(
         session,

@@ -4,6 +4,7 @@ use managers::Effect;
 use scripts::MAX_SCRIPT_STEPS;
 use tallies::Permit;
 use tallies::WAITING;
+use words::fields::FIELD_WORDS;
 ghost use mathlib.Core.Path.{_≡_};
 ghost use Rattle.tallies.specs.Permits.{isGiven};
 ghost use Rattle.level_managers.specs.Steps.{Read};
@@ -28,7 +29,7 @@ fn run_next(
     requires { ⌜ NextReady (now session) (record { current = now current; ended = now ended; tallies = now tallies; queue = now queue; work = now work }) level ⌝ }
     ensures { λ _. ⌜ NextDone (now (session .entry)) (record { current = now (current .entry); ended = now (ended .entry); tallies = now (tallies .entry); queue = now (queue .entry); work = now (work .entry) }) (record { current = now (current .exit); ended = now (ended .exit); tallies = now (tallies .exit); queue = now (queue .exit); work = now (work .exit) }) level ⌝ }
 {
-    let mut seen = [0u32; 192];
+    let mut seen = [0u32; FIELD_WORDS];
     let mut m = steps::start(session, index, ended, tallies, queue, level);
     let core = m.core;
     let mut ending = core.ending;

@@ -3,8 +3,10 @@ use crate::Outcome;
 use level_managers::steps;
 use managers::Effect;
 use managers::Manager;
+use session::limits::MAX_LEVELS;
 use tallies::Permit;
 use words::fields;
+use words::fields::FIELD_WORDS;
 ghost use mathlib.Core.Path.{_≡_};
 ghost use Rattle.tallies.specs.Permits.{numberOfPermit};
 ghost use Rattle.level_managers.specs.Steps.{Read};
@@ -51,8 +53,8 @@ pub fn run(
     requires { ⌜ Rests (now session) (record { current = now current; ended = now ended; tallies = now tallies; queue = now queue; work = now work }) (startOf (now session)) ⌝ }
     ensures { λ r. ⌜ Ends (now (session .entry)) (now (timetable .entry)) (record { current = now (current .exit); ended = now (ended .exit); tallies = now (tallies .exit); queue = now (queue .exit); work = now (work .exit) }) r × SameRest (now (work .entry)) (now (work .exit)) ⌝ }
 {
-    let mut managers = [Manager::none(); 8];
-    let mut seen = [0u32; 192];
+    let mut managers = [Manager::none(); MAX_LEVELS];
+    let mut seen = [0u32; FIELD_WORDS];
     for i in 0..timetable.len() {
         let level = timetable[i] as usize;
         let permit = tallies::ask(masks, tallies, level);

@@ -6,8 +6,12 @@ use crate::values::VALUE_WORDS;
 use session::Value;
 use session::contents;
 use session::limits::FIELDS;
+use session::limits::MAX_OBJECTS;
 ghost use mathlib.Core.Path.{_≡_};
 ghost use Rattle.words.specs.Fields.{fieldAt, knownAt, storedIn, FieldsReady, FieldThere, FieldSet, Remembered, Forgotten, Filled};
+
+// How many words keep the fields of a run.
+pub const FIELD_WORDS: usize = VALUE_WORDS * (FIELDS * MAX_OBJECTS);
 
 // What field `k` of an object holds.
 pub fn get(fields: &[u32], object: usize, k: usize) -> Value
