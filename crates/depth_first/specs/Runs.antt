@@ -11,7 +11,6 @@ use Rattle.model.specs.Limits.{resultBytes}
 use Rattle.model.specs.DepthFirst.{Progress, newTally, depthFirst}
 use Rattle.model.specs.Result.{resultOfDepthFirst}
 use Rattle.records.specs.Writing.{bytesIn, Written}
-use Rattle.records.specs.declared.Answer.{Answer}
 use Rattle.depth_first.specs.Kept.{Words, Says, Spared}
 use Rattle.depth_first.specs.declared.forks.Fork.{Fork}
 
