@@ -2,26 +2,23 @@
 use Prim.Native.Nat.{ℕ, _-_, _≤_, _<_}
 use mathlib.Core.Path.{_≡_, refl, sym, _∙_, ap, ap₂}
 use mathlib.Core.List.{List}
-use native.Mathlib.Decide.{ℕ-discrete}
 use native.Mathlib.Omega.{arith}
 use lib.ListN.{length, getD, set, take, length-set}
 use lib.Seq.{getD-set-same, getD-set-other}
-use Rattle.session.specs.Limits.{maxLevels, fields}
-use Rattle.session.specs.Parts.{levelCount, objectCount}
-use Rattle.session.specs.Program.{programOf}
+use Rattle.session.specs.Limits.{maxLevels}
+use Rattle.session.specs.Parts.{levelCount}
 use Rattle.scripts.specs.State.{Manager}
-use Rattle.words.specs.Fields.{fieldAt}
 use Rattle.model.specs.Limits.{maxManagers}
 use Rattle.model.specs.Lists.{inserted, modify}
 use Rattle.model.specs.Fork.{Fork}
-use Rattle.model.specs.Level.{Activity, idle, busy, Level, startedCount, arrived, newest}
+use Rattle.model.specs.Level.{Activity, idle, busy, Level, startedCount, arrived}
 use Rattle.model.specs.Step.{State, levelAt}
 use Rattle.queues.specs.Queue.{forkOfRow, forksAt, ForksRise, Arrived}
 use Rattle.queues.proofs.Laws.Queue.{forks-length, fork-apart}
 use Rattle.tallies.specs.Places.{nextPlace, waitingPlace, versionsPlace, busyPlace}
 use Rattle.level_managers.specs.Kept.{Words, Runs, LevelTold, Told}
 use Rattle.level_managers.specs.Steps.{startedOf}
-use Rattle.level_managers.proofs.Laws.Told.{Limited, SameAt, started-is, at-own, at-other, told-change}
+use Rattle.level_managers.proofs.Laws.Told.{Limited, SameAt, started-is, field-kept, told-change}
 
 -- what an arrival leaves of a level
 waiting-arrived : (x : Fork) (v : Level) → arrived x v .waiting ≡ take (maxManagers - startedCount v) (inserted (λ y. y .stamp) x (v .waiting))
@@ -130,15 +127,6 @@ module _ (s : List ℕ) (w : Words) (ms : ℕ → Manager) (st : State) (t : Tol
         activity = at-level (activity-arrived x v) (ap length ended) (runs (length (v .ended)) (v .activity) refl refl (q .activity));
       }
 
-  field-is : (o k : ℕ) → o < objectCount s → k < fields → fieldAt (w .current) o k ≡ newest (programOf s .field o k) o k (levelAt (modify u (arrived x) st) (programOf s .level o) .versions)
-  field-is o k ho hk =
-      t .field o k ho hk ∙ ap (newest (programOf s .field o k) o k) (sym (by (ℕ-discrete (programOf s .level o) u)))
-    where
-      by : Dec (programOf s .level o ≡ u) → levelAt (modify u (arrived x) st) (programOf s .level o) .versions ≡ levelAt st (programOf s .level o) .versions
-      by (yes e) = rw e (ap (λ v. v .versions) (at-own s w wordsArrived ms ms st t b u h (arrived x)) ∙ versions-arrived x v)
-      by (no e) =
-          ap (λ v. v .versions) (at-other s w wordsArrived ms ms st t b u h (arrived x) (programOf s .level o) e)
-
   -- the words then say that the fork has arrived
   pub told-arrive : Told s wordsArrived ms (modify u (arrived (forkOfRow (levelCount s) row)) st)
   told-arrive =
@@ -151,7 +139,7 @@ module _ (s : List ℕ) (w : Words) (ms : ℕ → Manager) (st : State) (t : Tol
         work = t .roomy .work;
       })
       (λ j hj. rw (tally-other j (λ e. omega (arith, e, hj, h, few))) (t .counts-few j hj))
-      field-is
+      (field-kept s w wordsArrived ms ms st t b u h (arrived x) (versions-arrived x))
       own
       same
       (λ j d. refl)

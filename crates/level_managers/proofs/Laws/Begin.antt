@@ -3,25 +3,22 @@ use Prim.Native.Nat.{ℕ, suc, _+_, _-_, _≤_, _<_}
 use mathlib.Core.Path.{_≡_, refl, sym, _∙_, ap, ap₂}
 use mathlib.Core.Bool.{cond}
 use mathlib.Core.List.{List, _∷_}
-use native.Mathlib.Decide.{ℕ-discrete}
 use native.Mathlib.Omega.{arith}
 use lib.ListN.{length, getD, set, length-set}
 use lib.Seq.{getD-set-same, getD-set-other}
-use Rattle.session.specs.Limits.{maxLevels, fields}
-use Rattle.session.specs.Parts.{levelCount, objectCount}
-use Rattle.session.specs.Program.{programOf}
+use Rattle.session.specs.Limits.{maxLevels}
+use Rattle.session.specs.Parts.{levelCount}
 use Rattle.scripts.specs.State.{Manager}
-use Rattle.words.specs.Fields.{fieldAt}
 use Rattle.model.specs.Lists.{modify}
 use Rattle.model.specs.Fork.{Fork}
-use Rattle.model.specs.Level.{idle, busy, Level, isBusy, startedCount, newest}
+use Rattle.model.specs.Level.{idle, busy, Level, isBusy, startedCount}
 use Rattle.model.specs.Step.{State, levelAt}
 use Rattle.queues.specs.Queue.{forkAt, forksAt, ForksRise}
 use Rattle.queues.proofs.Laws.Queue.{forks-first, rises-behind}
 use Rattle.tallies.specs.Places.{nextPlace, waitingPlace, versionsPlace, busyPlace, tallyNumbers}
 use Rattle.level_managers.specs.Kept.{Words, LevelTold, Told, placed}
 use Rattle.level_managers.specs.Steps.{begunTallies}
-use Rattle.level_managers.proofs.Laws.Told.{Limited, SameAt, at-own, at-other, told-change}
+use Rattle.level_managers.proofs.Laws.Told.{Limited, SameAt, field-kept, told-change}
 use Rattle.level_managers.proofs.Laws.Settle.{placed-own, placed-other}
 
 -- a level at which manager m of fork x runs, and those behind it wait
@@ -120,14 +117,6 @@ module _ (s : List ℕ) (w : Words) (ms : ℕ → Manager) (st : State) (t : Tol
         activity = (tally-busy, (refl, first-fork));
       }
 
-  field-is : (o k : ℕ) → o < objectCount s → k < fields → fieldAt (w .current) o k ≡ newest (programOf s .field o k) o k (levelAt (modify l f st) (programOf s .level o) .versions)
-  field-is o k ho hk =
-      t .field o k ho hk ∙ ap (newest (programOf s .field o k) o k) (sym (by (ℕ-discrete (programOf s .level o) l)))
-    where
-      by : Dec (programOf s .level o ≡ l) → levelAt (modify l f st) (programOf s .level o) .versions ≡ levelAt st (programOf s .level o) .versions
-      by (yes e) = rw e (ap (λ v. v .versions) (at-own s w wordsBegun ms ms st t b l h f))
-      by (no e) = ap (λ v. v .versions) (at-other s w wordsBegun ms ms st t b l h f (programOf s .level o) e)
-
   -- the words then say that the manager runs
   pub told-begin : Told s wordsBegun (placed l m ms) (modify l (begunLevel x xs m) st)
   told-begin =
@@ -140,7 +129,7 @@ module _ (s : List ℕ) (w : Words) (ms : ℕ → Manager) (st : State) (t : Tol
         work = t .roomy .work;
       })
       (λ j hj. rw (tally-other j (λ q. omega (arith, q, hj)) (λ q. omega (arith, q, hj))) (t .counts-few j hj))
-      field-is
+      (field-kept s w wordsBegun ms (placed l m ms) st t b l h f (λ v. refl))
       (rw (placed-own l m ms) own)
       same
       (λ j d. placed-other l m ms j d)

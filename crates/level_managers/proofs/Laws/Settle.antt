@@ -8,18 +8,16 @@ use native.Mathlib.Omega.{arith}
 use borrow.Author.Tests.{eq-eqb, ne-eqb}
 use lib.ListN.{length, getD, length-set}
 use lib.Seq.{getD-set-same, getD-set-other}
-use Rattle.session.specs.Limits.{maxLevels, fields}
-use Rattle.session.specs.Parts.{levelCount, objectCount}
-use Rattle.session.specs.Program.{programOf}
+use Rattle.session.specs.Limits.{maxLevels}
+use Rattle.session.specs.Parts.{levelCount}
 use Rattle.session.proofs.Laws.Lists.{holds, fails, truth}
 use Rattle.scripts.specs.Ending.{isRunning}
 use Rattle.scripts.specs.State.{Manager}
-use Rattle.words.specs.Fields.{fieldAt}
 use Rattle.model.specs.Limits.{maxManagers}
 use Rattle.model.specs.Lists.{inserted, modify}
 use Rattle.model.specs.Fork.{Fork}
 use Rattle.model.specs.History as history
-use Rattle.model.specs.Level.{Activity, idle, busy, Level, isBusy, startedCount, after, newest}
+use Rattle.model.specs.Level.{Activity, idle, busy, Level, isBusy, startedCount, after}
 use Rattle.model.specs.Step.{State, levelAt}
 use Rattle.model.proofs.Laws.Invariant.Measure.{inserted-length}
 use Rattle.records.specs.Histories.{historiesAt, InOrder, historyOf}
@@ -28,7 +26,7 @@ use Rattle.tallies.specs.Places.{nextPlace, waitingPlace, versionsPlace, busyPl
 use Rattle.tallies.proofs.Laws.Closed.{tallied-length, tallied-other, tallied-count, tallied-next}
 use Rattle.level_managers.specs.Kept.{Words, Runs, LevelTold, Told, placed}
 use Rattle.level_managers.specs.Steps.{Closed, Settled}
-use Rattle.level_managers.proofs.Laws.Told.{Limited, SameAt, busy-fewer, at-own, at-other, told-change}
+use Rattle.level_managers.proofs.Laws.Told.{Limited, SameAt, busy-fewer, field-kept, told-change}
 
 -- a fork's stamp, whatever the number of levels
 pub stamp-any : (n k : ℕ) (ws : List ℕ) (l i : ℕ) → forkAt n ws l i .stamp ≡ forkAt k ws l i .stamp
@@ -94,16 +92,6 @@ module _ (s : List ℕ) (w : Words) (ms : ℕ → Manager) (st : State) (t : Tol
   started : startedCount v ≡ length (v .ended) + 1
   started = ap (λ a. length (v .ended) + cond {A = ℕ} (isBusy a) 1 0) runs
 
-  field-is : (o k : ℕ) → o < objectCount s → k < fields → fieldAt (w .current) o k ≡ newest (programOf s .field o k) o k (levelAt (modify l settledLevel st) (programOf s .level o) .versions)
-  field-is o k ho hk =
-      t .field o k ho hk ∙ ap (newest (programOf s .field o k) o k) (sym (by (ℕ-discrete (programOf s .level o) l)))
-    where
-      by : Dec (programOf s .level o ≡ l) → levelAt (modify l settledLevel st) (programOf s .level o) .versions ≡ levelAt st (programOf s .level o) .versions
-      by (yes e) =
-          rw e (ap (λ v. v .versions) (at-own s w wordsSettled ms ms st t b l h settledLevel) ∙ after-versions v x m)
-      by (no e) =
-          ap (λ v. v .versions) (at-other s w wordsSettled ms ms st t b l h settledLevel (programOf s .level o) e)
-
   -- the manager runs on
   module _ (e : isRunning (m .ending) ≡ true) (same-ended : ended' ≡ w .ended) (same-tallies : tallies' ≡ w .tallies) where
     tally : (j : ℕ) → getD tallies' j 0 ≡ getD (w .tallies) j 0
@@ -153,7 +141,7 @@ module _ (s : List ℕ) (w : Words) (ms : ℕ → Manager) (st : State) (t : Tol
           work = t .roomy .work;
         })
         (λ j hj. rw (tally j) (t .counts-few j hj))
-        field-is
+        (field-kept s w wordsSettled ms ms st t b l h settledLevel (λ v. after-versions v x m))
         (rw (placed-own l m ms, after-runs v x m e) own-running)
         (λ j hj d. same-running j)
         (λ j d. placed-other l m ms j d)
@@ -264,7 +252,7 @@ module _ (s : List ℕ) (w : Words) (ms : ℕ → Manager) (st : State) (t : Tol
           work = t .roomy .work;
         })
         counts-own
-        field-is
+        (field-kept s w wordsSettled ms ms st t b l h settledLevel (λ v. after-versions v x m))
         (rw (placed-own l m ms, after-ends v x m e) own-closed)
         same-closed
         (λ j d. placed-other l m ms j d)

@@ -110,6 +110,15 @@ module _ (s : List ℕ) (w w' : Words) (ms ms' : ℕ → Manager) (st : State) (
   pub at-other : (k : ℕ) → (k ≡ l → ⊥) → levelAt (modify l f st) k ≡ levelAt st k
   at-other k d = modify-other newLevel l k f st (λ e. d (sym e))
 
+  -- a change that makes no version leaves the fields
+  pub field-kept : ((v : Level) → f v .versions ≡ v .versions) → (o k : ℕ) → o < objectCount s → k < fields → fieldAt (w .current) o k ≡ newest (programOf s .field o k) o k (levelAt (modify l f st) (programOf s .level o) .versions)
+  field-kept kept o k ho hk =
+      t .field o k ho hk ∙ ap (newest (programOf s .field o k) o k) (sym (by (ℕ-discrete (programOf s .level o) l)))
+    where
+      by : Dec (programOf s .level o ≡ l) → levelAt (modify l f st) (programOf s .level o) .versions ≡ levelAt st (programOf s .level o) .versions
+      by (yes e) = rw e (ap (λ v. v .versions) at-own ∙ kept (levelAt st l))
+      by (no e) = ap (λ v. v .versions) (at-other (programOf s .level o) e)
+
   pub told-change : Roomy w'
       → ((k : ℕ) → k < maxLevels → getD (w' .tallies) k 0 ≤ maxManagers)
       → ((o k : ℕ) → o < objectCount s → k < fields → fieldAt (w' .current) o k ≡ newest (programOf s .field o k) o k (levelAt (modify l f st) (programOf s .level o) .versions))
