@@ -18,7 +18,8 @@ use Rattle.session.proofs.Laws.Verdict.{verdict-chain}
 use Rattle.model.specs.Step.{State, stepAt}
 use Rattle.model.specs.Schedule.{question15, stepRefusal, Outcome, finished, refused, runFrom, runOf, plainOrder}
 use Rattle.model.specs.Entries.{Request, question9, question10, question11, entryRefusal, answerOf, timetabled, plain, deep}
-use Rattle.model.specs.Faults.{Question, asks, checkAsks, runAsks, deepAsks, stepAsks, AllYes, LowestNo, Put, no, yes, Demand1Check, Made, startOf, StopsAt, ListMade, Listed, stops, unended, ended, Demand1Timetabled, Demand1Plain, Demand1DepthFirst}
+use Rattle.model.specs.Faults as faults
+use Rattle.model.specs.Faults.{Question, asks, checkAsks, runAsks, deepAsks, stepAsks, AllYes, LowestNo, Put, ends, Demand1Check, Made, startOf, StopsAt, ListMade, Listed, stops, unended, ended, Demand1Timetabled, Demand1Plain, Demand1DepthFirst}
 use Rattle.model.proofs.Laws.Order.PlainRun.{accepted-plain}
 use Rattle.model.proofs.Laws.Reader.Answers.{passes, timetabled-is, deep-is}
 use Rattle.model.proofs.Laws.Code.Progress.{run-made, run-stops, run-ends, run-unended}
@@ -55,7 +56,7 @@ module _ (k : ℕ) (behind : List Question) where
 
 module _ (qs : List Question) (k : ℕ) (w : LowestNo qs k) where
   lowest-is : lowestOf qs ≡ k
-  lowest-is = rw (w .place) (first-no k (w .behind) (w .before) (w .yes))
+  lowest-is = rw (w .place) (first-no k (w .behind) (w .before) (w .passed))
 
   lowest-not : Numbered qs → k ≡ 0 → ⊥
   lowest-not n = eqb-false k 0 (not-true (eqb k 0) (first-numbered k (w .behind) (w .before) (rw (w .place) at n)))
@@ -63,7 +64,7 @@ module _ (qs : List Question) (k : ℕ) (w : LowestNo qs k) where
 -- one question ends the call, or all say yes
 put-of : (qs : List Question) → Put qs
 unfolding every
-put-of [] = yes refl
+put-of [] = faults.passes refl
 put-of (x ∷ xs) = by (truth (x .says)) (put-of xs)
   where
     further : (k : ℕ) → x .says ≡ true → LowestNo xs k → LowestNo (x ∷ xs) k
@@ -72,14 +73,14 @@ put-of (x ∷ xs) = by (truth (x .says)) (put-of xs)
           before = x ∷ w .before;
           behind = w .behind;
           place = ap (λ ys. x ∷ ys) (w .place);
-          yes = unfold every in and-both (x .says) _ h (w .yes);
+          passed = unfold every in and-both (x .says) _ h (w .passed);
         }
 
     by : Truth (x .says) → Put xs → Put (x ∷ xs)
-    by (holds h) (no k w) = no k (further k h w)
-    by (holds h) (yes y) = yes (unfold every in and-both (x .says) _ h y)
+    by (holds h) (ends k w) = ends k (further k h w)
+    by (holds h) (faults.passes y) = faults.passes (unfold every in and-both (x .says) _ h y)
     by (fails h) r =
-        no (x .number) (record { before = []; behind = xs; place = ap (λ b. asks (x .number) b ∷ xs) h; yes = unfold every in refl })
+        ends (x .number) (record { before = []; behind = xs; place = ap (λ b. asks (x .number) b ∷ xs) h; passed = unfold every in refl })
 
 -- the verdict's number is that of the first of questions 1 to 8 that says no
 chain : (a b c d e f g h : Bool) (xs : List Question) →
@@ -172,7 +173,7 @@ module _ (s ls : List ℕ) where
   stops-is k i x =
       ap (λ ks. runFrom 0 (programOf s) ks (startOf s)) (x .place)
       ∙ made-run 0 (programOf s) (startOf s) (x .before) (x .state) (x .byte ∷ x .behind) (x .made)
-      ∙ run-stops (length (x .before) + 0) (programOf s) (x .byte) (x .behind) (x .state) k (step-lowest (programOf s) (x .state) (x .byte) ∙ lowest-is _ k (x .no)) (lowest-not (stepAsks (programOf s) (x .state) (x .byte)) k (x .no) (unfold every in refl))
+      ∙ run-stops (length (x .before) + 0) (programOf s) (x .byte) (x .behind) (x .state) k (step-lowest (programOf s) (x .state) (x .byte) ∙ lowest-is _ k (x .refusal)) (lowest-not (stepAsks (programOf s) (x .state) (x .byte)) k (x .refusal) (unfold every in refl))
       ∙ ap (refused k) (omega (arith, x .position))
 
   unended-is : (t : State) → ListMade s ls t false → runOf (programOf s) (rootOf s) ls ≡ refused 15 0
@@ -197,17 +198,17 @@ ran-of p st [] = whole st (unfold Made in refl)
 ran-of p st (l ∷ ls) = by (put-of (stepAsks p st l)) (ran-of p (stepAt p l st) ls)
   where
     by : Put (stepAsks p st l) → Ran p (stepAt p l st) ls → Ran p st (l ∷ ls)
-    by (no k w) r = stopped k [] l ls st refl (unfold Made in refl) w
-    by (yes y) (stopped k before byte behind t e m w) =
+    by (ends k w) r = stopped k [] l ls st refl (unfold Made in refl) w
+    by (faults.passes y) (stopped k before byte behind t e m w) =
         stopped k (l ∷ before) byte behind t (ap (λ ks. l ∷ ks) e) (unfold Made in (y, m)) w
-    by (yes y) (whole t m) = whole t (unfold Made in (y, m))
+    by (faults.passes y) (whole t m) = whole t (unfold Made in (y, m))
 
 listed-of : (s ls : List ℕ) → Listed s ls
 listed-of s ls = by (ran-of (programOf s) (startOf s) ls)
   where
     by : Ran (programOf s) (startOf s) ls → Listed s ls
     by (stopped k before byte behind t e m w) =
-        stops k (length before) (record { before = before; byte = byte; behind = behind; place = e; position = refl; state = t; made = m; no = w })
+        stops k (length before) (record { before = before; byte = byte; behind = behind; place = e; position = refl; state = t; made = m; refusal = w })
     by (whole t m) = elim (truth (question15 (programOf s) t)) [
       | holds h ↦ ended t (record { made = m; says = h })
       | fails h ↦ unended t (record { made = m; says = h })

@@ -80,20 +80,20 @@ tower =
 abbrev towerTop : Record
 towerTop = 6 ∷ 7 ∷ 0 ∷ 0 ∷ 0x70 ∷ 0x56 ∷ 0x34 ∷ 0x12 ∷ 7 ∷ 0 ∷ 7 ∷ 0 ∷ 0 ∷ 0 ∷ 0 ∷ 0 ∷ []
 
--- Levels 3 over 1 and 2, these over 0, and 4 over 3. As there are 32 managers at level 3, and each forks 15 times, its write stamp grows to 512
+-- Levels in a chain. There are 17 managers at level 2, 15 of them forked at level 1, and each forks 15 times: its write stamp grows by 16
+-- with each
 abbrev grower : Program
 grower =
     eachLevel
-    (0x01 ∷ 0x03 ∷ 0x05 ∷ 0x0F ∷ 0x1F ∷ [])
-    (((Send 1 0 1 ∷ Send 1 0 2 ∷ Send 1 0 3 ∷ Send 1 0 3 ∷ []) ∷ [])
+    (0x01 ∷ 0x03 ∷ 0x07 ∷ 0x0F ∷ [])
+    (((Send 1 0 1 ∷ Send 1 0 2 ∷ Send 1 0 2 ∷ []) ∷ [])
+    ∷ (replicate 15 (Send 1 0 2) ∷ [])
     ∷ (replicate 15 (Send 1 0 3) ∷ [])
-    ∷ (replicate 15 (Send 1 0 3) ∷ [])
-    ∷ (replicate 15 (Send 1 0 4) ∷ [])
     ∷ [])
 
--- the root's fourth child, the last at level 3
+-- the root's third child, the last at level 2: write stamps 257 and 272
 abbrev grownLast : Record
-grownLast = 6 ∷ 3 ∷ 0 ∷ 0 ∷ 0 ∷ 0 ∷ 0 ∷ 0x40 ∷ 0xF1 ∷ 0x01 ∷ 0x00 ∷ 0x02 ∷ 15 ∷ 0 ∷ 0 ∷ 0 ∷ []
+grownLast = 6 ∷ 2 ∷ 0 ∷ 0 ∷ 0 ∷ 0 ∷ 0 ∷ 0x30 ∷ 0x01 ∷ 0x01 ∷ 0x10 ∷ 0x01 ∷ 15 ∷ 0 ∷ 0 ∷ 0 ∷ []
 
 -- the last history of a level after a list of scheduler steps
 abbrev lastAfter : ℕ → Outcome → Record
@@ -133,8 +133,8 @@ pub record Layouts : Type 0 where
   -- fork stamps, and write stamps above 255
   tower-top : lastAfter 7 (runOf tower (message 0) (plainOrder tower (message 0))) ≡ towerTop
   tower-top-depth-first : lastDeep 7 tower ≡ towerTop
-  grows : lastAfter 3 (runOf grower (message 0) (replicate 5 0 ++ replicate 16 1 ++ replicate 16 2 ++ replicate 512 3 ++ replicate 32 4)) ≡ grownLast
-  grows-depth-first : lastDeep 3 grower ≡ grownLast
+  grows : lastAfter 2 (runOf grower (message 0) (replicate 4 0 ++ replicate 16 1 ++ replicate 272 2 ++ replicate 32 3)) ≡ grownLast
+  grows-depth-first : lastDeep 2 grower ≡ grownLast
 
 pub layouts : Layouts
 unfolding computing

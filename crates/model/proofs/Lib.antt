@@ -1,5 +1,5 @@
 pub mod Laws
-mod Computing
+pub mod Computing
 pub mod Faults
 pub mod Demands
 pub mod Calls

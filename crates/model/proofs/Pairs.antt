@@ -1,7 +1,7 @@
 -- What tells two results apart to the reader, and what does not: computed pairs. Each pair of the first record differs in one place, so that
 -- an equality which leaves out the objects, the histories of a level or the reply is refused here. Assumes nothing.
 use Prim.Native.Nat.{ℕ, zero, suc}
-use mathlib.Core.Path.{_≡_, refl, sym, _∙_, ap}
+use mathlib.Core.Path.{_≡_, refl, sym, ap}
 use mathlib.Core.List.{List, [], _∷_, _++_}
 use native.Mathlib.Omega.{arith}
 use borrow.Author.Tests.{eqb-false, ne-eqb}
@@ -9,7 +9,6 @@ use lib.Dec.{eqb}
 use lib.ListN.{length, getD, set, take, drop, replicate}
 use Rattle.session.specs.Lists.{joined, select}
 use Rattle.session.specs.Record.{Record, byteOf}
-use Rattle.session.specs.Parts.{ofKind}
 use Rattle.session.specs.SessionW.{sessionW}
 use Rattle.model.specs.Entries.{Answer, plain}
 use Rattle.model.specs.Reader.{bytesWritten, SameBytes, EqualToReader}
@@ -96,6 +95,19 @@ longerW = 6 ∷ 1 ∷ 0 ∷ 2 ∷ 0 ∷ 0 ∷ 0 ∷ 0x10 ∷ 1 ∷ 0 ∷ 1 ∷ 0
 abbrev replyW : Record
 replyW = 7 ∷ 0 ∷ 0 ∷ 1 ∷ 9 ∷ replicate 11 0
 
+abbrev bytesW : List ℕ
+bytesW = joined (objectsW ++ lowW ∷ highW ∷ replyW ∷ [])
+
+-- the level groups in the other order, another reply, another history
+abbrev bytesTurned : List ℕ
+bytesTurned = joined (objectsW ++ highW ∷ lowW ∷ replyW ∷ [])
+
+abbrev bytesNil : List ℕ
+bytesNil = joined (objectsW ++ lowW ∷ highW ∷ (7 ∷ replicate 15 0) ∷ [])
+
+abbrev bytesLonger : List ℕ
+bytesLonger = joined (objectsW ++ lowW ∷ longerW ∷ replyW ∷ [])
+
 pub record Pairs : Type 0 where
   -- "the same kind 5 records in the same order"
   object-alone : SameBytes whole otherObject → ⊥
@@ -112,12 +124,17 @@ pub record Pairs : Type 0 where
   reply-more : SameBytes noReply whole → ⊥
   -- "levels' groups in any order"
   groups-turned : SameBytes whole groupsTurned
-  -- the same of whole runs: session W with another reply, with another step count at level 1, and with its level groups in two orders
-  bytes-reply-alone : bytesWritten (ran quitsNil (0 ∷ 1 ∷ [])) ≡ joined (objectsW ++ lowW ∷ highW ∷ (7 ∷ replicate 15 0) ∷ [])
-  bytes-history-alone : bytesWritten (ran longer (0 ∷ 1 ∷ [])) ≡ joined (objectsW ++ lowW ∷ longerW ∷ replyW ∷ [])
-  runs-reply-alone : EqualToReader (ran sessionW (0 ∷ 1 ∷ [])) (ran quitsNil (0 ∷ 1 ∷ [])) → ⊥
-  runs-history-alone : EqualToReader (ran sessionW (0 ∷ 1 ∷ [])) (ran longer (0 ∷ 1 ∷ [])) → ⊥
-  runs-groups-turned : EqualToReader (ran sessionW (0 ∷ 1 ∷ [])) (ran sessionW (1 ∷ 0 ∷ []))
+
+-- The same of whole runs: session W with another reply, with another step count at level 1, and with its level groups in two orders. Their
+-- bytes are literals, of which the reader compares the records
+pub record RunPairs : Type 0 where
+  bytes-W : bytesWritten (ran sessionW (0 ∷ 1 ∷ [])) ≡ bytesW
+  bytes-turned : bytesWritten (ran sessionW (1 ∷ 0 ∷ [])) ≡ bytesTurned
+  bytes-nil : bytesWritten (ran quitsNil (0 ∷ 1 ∷ [])) ≡ bytesNil
+  bytes-longer : bytesWritten (ran longer (0 ∷ 1 ∷ [])) ≡ bytesLonger
+  reply-alone : SameBytes bytesW bytesNil → ⊥
+  history-alone : SameBytes bytesW bytesLonger → ⊥
+  groups-turned : SameBytes bytesW bytesTurned
 
 -- a byte of the record at a place
 abbrev byteIn : ℕ → ℕ → List Record → ℕ
@@ -136,14 +153,9 @@ turnedW zero = refl
 turnedW (suc zero) = refl
 turnedW (suc (suc l)) = rw (ne-eqb 0 (suc (suc l)) (λ e. omega (arith, e)), ne-eqb 1 (suc (suc l)) (λ e. omega (arith, e))) refl
 
--- two lists of bytes with these records of kinds 5 and 7, and of kind 6 for every level
-same : (a b : List ℕ) (objects replies lefts rights : List Record) → ofKind 5 a ≡ objects → ofKind 5 b ≡ objects → ofKind 7 a ≡ replies → ofKind 7 b ≡ replies → ofKind 6 a ≡ lefts → ofKind 6 b ≡ rights → ((l : ℕ) → select (λ rec. eqb (byteOf rec 1) l) lefts ≡ select (λ rec. eqb (byteOf rec 1) l) rights) → SameBytes a b
-same a b objects replies lefts rights oa ob ra rb la lb each =
-    record {
-      objects = oa ∙ sym ob;
-      histories = λ l. ap (select (λ rec. eqb (byteOf rec 1) l)) la ∙ each l ∙ ap (select (λ rec. eqb (byteOf rec 1) l)) (sym lb);
-      reply = ra ∙ sym rb;
-    }
+-- some records, with which both sides of an equation are compared
+itself : (rs : List Record) → rs ≡ rs
+itself rs = refl
 
 pub pairs : Pairs
 unfolding computing
@@ -159,10 +171,33 @@ pairs =
       reply-alone = λ e. eqb-false 9 8 refl (ap (byteIn 0 4) (e .reply));
       reply-less = λ e. eqb-false 1 0 refl (ap length (e .reply));
       reply-more = λ e. eqb-false 0 1 refl (ap length (e .reply));
-      groups-turned = same whole groupsTurned (object 0 3 ∷ object 1 4 ∷ []) (reply 9 ∷ []) _ _ refl refl refl refl refl refl turned;
-      bytes-reply-alone = refl;
-      bytes-history-alone = refl;
-      runs-reply-alone = λ e. eqb-false 9 0 refl (ap (byteIn 0 4) (e .reply));
-      runs-history-alone = λ e. eqb-false 5 6 refl (ap (byteIn 0 12) (e .histories 1));
-      runs-groups-turned = same (bytesWritten (ran sessionW (0 ∷ 1 ∷ []))) (bytesWritten (ran sessionW (1 ∷ 0 ∷ []))) objectsW (replyW ∷ []) (lowW ∷ highW ∷ []) (highW ∷ lowW ∷ []) refl refl refl refl refl refl turnedW;
+      groups-turned = record { objects = itself (object 0 3 ∷ object 1 4 ∷ []); histories = turned; reply = itself (reply 9 ∷ []) };
     }
+
+pub runPairs : RunPairs
+unfolding computing
+runPairs =
+    record {
+      bytes-W = refl;
+      bytes-turned = refl;
+      bytes-nil = refl;
+      bytes-longer = refl;
+      reply-alone = λ e. eqb-false 9 0 refl (ap (byteIn 0 4) (e .reply));
+      history-alone = λ e. eqb-false 5 6 refl (ap (byteIn 0 12) (e .histories 1));
+      groups-turned = record { objects = itself objectsW; histories = turnedW; reply = itself (replyW ∷ []) };
+    }
+
+-- so the runs are unequal, and equal
+held : (a b a' b' : List ℕ) → a ≡ a' → b ≡ b' → SameBytes a b → SameBytes a' b'
+held a b a' b' p q e = rw (sym p, sym q) e
+
+pub runs-reply-alone : EqualToReader (ran sessionW (0 ∷ 1 ∷ [])) (ran quitsNil (0 ∷ 1 ∷ [])) → ⊥
+runs-reply-alone e = runPairs .reply-alone (held _ _ bytesW bytesNil (runPairs .bytes-W) (runPairs .bytes-nil) e)
+
+pub runs-history-alone : EqualToReader (ran sessionW (0 ∷ 1 ∷ [])) (ran longer (0 ∷ 1 ∷ [])) → ⊥
+runs-history-alone e =
+    runPairs .history-alone (held _ _ bytesW bytesLonger (runPairs .bytes-W) (runPairs .bytes-longer) e)
+
+pub runs-groups-turned : EqualToReader (ran sessionW (0 ∷ 1 ∷ [])) (ran sessionW (1 ∷ 0 ∷ []))
+runs-groups-turned =
+    held bytesW bytesTurned _ _ (sym (runPairs .bytes-W)) (sym (runPairs .bytes-turned)) (runPairs .groups-turned)

@@ -7,8 +7,11 @@ use mathlib.Core.List.{List, [], _∷_, _++_}
 use lib.Dec.{eqb}
 use lib.ListN.{length, take, drop, set, replicate}
 use Rattle.session.specs.Lists.{every}
+use Rattle.session.specs.Meaning.{rootOf}
+use Rattle.session.specs.Program.{programOf}
 use Rattle.session.specs.SessionW.{sessionW}
 use Rattle.model.specs.Limits.{workNumbers}
+use Rattle.model.specs.Schedule.{Outcome, refused, runOf}
 use Rattle.model.specs.Entries.{Request, Answer, timetabled, plain, deep}
 use Rattle.model.proofs.Computing.{computing, lending, lent}
 
@@ -23,7 +26,10 @@ lentW = lending sessionW
 abbrev groups : List ℕ
 groups = 0 ∷ 1 ∷ []
 
--- session W by a timetable, for clearance 1
+-- a list of scheduler steps of session W, and the same as a call, for clearance 1
+abbrev ranW : List ℕ → Outcome
+ranW = runOf (programOf sessionW) (rootOf sessionW)
+
 abbrev byTimetable : List ℕ → Answer
 byTimetable ls = timetabled (lent sessionW 1) groups ls
 
@@ -43,7 +49,13 @@ isZeroed a = every (eqb 0) (take workNumbers (a .work)) && every (eqb 7) (drop w
 abbrev isCleared : Answer → Bool
 isCleared a = isZeroed a && every (eqb 9) (a .buffer)
 
--- a run that finishes
+-- a run that question 12 ends, one that question 15 ends, and one that finishes
+abbrev stoppedRun : Answer
+stoppedRun = byTimetable (0 ∷ 2 ∷ [])
+
+abbrev unendedRun : Answer
+unendedRun = byTimetable (replicate 6 0)
+
 abbrev finishedRun : Answer
 finishedRun = byTimetable (replicate 6 0 ++ replicate 6 1)
 
@@ -68,39 +80,35 @@ pub record Refusals : Type 0 where
   nine-before-eleven-depth-first : answered (deep (lentW 2 0 4623) groups) ≡ 9 ∷ 0 ∷ 0 ∷ []
   ten-before-twelve : answered (timetabled (lentW 1 8191 4624) groups (2 ∷ [])) ≡ 10 ∷ 0 ∷ 0 ∷ []
   -- 12. "Per timetable byte: is it a present level?" Session W has levels 0 and 1
-  twelve-first : answered (byTimetable (2 ∷ [])) ≡ 12 ∷ 0 ∷ 0 ∷ []
-  twelve-later : answered (byTimetable (0 ∷ 0 ∷ 0 ∷ 2 ∷ 1 ∷ [])) ≡ 12 ∷ 3 ∷ 0 ∷ []
-  twelve-byte : answered (byTimetable (0 ∷ 255 ∷ [])) ≡ 12 ∷ 1 ∷ 0 ∷ []
-  twelve-last : answered (byTimetable (replicate 6 0 ++ replicate 6 1 ++ 2 ∷ [])) ≡ 12 ∷ 12 ∷ 0 ∷ []
+  twelve-first : ranW (2 ∷ []) ≡ refused 12 0
+  twelve-later : ranW (0 ∷ 0 ∷ 0 ∷ 2 ∷ 1 ∷ []) ≡ refused 12 3
+  twelve-byte : ranW (0 ∷ 255 ∷ []) ≡ refused 12 1
+  twelve-last : ranW (replicate 6 0 ++ replicate 6 1 ++ 2 ∷ []) ≡ refused 12 12
   -- 13. "Has that level a manager that hasn't ended?"
-  thirteen : answered (byTimetable (0 ∷ 0 ∷ 1 ∷ [])) ≡ 13 ∷ 2 ∷ 0 ∷ []
-  thirteen-ended : answered (byTimetable (replicate 7 0)) ≡ 13 ∷ 6 ∷ 0 ∷ []
+  thirteen : ranW (0 ∷ 0 ∷ 1 ∷ []) ≡ refused 13 2
+  thirteen-ended : ranW (replicate 7 0) ≡ refused 13 6
   -- 14. "Have all managers ended at levels it strictly dominates?"
-  fourteen : answered (byTimetable (replicate 5 0 ++ 1 ∷ [])) ≡ 14 ∷ 5 ∷ 0 ∷ []
+  fourteen : ranW (replicate 5 0 ++ 1 ∷ []) ≡ refused 14 5
   -- "12 to 14 are put of one timetable byte, its step is made, then the next byte follows"
-  first-byte-decides : answered (byTimetable (0 ∷ 1 ∷ 2 ∷ [])) ≡ 13 ∷ 1 ∷ 0 ∷ []
+  first-byte-decides : ranW (0 ∷ 1 ∷ 2 ∷ []) ≡ refused 13 1
   -- 15. "At the timetable's end: have all managers ended?"
-  fifteen-empty : answered (byTimetable []) ≡ 15 ∷ 0 ∷ 0 ∷ []
-  fifteen : answered (byTimetable (replicate 6 0 ++ replicate 5 1)) ≡ 15 ∷ 0 ∷ 0 ∷ []
+  fifteen-empty : ranW [] ≡ refused 15 0
+  fifteen : ranW (replicate 6 0 ++ replicate 5 1) ≡ refused 15 0
   -- "Up to 11, both buffers stay untouched"
-  four-untouched : isUntouched (plain (lending unordered 1 8194 4626) groups) ≡ true
-  nine-untouched : isUntouched (plain (lentW 2 8194 4626) groups) ≡ true
   ten-untouched : isUntouched (plain (lentW 1 8191 4626) groups) ≡ true
-  eleven-untouched : isUntouched (plain (lentW 1 8194 4623) groups) ≡ true
   eleven-untouched-depth-first : isUntouched (deep (lentW 1 8194 4623) groups) ≡ true
   -- "After 12 to 15 the result buffer is untouched; then .. the work slice's first 8,192 numbers are 0"
-  twelve-cleared : isCleared (byTimetable (0 ∷ 2 ∷ [])) ≡ true
-  thirteen-cleared : isCleared (byTimetable (1 ∷ [])) ≡ true
-  fourteen-cleared : isCleared (byTimetable (0 ∷ 0 ∷ 0 ∷ 1 ∷ [])) ≡ true
-  fifteen-cleared : isCleared (byTimetable []) ≡ true
+  twelve-answered : answered stoppedRun ≡ 12 ∷ 1 ∷ 0 ∷ []
+  twelve-cleared : isCleared stoppedRun ≡ true
+  fifteen-answered : answered unendedRun ≡ 15 ∷ 0 ∷ 0 ∷ []
+  fifteen-cleared : isCleared unendedRun ≡ true
   -- "then, and after success, the work slice's first 8,192 numbers are 0. Beyond those, and beyond the result written, nothing changes"
+  finished-answered : answered finishedRun ≡ 0 ∷ 0 ∷ 80 ∷ []
   finished-work : isZeroed finishedRun ≡ true
   finished-beyond : every (eqb 9) (drop 80 (finishedRun .buffer)) ≡ true
   finished-length : length (finishedRun .buffer) ≡ 4625
-  finished-answered : answered finishedRun ≡ 0 ∷ 0 ∷ 80 ∷ []
   finished-work-depth-first : every (eqb 7) (deep (lent sessionW 1) groups .work) ≡ true
   finished-beyond-depth-first : every (eqb 9) (drop 80 (deep (lent sessionW 1) groups .buffer)) ≡ true
-  finished-length-depth-first : length (deep (lent sessionW 1) groups .buffer) ≡ 4625
 
 pub refusals : Refusals
 unfolding computing
@@ -131,20 +139,16 @@ refusals =
       first-byte-decides = refl;
       fifteen-empty = refl;
       fifteen = refl;
-      four-untouched = refl;
-      nine-untouched = refl;
       ten-untouched = refl;
-      eleven-untouched = refl;
       eleven-untouched-depth-first = refl;
+      twelve-answered = refl;
       twelve-cleared = refl;
-      thirteen-cleared = refl;
-      fourteen-cleared = refl;
+      fifteen-answered = refl;
       fifteen-cleared = refl;
+      finished-answered = refl;
       finished-work = refl;
       finished-beyond = refl;
       finished-length = refl;
-      finished-answered = refl;
       finished-work-depth-first = refl;
       finished-beyond-depth-first = refl;
-      finished-length-depth-first = refl;
     }

@@ -60,12 +60,12 @@ pub record LowestNo (qs : List Question) (k : ℕ) : Type 0 where
   pub before : List Question
   pub behind : List Question
   pub place : qs ≡ before ++ asks k false ∷ behind
-  pub yes : AllYes before
+  pub passed : AllYes before
 
 -- questions that are put one after the other: one ends the call, or all say yes
 pub data Put (qs : List Question) : Type 0 where
-  no : (k : ℕ) → LowestNo qs k → Put qs
-  yes : AllYes qs → Put qs
+  ends : (k : ℕ) → LowestNo qs k → Put qs
+  passes : AllYes qs → Put qs
 
 -- Check, for any bytes
 pub record Demand1Check : Type 0 where
@@ -92,7 +92,7 @@ pub record StopsAt (s ls : List ℕ) (k i : ℕ) : Type 0 where
   pub position : length before ≡ i
   pub state : State
   pub made : Made (programOf s) (startOf s) before state
-  pub no : LowestNo (stepAsks (programOf s) state byte) k
+  pub refusal : LowestNo (stepAsks (programOf s) state byte) k
 
 -- the whole list is made, and this is what question 15 says at its end
 pub record ListMade (s ls : List ℕ) (state : State) (fifteen : Bool) : Type 0 where
