@@ -61,6 +61,11 @@ SameRest work work' = drop workNumbers work' ≡ drop workNumbers work
 abbrev pub RefusedAt : Permit → ℕ → Outcome → Type 0
 RefusedAt permit place r = r ≡ outcome.Refused (numberOfPermit permit) place
 
+-- "At the timetable's end: have all managers ended?"
+abbrev pub endOf : Bool → Outcome
+endOf true = outcome.Finished
+endOf false = outcome.Refused 15 0
+
 -- the scheduler steps of a run: those of a timetable, if it is listed, or the plain ones
 abbrev pub listOf : List ℕ → List ℕ → Bool → List ℕ
 listOf s ls true = ls

@@ -8,9 +8,9 @@ use tallies::Permit;
 use words::fields;
 use words::fields::FIELD_WORDS;
 ghost use mathlib.Core.Path.{_≡_};
-ghost use Rattle.tallies.specs.Permits.{numberOfPermit};
+ghost use Rattle.tallies.specs.Permits.{numberOfPermit, endedOf, Countable};
 ghost use Rattle.level_managers.specs.Steps.{Read};
-ghost use Rattle.scheduler.specs.Runs.{startOf, Rests, RefusedAt, Ends, SameRest};
+ghost use Rattle.scheduler.specs.Runs.{startOf, Rests, RefusedAt, endOf, Ends, SameRest};
 
 // Document 01's number of what questions 12 to 14 say.
 fn number_of(permit: Permit) -> u32
@@ -32,6 +32,20 @@ fn refused_at(permit: Permit, place: u32) -> Outcome
         number: number_of(permit),
         place,
     }
+}
+
+// The end of a run whose timetable has no more bytes: question 15.
+fn at_end(masks: &[u16], tallies: &[usize]) -> Outcome
+    requires { ⌜ Countable (now masks) (now tallies) ⌝ }
+    ensures { λ r. ⌜ r ≡ endOf (endedOf (now (masks .entry)) (now (tallies .entry))) ⌝ }
+{
+    if !tallies::all_ended(masks, tallies) {
+        return Outcome::Refused {
+            number: 15,
+            place: 0,
+        };
+    }
+    Outcome::Finished
 }
 
 // Makes the scheduler steps of a timetable, from the session as read in. The first that is not permitted
@@ -93,11 +107,5 @@ pub fn run(
         managers[level] = n;
         steps::done(current, ended, tallies, queue, work, level, core);
     }
-    if !tallies::all_ended(masks, tallies) {
-        return Outcome::Refused {
-            number: 15,
-            place: 0,
-        };
-    }
-    Outcome::Finished
+    at_end(masks, tallies)
 }

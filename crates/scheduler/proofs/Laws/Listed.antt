@@ -17,6 +17,7 @@ use Rattle.session.specs.Questions.{verdictOf}
 use Rattle.session.specs.declared.Verdict.the-variants.{Accepted}
 use Rattle.session.specs.declared.Value.the-variants.{Nil}
 use Rattle.session.proofs.Laws.Contents.{level-limit, masks-length}
+use Rattle.session.proofs.Laws.Lists.{holds, fails, truth}
 use Rattle.scripts.specs.Valid.{Leveled}
 use Rattle.scripts.specs.Ending.{isRunning}
 use Rattle.scripts.specs.State.{Manager}
@@ -38,7 +39,7 @@ use Rattle.tallies.specs.Places.{busyPlace, clearPlace, tallyNumbers}
 use Rattle.level_managers.specs.Kept.{Words, Says, placed}
 use Rattle.tallies.specs.Permits.{numberOfPermit, busyIn, endedOf, permitOf, noted, Countable}
 use Rattle.level_managers.specs.Steps.{Read, IsBusy, TellReady, Answered, PerformReady, SettleReady, StepDone, StartReady, Started}
-use Rattle.scheduler.specs.Runs.{startOf, Rests, SameRest, Ends}
+use Rattle.scheduler.specs.Runs.{startOf, Rests, SameRest, endOf, Ends}
 use Rattle.scheduler.specs.declared.Outcome.{Outcome}
 use Rattle.scheduler.specs.declared.Outcome.the-variants as outcome
 use Rattle.tallies.specs.declared.Permit.{Permit}
@@ -249,13 +250,16 @@ module _ {s masks : List ℕ} (y : Leveled s masks) {ls : List ℕ} {d : code.Ma
   pub list-fits : i < 2 ^ 32
   list-fits = going-fits s (y .accepted) few ls i w (heldIn managers d) (g .going)
 
-  pub list-finished : length ls ≤ i → endedOf masks (w .tallies) ≡ true → Ends s ls w outcome.Finished
-  list-finished h e =
-      going-ends s (y .accepted) few ls i w (heldIn managers d) (g .going) masks (y .masks-are) long (omega (arith, h, g .low)) e
-
-  pub list-unended : length ls ≤ i → endedOf masks (w .tallies) ≡ false → Ends s ls w (outcome.Refused 15 0)
-  list-unended h e =
-      going-unended s (y .accepted) few ls i w (heldIn managers d) (g .going) masks (y .masks-are) long (omega (arith, h, g .low)) e
+  -- question 15
+  pub list-ends : length ls ≤ i → {r : Outcome} → r ≡ endOf (endedOf masks (w .tallies)) → Ends s ls w r
+  list-ends h q =
+      let e : i ≡ length ls = omega (arith, h, g .low) in
+      elim (truth (endedOf masks (w .tallies))) [
+        | holds z ↦
+            rw (q, z) (going-ends s (y .accepted) few ls i w (heldIn managers d) (g .going) masks (y .masks-are) long e z)
+        | fails z ↦
+            rw (q, z) (going-unended s (y .accepted) few ls i w (heldIn managers d) (g .going) masks (y .masks-are) long e z)
+      ]
 
   module _ (h : i < length ls) {p : Permit} (e : p ≡ permitOf masks (w .tallies) (getD ls i 0)) {t : List ℕ} (n : t ≡ noted p (getD ls i 0) (w .tallies)) where
     -- the step is not permitted

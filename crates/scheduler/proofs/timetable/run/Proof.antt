@@ -23,7 +23,7 @@ use Rattle.tallies.specs.declared.Permit.{Permit}
 use Rattle.tallies.specs.declared.Permit.the-variants.{Given, Absent, Idle, Blocked}
 use Rattle.tallies.proofs.Permit as permit
 use Rattle.scheduler.proofs.Laws.Asks.{asks-nothing}
-use Rattle.scheduler.proofs.Laws.Listed.{ListLoop, list-start, list-counted, list-fits, list-finished, list-unended, list-refused, Permitted, permitted, list-present, list-numbers, list-starts, list-started, list-able, list-made, list-tells, list-able-told, list-forgets, list-answered, list-performs, list-done}
+use Rattle.scheduler.proofs.Laws.Listed.{ListLoop, list-start, list-counted, list-fits, list-ends, list-refused, Permitted, permitted, list-present, list-numbers, list-starts, list-started, list-able, list-made, list-tells, list-able-told, list-forgets, list-answered, list-performs, list-done}
 use Rattle.scheduler.proofs.timetable.run.Statement.{statement}
 use Rattle.scheduler.proofs.timetable.run.Tie as tie
 
@@ -276,51 +276,30 @@ loop-again-3 c =
     let r = c .before .before .before .before .before .before .before .before .before .before .done2 in
     list-done g busy made (r .ensures) refl (r .kept .0) (r .kept .1 .0) (r .kept .1 .1 .0) (r .kept .1 .1 .1 .0) (r .kept .1 .1 .1 .1 .0)
 
-all-ended-requires : tie.Need-all-ended-requires Inv-loop μ-loop
-all-ended-requires c κs =
+at-end-requires : tie.Need-at-end-requires Inv-loop μ-loop
+at-end-requires c κs =
     list-counted (c .before .before .before .before .before .before .before .before .before .before .before .before .before .pre .0 .leveled) (c .before .before .loop .inv)
 
 same-length-6 : tie.Need-same-length-6 Inv-loop μ-loop
-same-length-6 c = c .before .before .before .before .loop .inv .current-long
+same-length-6 c = c .before .before .before .loop .inv .current-long
 
 same-length-7 : tie.Need-same-length-7 Inv-loop μ-loop
-same-length-7 c = c .before .before .before .before .loop .inv .ended-long
+same-length-7 c = c .before .before .before .loop .inv .ended-long
 
 same-length-8 : tie.Need-same-length-8 Inv-loop μ-loop
-same-length-8 c = c .before .before .before .before .loop .inv .tallies-long
+same-length-8 c = c .before .before .before .loop .inv .tallies-long
 
 same-length-9 : tie.Need-same-length-9 Inv-loop μ-loop
-same-length-9 c = c .before .before .before .before .loop .inv .queue-long
+same-length-9 c = c .before .before .before .loop .inv .queue-long
 
 same-length-10 : tie.Need-same-length-10 Inv-loop μ-loop
-same-length-10 c = c .before .before .before .before .loop .inv .work-long
+same-length-10 c = c .before .before .before .loop .inv .work-long
 
 returns-2 : tie.Need-returns-2 Inv-loop μ-loop
 returns-2 c =
-    let a = c .before .all-ended in
-    (list-unended (c .before .before .before .before .before .before .before .before .before .before .before .before .before .before .before .pre .0 .leveled) (c .before .before .before .before .loop .inv) (c .before .before .before .loop-test .left) (sym (a .ensures) ∙ not-true (a .result) (c .if2 .taken)), c .before .before .before .before .loop .inv .rest)
-
-same-length-11 : tie.Need-same-length-11 Inv-loop μ-loop
-same-length-11 c = c .before .before .before .before .loop .inv .current-long
-
-same-length-12 : tie.Need-same-length-12 Inv-loop μ-loop
-same-length-12 c = c .before .before .before .before .loop .inv .ended-long
-
-same-length-13 : tie.Need-same-length-13 Inv-loop μ-loop
-same-length-13 c = c .before .before .before .before .loop .inv .tallies-long
-
-same-length-14 : tie.Need-same-length-14 Inv-loop μ-loop
-same-length-14 c = c .before .before .before .before .loop .inv .queue-long
-
-same-length-15 : tie.Need-same-length-15 Inv-loop μ-loop
-same-length-15 c = c .before .before .before .before .loop .inv .work-long
-
-returns-3 : tie.Need-returns-3 Inv-loop μ-loop
-returns-3 c =
-    let a = c .before .all-ended in
-    (list-finished (c .before .before .before .before .before .before .before .before .before .before .before .before .before .before .before .pre .0 .leveled) (c .before .before .before .before .loop .inv) (c .before .before .before .loop-test .left) (sym (a .ensures) ∙ not-false (a .result) (c .if2 .left)), c .before .before .before .before .loop .inv .rest)
+    (list-ends (c .before .before .before .before .before .before .before .before .before .before .before .before .before .before .pre .0 .leveled) (c .before .before .before .loop .inv) (c .before .before .loop-test .left) (c .at-end .ensures), c .before .before .before .loop .inv .rest)
 
 pub run-spec : {M : Type 1} → statement M
 run-spec =
     tie.close
-    (tie.spec Inv-loop μ-loop none-requires loop-holds shared-slice-read-level cast-level ask-requires enum-told cast-refused-at refused-at-requires same-length same-length-2 same-length-3 same-length-4 same-length-5 returns is-busy-requires start-requires mul-managers array-set-from-managers add-i loop-less loop-again mul-m array-copy-out-m slice-aggregate-step step-requires enum-known-effect slice-aggregate-tell tell-requires slice-aggregate-step-2 step-requires-2 slice-aggregate-forget cast-forget cast-forget-2 forget-requires mul-managers-2 array-set-from-managers-2 done-requires add-i-2 loop-less-2 loop-again-2 mul-managers-3 array-set-from-managers-3 done-requires-2 add-i-3 loop-less-3 loop-again-3 all-ended-requires same-length-6 same-length-7 same-length-8 same-length-9 same-length-10 returns-2 same-length-11 same-length-12 same-length-13 same-length-14 same-length-15 returns-3)
+    (tie.spec Inv-loop μ-loop none-requires loop-holds shared-slice-read-level cast-level ask-requires enum-told cast-refused-at refused-at-requires same-length same-length-2 same-length-3 same-length-4 same-length-5 returns is-busy-requires start-requires mul-managers array-set-from-managers add-i loop-less loop-again mul-m array-copy-out-m slice-aggregate-step step-requires enum-known-effect slice-aggregate-tell tell-requires slice-aggregate-step-2 step-requires-2 slice-aggregate-forget cast-forget cast-forget-2 forget-requires mul-managers-2 array-set-from-managers-2 done-requires add-i-2 loop-less-2 loop-again-2 mul-managers-3 array-set-from-managers-3 done-requires-2 add-i-3 loop-less-3 loop-again-3 at-end-requires same-length-6 same-length-7 same-length-8 same-length-9 same-length-10 returns-2)
