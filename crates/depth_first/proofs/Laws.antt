@@ -1,5 +1,5 @@
 -- Laws of the depth-first run.
-pub mod Kept
+pub mod Representation
 pub mod Spared
 pub mod Step
 pub mod Perform

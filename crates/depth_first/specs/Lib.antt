@@ -1,3 +1,3 @@
 -- What the contracts of the depth-first run's own functions cite.
-pub mod Kept
+pub mod Representation
 pub mod Runs

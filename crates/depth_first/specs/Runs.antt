@@ -11,7 +11,7 @@ use Rattle.model.specs.Limits.{resultBytes}
 use Rattle.model.specs.DepthFirst.{Progress, newTally, depthFirst}
 use Rattle.model.specs.Result.{resultOfDepthFirst}
 use Rattle.records.specs.Writing.{bytesIn, Written}
-use Rattle.depth_first.specs.Kept.{Words, Says, Spared}
+use Rattle.depth_first.specs.Representation.{Words, Represents, Spared}
 use Rattle.depth_first.specs.declared.forks.Fork.{Fork}
 
 -- the root message's fork
@@ -22,8 +22,8 @@ pub record RootFork (s : List ℕ) (f : Fork) : Type 0 where
   pub message : f .message ≡ rootOf s
 
 -- nothing is written, and no manager has ended
-abbrev pub startOf : List ℕ → Progress
-startOf s = record { written = []; levels = replicate (levelCount s) newTally }
+abbrev pub initialProgress : List ℕ → Progress
+initialProgress s = record { written = []; levels = replicate (levelCount s) newTally }
 
 -- the bytes of the records that clearance c is shown of the run, the level groups by rising number
 abbrev pub bytesShown : List ℕ → ℕ → List ℕ
@@ -35,8 +35,8 @@ pub record Shown (s : List ℕ) (c : ℕ) (before after : List ℕ) (count : ℕ
   pub written : Written (bytesShown s c) before after count
   pub fits : count ≤ resultBytes
 
--- a run over words of its own: they say the whole run then, nothing else in them became another, and the bytes stand in the buffer
+-- a run over words of its own: they represent the whole run then, nothing else in them became another, and the bytes stand in the buffer
 pub record RanOver (s : List ℕ) (c : ℕ) (w w' : Words) (before after : List ℕ) (count : ℕ) : Type 0 where
-  pub says : Says s (depthFirst (programOf s) (rootOf s)) w'
+  pub represents : Represents s (depthFirst (programOf s) (rootOf s)) w'
   pub spared : Spared s w w'
   pub shown : Shown s c before after count

@@ -13,7 +13,7 @@ use words::fields;
 ghost use Prim.Native.Nat.{_<_};
 ghost use lib.ListN.{getD};
 ghost use Rattle.model.specs.Limits.{maxManagers};
-ghost use Rattle.depth_first.specs.Kept.{Read, Keeps, Runnable, Performable, Performed, ForkDone, RunDone};
+ghost use Rattle.depth_first.specs.Representation.{Tables, RepresentsSome, Runnable, Performable, Performed, ForkDone, RunDone};
 
 // A fork that is about to run, or runs: its level, its fork stamp, how many forks deep it is, and its
 // message.
@@ -38,8 +38,8 @@ fn perform(
     forks: u8,
     effect: Effect,
 )
-    requires { ⌜ Read (now session) (now masks) (now index) ⌝ }
-    requires { ⌜ Keeps (now session) (now current) (now ended) (now tallies) ⌝ }
+    requires { ⌜ Tables (now session) (now masks) (now index) ⌝ }
+    requires { ⌜ RepresentsSome (now session) (now current) (now ended) (now tallies) ⌝ }
     requires { ⌜ Performable (now session) left fork forks effect ⌝ }
     ensures { λ _. ⌜ Performed (now (session .entry)) left fork forks effect (record { current = now (current .entry); ended = now (ended .entry); tallies = now (tallies .entry) }) (record { current = now (current .exit); ended = now (ended .exit); tallies = now (tallies .exit) }) ⌝ }
 {
@@ -86,8 +86,8 @@ fn run_kept(
     left: usize,
     fork: Fork,
 )
-    requires { ⌜ Read (now session) (now masks) (now index) ⌝ }
-    requires { ⌜ Keeps (now session) (now current) (now ended) (now tallies) ⌝ }
+    requires { ⌜ Tables (now session) (now masks) (now index) ⌝ }
+    requires { ⌜ RepresentsSome (now session) (now current) (now ended) (now tallies) ⌝ }
     requires { ⌜ Runnable (now session) left fork ⌝ }
     ensures { λ _. ⌜ ForkDone (now (session .entry)) left fork (record { current = now (current .entry); ended = now (ended .entry); tallies = now (tallies .entry) }) (record { current = now (current .exit); ended = now (ended .exit); tallies = now (tallies .exit) }) ⌝ }
 {
@@ -108,8 +108,8 @@ pub fn run_manager(
     left: usize,
     fork: Fork,
 ) -> Ended
-    requires { ⌜ Read (now session) (now masks) (now index) ⌝ }
-    requires { ⌜ Keeps (now session) (now current) (now ended) (now tallies) ⌝ }
+    requires { ⌜ Tables (now session) (now masks) (now index) ⌝ }
+    requires { ⌜ RepresentsSome (now session) (now current) (now ended) (now tallies) ⌝ }
     requires { ⌜ Runnable (now session) left fork × (getD (now tallies) (fork .level) 0 < maxManagers) ⌝ }
     ensures { λ r. ⌜ RunDone (now (session .entry)) left fork (record { current = now (current .entry); ended = now (ended .entry); tallies = now (tallies .entry) }) (record { current = now (current .exit); ended = now (ended .exit); tallies = now (tallies .exit) }) r ⌝ }
 {

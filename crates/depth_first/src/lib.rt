@@ -18,8 +18,8 @@ ghost use Rattle.session.specs.Questions.{verdictOf};
 ghost use Rattle.session.specs.declared.Verdict.the-variants.{Accepted};
 ghost use Rattle.model.specs.Limits.{resultBytes};
 ghost use Rattle.model.specs.Entries.{deep, Answers};
-ghost use Rattle.depth_first.specs.Kept.{Read, Says};
-ghost use Rattle.depth_first.specs.Runs.{RootFork, startOf, Shown, RanOver};
+ghost use Rattle.depth_first.specs.Representation.{Tables, Represents};
+ghost use Rattle.depth_first.specs.Runs.{RootFork, initialProgress, Shown, RanOver};
 
 // The fork of the root message.
 fn root_fork(session: &[u8], masks: &[u16]) -> Fork
@@ -36,7 +36,7 @@ fn root_fork(session: &[u8], masks: &[u16]) -> Fork
     }
 }
 
-// Runs a session over words that say its start, writes the records that a clearance is shown, and
+// Runs a session over words that represent its start, writes the records that a clearance is shown, and
 // returns how many bytes they are.
 fn run_over(
     session: &[u8],
@@ -48,8 +48,8 @@ fn run_over(
     clearance: usize,
     result: &mut [u8],
 ) -> usize
-    requires { ⌜ Read (now session) (now masks) (now index) ⌝ }
-    requires { ⌜ Says (now session) (startOf (now session)) (record { current = now current; ended = now ended; tallies = now tallies }) ⌝ }
+    requires { ⌜ Tables (now session) (now masks) (now index) ⌝ }
+    requires { ⌜ Represents (now session) (initialProgress (now session)) (record { current = now current; ended = now ended; tallies = now tallies }) ⌝ }
     requires { ⌜ resultBytes ≤ length (now result) ⌝ }
     ensures { λ r. ⌜ RanOver (now (session .entry)) clearance (record { current = now (current .entry); ended = now (ended .entry); tallies = now (tallies .entry) }) (record { current = now (current .exit); ended = now (ended .exit); tallies = now (tallies .exit) }) (now (result .entry)) (now (result .exit)) r ⌝ }
 {

@@ -1,2 +1,2 @@
 -- Laws of what the exported entries hand back.
-pub mod Told
+pub mod Reported

@@ -7,11 +7,11 @@ ghost use mathlib.Core.Path.{_≡_};
 ghost use mathlib.Core.List.{[]};
 ghost use Rattle.session.specs.Questions.{verdictOf, answerOf};
 ghost use Rattle.model.specs.Entries.{timetabled, plain, deep};
-ghost use Rattle.exports.specs.Calls.{told, Call};
+ghost use Rattle.exports.specs.Calls.{reported, Call};
 
 // Tells an answer: its place and count to the front of `place_and_count`, its number as the result.
-fn tell(place_and_count: &mut [u32], answer: Answer) -> u32
-    ensures { λ r. ⌜ (r ≡ answer .number) × (now («place_and_count» .exit) ≡ told (answer .place) (answer .count) (now («place_and_count» .entry))) ⌝ }
+fn report(place_and_count: &mut [u32], answer: Answer) -> u32
+    ensures { λ r. ⌜ (r ≡ answer .number) × (now («place_and_count» .exit) ≡ reported (answer .place) (answer .count) (now («place_and_count» .entry))) ⌝ }
 {
     if place_and_count.len() >= 2 {
         place_and_count[0] = answer.place;
@@ -42,7 +42,7 @@ pub extern "C" fn lupinpause_run_timetable(
     ensures { λ r. ⌜ Call (record { session = now (session .entry); clearance = clearance; work = now (work .entry); buffer = now (result .entry) }) (λ order. timetabled (record { session = now (session .entry); clearance = clearance; work = now (work .entry); buffer = now (result .entry) }) order (now (timetable .entry))) (now (work .exit)) (now (result .exit)) (now («place_and_count» .entry)) (now («place_and_count» .exit)) r ⌝ }
 {
     let answer = scheduler::run_timetable(session, timetable, clearance, work, result);
-    tell(place_and_count, answer)
+    report(place_and_count, answer)
 }
 
 // The plain run, with the same buffers.
@@ -57,7 +57,7 @@ pub extern "C" fn lupinpause_run_plain(
     ensures { λ r. ⌜ Call (record { session = now (session .entry); clearance = clearance; work = now (work .entry); buffer = now (result .entry) }) (plain (record { session = now (session .entry); clearance = clearance; work = now (work .entry); buffer = now (result .entry) })) (now (work .exit)) (now (result .exit)) (now («place_and_count» .entry)) (now («place_and_count» .exit)) r ⌝ }
 {
     let answer = scheduler::run_plain(session, clearance, work, result);
-    tell(place_and_count, answer)
+    report(place_and_count, answer)
 }
 
 // The depth-first run, which has no work slice.
@@ -71,5 +71,5 @@ pub extern "C" fn lupinpause_run_depth_first(
     ensures { λ r. ⌜ Call (record { session = now (session .entry); clearance = clearance; work = []; buffer = now (result .entry) }) (deep (record { session = now (session .entry); clearance = clearance; work = []; buffer = now (result .entry) })) [] (now (result .exit)) (now («place_and_count» .entry)) (now («place_and_count» .exit)) r ⌝ }
 {
     let answer = depth_first::run_depth_first(session, clearance, result);
-    tell(place_and_count, answer)
+    report(place_and_count, answer)
 }

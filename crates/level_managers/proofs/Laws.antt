@@ -1,5 +1,5 @@
 -- Laws of the words of a run and of a scheduler step: what the proofs of this crate and of the scheduler cite.
-pub mod Told
+pub mod Representation
 pub mod Write
 pub mod Arrive
 pub mod Settle

@@ -1,3 +1,3 @@
 -- What the contracts of this crate cite.
-pub mod Kept
+pub mod Representation
 pub mod Steps

@@ -1,6 +1,6 @@
 -- What a scheduler step does to the words of a run, stage by stage. No meaning rests on these. Assumes nothing.
 -- Laws: what a write, a fork that arrives, the end of a step and a start do to the words (`proofs/Laws/Write`, `Arrive`, `Settle`,
--- `Begin`); the parts together are the definition's step (`Advance`, `Step`, `Made`: `step-said`); what is read is what the definition
+-- `Begin`); the parts together are the definition's step (`Advance`, `Step`, `Made`: `step-represented`); what is read is what the definition
 -- reads (`Reads`, `Script`), and stays, whatever the manager writes and forks (`Recall`).
 use Prim.Native.Nat.{ℕ, _+_, _-_, _^_, _≤_, _<_}
 use mathlib.Core.Path.{_≡_}
@@ -37,20 +37,20 @@ use Rattle.queues.specs.Queue.{forkOfRow, forkAt, There, Room, Arrived}
 use Rattle.versions.specs.Log.{logStart, logOf, Within}
 use Rattle.versions.specs.Changes.{Appended}
 use Rattle.tallies.specs.Places.{nextPlace, waitingPlace, versionsPlace, busyPlace, tallyNumbers, tallied}
-use Rattle.level_managers.specs.Kept.{Words, Says}
+use Rattle.level_managers.specs.Representation.{Words, RunInvariant}
 
 -- an accepted session, its level table and its method index
-pub record Read (s masks index : List ℕ) : Type 0 where
+pub record Tables (s masks index : List ℕ) : Type 0 where
   pub indexed : Indexed s index
   pub leveled : Leveled s masks
 
--- the words say a state that a run reaches, in which m, the manager of fork x, runs at level l
+-- the words represent a state that a run reaches, in which m, the manager of fork x, runs at level l
 pub record Busy (s : List ℕ) (w : Words) (l : ℕ) (ms : ℕ → Manager) (st : State) (x : Fork) (m : Manager) : Type 0 where
-  pub says : Says s w ms st
+  pub invariant : RunInvariant s w ms st
   pub present : l < levelCount s
   pub runs : levelAt st l .activity ≡ busy x m
 
--- they say such a state
+-- they represent such a state
 abbrev pub IsBusy : List ℕ → Words → ℕ → Type 0
 IsBusy s w l = (ms : ℕ → Manager) × ((st : State) × ((x : Fork) × ((m : Manager) × Busy s w l ms st x m)))
 
@@ -69,7 +69,7 @@ pub record BoundReady (ended tallies queue : List ℕ) (l j : ℕ) : Type 0 wher
 -- that write stamp, among n levels
 abbrev pub boundIn : ℕ → List ℕ → List ℕ → List ℕ → ℕ → ℕ → ℕ
 boundIn n ended tallies queue l j =
-    let carried = getD (runningFork n tallies queue l .seen) j 0 in
+    let carried = getD (runningFork n tallies queue l .carried) j 0 in
     cond (eqb carried 0) (endBefore (runningFork n tallies queue l .stamp) (historiesAt ended j (getD tallies j 0))) carried
 
 -- what the words say of a field of an object of another level, up to its bound there
@@ -83,16 +83,16 @@ ReadIs s w l object k r =
     (ms : ℕ → Manager) (st : State) (x : Fork) (m : Manager) → Busy s w l ms st x m → readAt (programOf s) st l x object k ≡ r
 
 -- there is room for what was read of a field of a present object
-pub record TellReady (s seen : List ℕ) (object k : ℕ) : Type 0 where
+pub record ReadReady (s cache : List ℕ) (object k : ℕ) : Type 0 where
   pub present : object < objectCount s
   pub field : k < fields
-  pub there : fieldWords ≤ length seen
+  pub there : fieldWords ≤ length cache
 
 -- what the manager that runs at level l reads of a field is kept
-pub record Answered (s : List ℕ) (w : Words) (seen seen' : List ℕ) (l object k : ℕ) : Type 0 where
+pub record Answered (s : List ℕ) (w : Words) (cache cache' : List ℕ) (l object k : ℕ) : Type 0 where
   pub value : Value
   pub is : ReadIs s w l object k value
-  pub kept : Remembered seen seen' object k value
+  pub kept : Remembered cache cache' object k value
 
 -- there is room for a write of field k of an object at level l
 pub record WriteReady (current tallies work : List ℕ) (l object k : ℕ) : Type 0 where
@@ -122,7 +122,7 @@ pub record ForkReady (tallies queue : List ℕ) (l forks u : ℕ) : Type 0 where
 -- the fork has arrived there
 pub record Forked (tallies tallies' queue queue' : List ℕ) (l stamp forks u : ℕ) (message : Message) : Type 0 where
   pub row : List ℕ
-  pub child : (n : ℕ) → l < n → n ≤ maxLevels → forkOfRow n row ≡ record { stamp = childStamp (runningFork n tallies queue l .stamp) (runningFork n tallies queue l .depth) (forks + 1); depth = runningFork n tallies queue l .depth + 1; seen = set (runningFork n tallies queue l .seen) l stamp; message = message }
+  pub child : (n : ℕ) → l < n → n ≤ maxLevels → forkOfRow n row ≡ record { stamp = childStamp (runningFork n tallies queue l .stamp) (runningFork n tallies queue l .depth) (forks + 1); depth = runningFork n tallies queue l .depth + 1; carried = set (runningFork n tallies queue l .carried) l stamp; message = message }
   pub count : ℕ
   pub arrived : Arrived queue queue' u (startedOf tallies u) (getD tallies (waitingPlace u) 0) row count
   pub tallies-are : tallies' ≡ set tallies (waitingPlace u) count

@@ -1,4 +1,4 @@
-// What a scheduler step at a level is made of, but for the script step itself: that is the manager's own. `seen`
+// What a scheduler step at a level is made of, but for the script step itself: that is the manager's own. `cache`
 // keeps what the manager that runs there has read at other levels.
 use crate::reads;
 use managers::Core;
@@ -14,11 +14,11 @@ use words::fields;
 ghost use Prim.Native.Nat.{_+_, _^_, _<_};
 ghost use Rattle.scripts.specs.Valid.{Leveled};
 ghost use Rattle.managers.specs.Core.{managerOf, effectOf};
-ghost use Rattle.managers.specs.Steps.{Held};
-ghost use Rattle.level_managers.specs.Steps.{IsBusy, TellReady, Answered, WriteReady, Wrote, ForkReady, Forked, PerformReady, Performed, SettleReady, CoreSettled, StepDone, StartReady, Started};
+ghost use Rattle.managers.specs.Steps.{WellFormed};
+ghost use Rattle.level_managers.specs.Steps.{IsBusy, ReadReady, Answered, WriteReady, Wrote, ForkReady, Forked, PerformReady, Performed, SettleReady, CoreSettled, StepDone, StartReady, Started};
 
-// The READ that the manager that runs at a level asks for is answered: what it reads is kept in `seen`.
-pub fn tell(
+// The READ that the manager that runs at a level asks for is answered: what it reads is kept in `cache`.
+pub fn answer_read(
     session: &[u8],
     masks: &[u16],
     current: &[u32],
@@ -26,15 +26,15 @@ pub fn tell(
     tallies: &[usize],
     queue: &[u32],
     work: &[u32],
-    seen: &mut [u32],
+    cache: &mut [u32],
     level: usize,
     object: u8,
     field: u8,
 )
     requires { ⌜ Leveled (now session) (now masks) ⌝ }
     requires { ⌜ IsBusy (now session) (record { current = now current; ended = now ended; tallies = now tallies; queue = now queue; work = now work }) level ⌝ }
-    requires { ⌜ TellReady (now session) (now seen) object field ⌝ }
-    ensures { λ _. ⌜ Answered (now (session .entry)) (record { current = now (current .entry); ended = now (ended .entry); tallies = now (tallies .entry); queue = now (queue .entry); work = now (work .entry) }) (now (seen .entry)) (now (seen .exit)) level object field ⌝ }
+    requires { ⌜ ReadReady (now session) (now cache) object field ⌝ }
+    ensures { λ _. ⌜ Answered (now (session .entry)) (record { current = now (current .entry); ended = now (ended .entry); tallies = now (tallies .entry); queue = now (queue .entry); work = now (work .entry) }) (now (cache .entry)) (now (cache .exit)) level object field ⌝ }
 {
     let value = reads::field_of(
         session,
@@ -48,7 +48,7 @@ pub fn tell(
         object,
         field,
     );
-    fields::remember(seen, object as usize, field as usize, value);
+    fields::remember(cache, object as usize, field as usize, value);
 }
 
 // A write takes effect.
@@ -203,7 +203,7 @@ pub fn start(
     level: usize,
 ) -> Manager
     requires { ⌜ StartReady (now session) (now index) (now ended) (now tallies) (now queue) level ⌝ }
-    ensures { λ r. ⌜ Started (now (session .entry)) (now (ended .entry)) (now (ended .exit)) (now (tallies .entry)) (now (tallies .exit)) (now (queue .entry)) level (managerOf r) × Held (now (session .entry)) r ⌝ }
+    ensures { λ r. ⌜ Started (now (session .entry)) (now (ended .entry)) (now (ended .exit)) (now (tallies .entry)) (now (tallies .exit)) (now (queue .entry)) level (managerOf r) × WellFormed (now (session .entry)) r ⌝ }
 {
     let message = queues::message_at(queue, level, tallies[level]);
     let next = tallies[NEXT + level] as u16;

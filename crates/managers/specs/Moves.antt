@@ -22,7 +22,7 @@ use Rattle.scripts.specs.Valid.{Leveled}
 use Rattle.scripts.specs.declared.Ending.{Ending}
 use Rattle.scripts.specs.declared.Ending.the-variants.{Finished, OutOfSteps, OutOfWrites}
 use Rattle.words.specs.Limits.{fieldWords}
-use Rattle.words.specs.Reads.{isOpen, Sees}
+use Rattle.words.specs.Reads.{isAvailable, Agrees}
 use Rattle.managers.specs.Frames.{intoOf, returnsOf, frameOf, asideOf, waitingFor, topFrom, Becomes, Placed}
 use Rattle.managers.specs.Core.{standing, comesTo, isOver, isAsking, Present, Sits}
 use Rattle.managers.specs.declared.Core.{Core}
@@ -34,8 +34,8 @@ use Rattle.managers.specs.declared.Effect.the-variants.{Nothing, End, Re
 -- a core that makes a script step of its top
 pub record Able (c : Core) : Type 0 where
   pub few : c .steps < maxScriptSteps
-  pub goes : c .top .next < c .top .count
-  pub quiet : c .effect ≡ Nothing
+  pub unfinished : c .top .next < c .top .count
+  pub internal : c .effect ≡ Nothing
   pub runs : isRunning (c .ending) ≡ true
 
 -- the top past its step
@@ -116,20 +116,20 @@ causing c e =
     }
 
 -- a core that runs, with what its next step may need: an accepted session, its level table, words for its fields and for what was read
-pub record Operable (s masks current seen : List ℕ) (c : Core) : Type 0 where
+pub record Operable (s masks current cache : List ℕ) (c : Core) : Type 0 where
   pub leveled : Leveled s masks
   pub fields-there : fieldWords ≤ length current
-  pub seen-there : fieldWords ≤ length seen
+  pub cache-there : fieldWords ≤ length cache
   pub sits : Sits s c
-  pub quiet : c .effect ≡ Nothing
+  pub internal : c .effect ≡ Nothing
   pub few : c .steps < maxScriptSteps
 
 -- field k of object o is not at hand, and the next step of a core is a READ of it
-pub record Asks (s seen : List ℕ) (all : Bool) (c : Core) (o k : ℕ) : Type 0 where
+pub record Asks (s cache : List ℕ) (all : Bool) (c : Core) (o k : ℕ) : Type 0 where
   pub register : ℕ
   pub step : nextStep (programOf s) (frameOf (c .top)) ≡ op.Read register k
   pub object : c .top .object ≡ o
-  pub shut : isOpen s seen all (c .level) o k ≡ false
+  pub shut : isAvailable s cache all (c .level) o k ≡ false
 
 -- the core with another number of frames, ending and reply
 abbrev pub stoodAs : Core → ℕ → Ending → Value → Core
@@ -160,20 +160,20 @@ abbrev pub endingAs : Core → Core
 endingAs c = cond (eqb (c .height) 1) (finishedAs c Nil) (causing c (Pop Nil))
 
 -- the next script step of a core is made
-pub record StepMade (s current seen : List ℕ) (all : Bool) (c r : Core) : Type 0 where
-  pub is : (read : ℕ → ℕ → Value) → Sees s current seen all (c .level) read → (gs : List defined.Frame) → suc (length gs) ≡ c .height → comesTo (programOf s) r gs ≡ stepped (programOf s) read (standing c gs)
+pub record StepMade (s current cache : List ℕ) (all : Bool) (c r : Core) : Type 0 where
+  pub is : (read : ℕ → ℕ → Value) → Agrees s current cache all (c .level) read → (gs : List defined.Frame) → suc (length gs) ≡ c .height → comesTo (programOf s) r gs ≡ stepped (programOf s) read (standing c gs)
   pub steps-are : r .steps ≡ c .steps + 1
 
 -- or the step is a READ that is asked for, and is not made
 abbrev pub Asked : List ℕ → List ℕ → Bool → Core → Core → Type 0
-Asked s seen all c r = (o : ℕ) × ((k : ℕ) × ((r ≡ causing c (Read o k)) × Asks s seen all c o k))
+Asked s cache all c r = (o : ℕ) × ((k : ℕ) × ((r ≡ causing c (Read o k)) × Asks s cache all c o k))
 
 -- what the next step of a core makes of it
-pub record Operated (s current seen : List ℕ) (all : Bool) (c r : Core) : Type 0 where
-  pub steps : isEnd (nextStep (programOf s) (frameOf (c .top))) ≡ false → isAsking (r .effect) ≡ false → StepMade s current seen all c r
+pub record Operated (s current cache : List ℕ) (all : Bool) (c r : Core) : Type 0 where
+  pub steps : isEnd (nextStep (programOf s) (frameOf (c .top))) ≡ false → isAsking (r .effect) ≡ false → StepMade s current cache all c r
   -- at its script's end the top is to pop: no script step is made
   pub ends : isEnd (nextStep (programOf s) (frameOf (c .top))) ≡ true → r ≡ endingAs c
-  pub asks : isAsking (r .effect) ≡ true → Asked s seen all c r
+  pub asks : isAsking (r .effect) ≡ true → Asked s cache all c r
   pub level-is : r .level ≡ c .level
   pub first-is : r .first ≡ c .first
   pub tall : isOver (r .effect) ≡ false → r .height ≡ c .height
@@ -196,12 +196,12 @@ pub record OperationMade (s : List ℕ) (i : Step) (c r : Core) : Type 0 where
   pub present : Present s (r .effect)
 
 -- so is a READ, with what the words at hand say; or it is asked for
-pub record ReadMade (s current seen : List ℕ) (all : Bool) (a b : ℕ) (c r : Core) : Type 0 where
-  pub is : isAsking (r .effect) ≡ false → (read : ℕ → ℕ → Value) → Sees s current seen all (c .level) read → (gs : List defined.Frame) → suc (length gs) ≡ c .height → comesTo (programOf s) r gs ≡ counting (programOf s) (operated (programOf s) read (standing c gs) (passed (standing c gs)) (op.Read a b))
+pub record ReadMade (s current cache : List ℕ) (all : Bool) (a b : ℕ) (c r : Core) : Type 0 where
+  pub is : isAsking (r .effect) ≡ false → (read : ℕ → ℕ → Value) → Agrees s current cache all (c .level) read → (gs : List defined.Frame) → suc (length gs) ≡ c .height → comesTo (programOf s) r gs ≡ counting (programOf s) (operated (programOf s) read (standing c gs) (passed (standing c gs)) (op.Read a b))
   pub level-is : r .level ≡ c .level
   pub first-is : r .first ≡ c .first
   pub steps-are : isAsking (r .effect) ≡ false → r .steps ≡ c .steps + 1
-  pub asks : isAsking (r .effect) ≡ true → (r ≡ causing c (Read (c .top .object) b)) × (isOpen s seen all (c .level) (c .top .object) b ≡ false)
+  pub asks : isAsking (r .effect) ≡ true → (r ≡ causing c (Read (c .top .object) b)) × (isAvailable s cache all (c .level) (c .top .object) b ≡ false)
   pub tall : r .height ≡ c .height
   pub over : isOver (r .effect) ≡ false
   pub sits : Sits s r

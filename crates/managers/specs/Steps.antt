@@ -22,7 +22,7 @@ use Rattle.scripts.specs.Valid.{Indexed, Leveled}
 use Rattle.scripts.specs.declared.Ended.{Ended}
 use Rattle.scripts.specs.declared.Ending.the-variants.{Finished}
 use Rattle.words.specs.Limits.{fieldWords}
-use Rattle.words.specs.Reads.{isOpen, Sees}
+use Rattle.words.specs.Reads.{isAvailable, Agrees}
 use Rattle.managers.specs.Frames.{frameOf, asideOf, noWaiting, topFrom, Placed, Waits}
 use Rattle.managers.specs.Core.{managerOf, steppedOf, isNothing, isAsking, isDone, Present}
 use Rattle.managers.specs.Moves.{Asks}
@@ -31,16 +31,16 @@ use Rattle.managers.specs.declared.Manager.{Manager}
 use Rattle.managers.specs.declared.Effect.the-variants.{Nothing, End, Read}
 
 -- so many script steps lead from one manager to another, and concern nobody else
-unfoldable pub Quietly : Program → (ℕ → ℕ → Value) → ℕ → defined.Manager → defined.Manager → Type 0
-Quietly p read zero m n = m ≡ n
-Quietly p read (suc k) m n =
+unfoldable pub InternalSteps : Program → (ℕ → ℕ → Value) → ℕ → defined.Manager → defined.Manager → Type 0
+InternalSteps p read zero m n = m ≡ n
+InternalSteps p read (suc k) m n =
     (isRunning (m .ending) ≡ true)
-    × ((stepped p read m .effect ≡ effect.Nothing) × Quietly p read k (stepped p read m .manager) n)
+    × ((stepped p read m .effect ≡ effect.Nothing) × InternalSteps p read k (stepped p read m .manager) n)
 
 -- such steps led to what stands there; or they led to a manager whose next step does
 pub data Leads (p : Program) (read : ℕ → ℕ → Value) (m : defined.Manager) (d : defined.Stepped) : Type 0 where
-  quiet : (k : ℕ) → Quietly p read k m (d .manager) → d .effect ≡ effect.Nothing → Leads p read m d
-  last : (k : ℕ) (n : defined.Manager) → Quietly p read k m n → isRunning (n .ending) ≡ true → stepped p read n ≡ d → Leads p read m d
+  internal : (k : ℕ) → InternalSteps p read k m (d .manager) → d .effect ≡ effect.Nothing → Leads p read m d
+  last : (k : ℕ) (n : defined.Manager) → InternalSteps p read k m n → isRunning (n .ending) ≡ true → stepped p read n ≡ d → Leads p read m d
 
 -- how many frames can wait
 abbrev pub waitingFrames : ℕ
@@ -66,7 +66,7 @@ noManager =
     }
 
 -- the manager as start and its steps leave it: one that runs has a frame that is not at its script's end, and steps left
-pub record Held (s : List ℕ) (m : Manager) : Type 0 where
+pub record WellFormed (s : List ℕ) (m : Manager) : Type 0 where
   pub level : m .core .level < levelCount s
   pub low : m .core .height ≤ maxFrames
   pub made : m .core .steps ≤ maxScriptSteps
@@ -78,56 +78,56 @@ pub record Held (s : List ℕ) (m : Manager) : Type 0 where
   pub each : (k : ℕ) → k + 1 < m .core .height → Waits s (asideOf (getD (m .waiting) k noWaiting))
   pub live : isRunning (m .core .ending) ≡ true → 0 < m .core .height
   pub few : isRunning (m .core .ending) ≡ true → m .core .steps < maxScriptSteps
-  pub goes : isRunning (m .core .ending) ≡ true → m .core .top .next < m .core .top .count
+  pub unfinished : isRunning (m .core .ending) ≡ true → m .core .top .next < m .core .top .count
 
 -- a manager that runs, with an accepted session, its level table and method index, words for its fields and for what was read
-pub record Advanceable (s masks index current seen : List ℕ) (m : Manager) : Type 0 where
+pub record Advanceable (s masks index current cache : List ℕ) (m : Manager) : Type 0 where
   pub indexed : Indexed s index
   pub leveled : Leveled s masks
   pub fields-there : fieldWords ≤ length current
-  pub seen-there : fieldWords ≤ length seen
-  pub held : Held s m
+  pub cache-there : fieldWords ≤ length cache
+  pub held : WellFormed s m
   pub running : isRunning (m .core .ending) ≡ true
 
 -- is the next step a READ of what is not at hand
-abbrev pub shutBy : List ℕ → List ℕ → Bool → ℕ → ℕ → Step → Bool
-shutBy s seen all level object op.End = false
-shutBy s seen all level object (op.Set a n) = false
-shutBy s seen all level object (op.Add a b) = false
-shutBy s seen all level object (op.Jump a b) = false
-shutBy s seen all level object (op.Read a b) = not (isOpen s seen all level object b)
-shutBy s seen all level object (op.Write a b) = false
-shutBy s seen all level object (op.Send a b c) = false
-shutBy s seen all level object (op.Quit a) = false
+abbrev pub pausesOn : List ℕ → List ℕ → Bool → ℕ → ℕ → Step → Bool
+pausesOn s cache all level object op.End = false
+pausesOn s cache all level object (op.Set a n) = false
+pausesOn s cache all level object (op.Add a b) = false
+pausesOn s cache all level object (op.Jump a b) = false
+pausesOn s cache all level object (op.Read a b) = not (isAvailable s cache all level object b)
+pausesOn s cache all level object (op.Write a b) = false
+pausesOn s cache all level object (op.Send a b c) = false
+pausesOn s cache all level object (op.Quit a) = false
 
-abbrev pub isShut : List ℕ → List ℕ → Bool → Core → Bool
-isShut s seen all c = shutBy s seen all (c .level) (c .top .object) (nextStep (programOf s) (frameOf (c .top)))
+abbrev pub isPaused : List ℕ → List ℕ → Bool → Core → Bool
+isPaused s cache all c = pausesOn s cache all (c .level) (c .top .object) (nextStep (programOf s) (frameOf (c .top)))
 
 -- script steps in a row, up to one that concerns others or asks, the manager's end, or a limit
-pub record Advanced (s current seen : List ℕ) (all : Bool) (limit : ℕ) (m r : Manager) : Type 0 where
-  pub leads : (read : ℕ → ℕ → Value) → Sees s current seen all (m .core .level) read → Leads (programOf s) read (managerOf m) (steppedOf r)
-  pub held : Held s r
+pub record Advanced (s current cache : List ℕ) (all : Bool) (limit : ℕ) (m r : Manager) : Type 0 where
+  pub leads : (read : ℕ → ℕ → Value) → Agrees s current cache all (m .core .level) read → Leads (programOf s) read (managerOf m) (steppedOf r)
+  pub held : WellFormed s r
   pub level-is : r .core .level ≡ m .core .level
   pub first-is : r .core .first ≡ m .core .first
   pub present : Present s (r .core .effect)
   pub done : isDone (r .core .effect) ≡ true
   -- a READ is asked for only where it is not at hand, and the manager stands before it
-  pub asks : (o k : ℕ) → r .core .effect ≡ Read o k → (isRunning (r .core .ending) ≡ true) × Asks s seen all (r .core) o k
+  pub asks : (o k : ℕ) → r .core .effect ≡ Read o k → (isRunning (r .core .ending) ≡ true) × Asks s cache all (r .core) o k
   pub waits : isAsking (r .core .effect) ≡ true → r .core .steps < limit
   -- one that a step has ended has ended
   pub over : r .core .effect ≡ End → isRunning (r .core .ending) ≡ false
   pub few : r .core .steps ≤ limit
   -- a manager that runs on stops at the limit alone, or by what its last step did
-  pub rests : isNothing (r .core .effect) ≡ true → isRunning (r .core .ending) ≡ true → r .core .steps ≡ limit
+  pub at-limit : isNothing (r .core .effect) ≡ true → isRunning (r .core .ending) ≡ true → r .core .steps ≡ limit
   -- no step is made only where the first asks
-  pub early : r .core .steps ≡ m .core .steps → isShut s seen all (m .core) ≡ true
+  pub early : r .core .steps ≡ m .core .steps → isPaused s cache all (m .core) ≡ true
 
 -- one script step; or, before a READ that is not at hand, none
-pub record Stepped (s current seen : List ℕ) (m r : Manager) : Type 0 where
-  pub is : isAsking (r .core .effect) ≡ false → (read : ℕ → ℕ → Value) → Sees s current seen false (m .core .level) read → steppedOf r ≡ stepped (programOf s) read (managerOf m)
-  pub asks : (o k : ℕ) → r .core .effect ≡ Read o k → (managerOf r ≡ managerOf m) × Asks s seen false (m .core) o k
-  pub still : (o k : ℕ) → r .core .effect ≡ Read o k → (isRunning (r .core .ending) ≡ true) × Asks s seen false (r .core) o k
-  pub held : Held s r
+pub record Stepped (s current cache : List ℕ) (m r : Manager) : Type 0 where
+  pub is : isAsking (r .core .effect) ≡ false → (read : ℕ → ℕ → Value) → Agrees s current cache false (m .core .level) read → steppedOf r ≡ stepped (programOf s) read (managerOf m)
+  pub asks : (o k : ℕ) → r .core .effect ≡ Read o k → (managerOf r ≡ managerOf m) × Asks s cache false (m .core) o k
+  pub still : (o k : ℕ) → r .core .effect ≡ Read o k → (isRunning (r .core .ending) ≡ true) × Asks s cache false (r .core) o k
+  pub held : WellFormed s r
   pub level-is : r .core .level ≡ m .core .level
   pub first-is : r .core .first ≡ m .core .first
   pub present : Present s (r .core .effect)

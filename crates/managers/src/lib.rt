@@ -23,7 +23,7 @@ ghost use Rattle.scripts.specs.Manager.{started};
 ghost use Rattle.scripts.specs.Valid.{Indexed, Startable};
 ghost use Rattle.managers.specs.Core.{managerOf, isNothing};
 ghost use Rattle.managers.specs.Moves.{causing};
-ghost use Rattle.managers.specs.Steps.{noManager, Held, Advanceable, Advanced, Stepped, keptOf};
+ghost use Rattle.managers.specs.Steps.{noManager, WellFormed, Advanceable, Advanced, Stepped, keptOf};
 
 // How many frames of a manager wait below its top, at most.
 pub const MAX_WAITING: usize = MAX_FRAMES as usize - 1;
@@ -113,7 +113,7 @@ impl Core {
     }
 
     // Whether it makes its next script step by itself.
-    fn goes_on(self, limit: u16) -> bool
+    fn may_advance(self, limit: u16) -> bool
         ensures { λ r. ⌜ r ≡ (isNothing (self .effect) && ltb (self .steps) limit) ⌝ }
     {
         let effect = self.effect;
@@ -176,7 +176,7 @@ impl Manager {
     // empty method ends at once.
     pub fn start(session: &[u8], index: &[u16], level: u8, stamp: u16, message: Message) -> Manager
         requires { ⌜ Indexed (now session) (now index) × Startable (now session) level stamp message ⌝ }
-        ensures { λ r. ⌜ (managerOf r ≡ started (programOf (now (session .entry))) level stamp message) × Held (now (session .entry)) r ⌝ }
+        ensures { λ r. ⌜ (managerOf r ≡ started (programOf (now (session .entry))) level stamp message) × WellFormed (now (session .entry)) r ⌝ }
     {
         let parameter = message.parameter;
         let top = Frame::new(
@@ -206,29 +206,29 @@ impl Manager {
 
     // Script steps of a manager that runs, until one concerns others or asks, the manager ends, or `limit`
     // are made in all. READs are of any object where `all` says so, and else of those of the level and of
-    // what `seen` has of others.
+    // what `cache` has of others.
     pub fn advance(
         self,
         session: &[u8],
         masks: &[u16],
         index: &[u16],
         current: &[u32],
-        seen: &[u32],
+        cache: &[u32],
         all: bool,
         limit: u16,
     ) -> Manager
-        requires { ⌜ Advanceable (now session) (now masks) (now index) (now current) (now seen) self ⌝ }
+        requires { ⌜ Advanceable (now session) (now masks) (now index) (now current) (now cache) self ⌝ }
         requires { ⌜ (self .core .steps < limit) × (limit ≤ maxScriptSteps) ⌝ }
-        ensures { λ r. ⌜ Advanced (now (session .entry)) (now (current .entry)) (now (seen .entry)) all limit self r ⌝ }
+        ensures { λ r. ⌜ Advanced (now (session .entry)) (now (current .entry)) (now (cache .entry)) all limit self r ⌝ }
     {
         let mut core = self.core.causing(Effect::Nothing);
         let mut waiting = self.waiting;
-        while core.goes_on(limit) {
+        while core.may_advance(limit) {
             let f = core.top;
             let step = f.next_step(session);
             // Nothing is left to do: said once more, so that nothing of an effect is carried along.
             let quiet = core.causing(Effect::Nothing);
-            core = quiet.operate(session, masks, current, seen, all, step);
+            core = quiet.operate(session, masks, current, cache, all, step);
             let effect = core.effect;
             if let Effect::Call {
                 object,
@@ -263,12 +263,12 @@ impl Manager {
         masks: &[u16],
         index: &[u16],
         current: &[u32],
-        seen: &[u32],
+        cache: &[u32],
     ) -> Manager
-        requires { ⌜ Advanceable (now session) (now masks) (now index) (now current) (now seen) self ⌝ }
-        ensures { λ r. ⌜ Stepped (now (session .entry)) (now (current .entry)) (now (seen .entry)) self r ⌝ }
+        requires { ⌜ Advanceable (now session) (now masks) (now index) (now current) (now cache) self ⌝ }
+        ensures { λ r. ⌜ Stepped (now (session .entry)) (now (current .entry)) (now (cache .entry)) self r ⌝ }
     {
         let limit = self.core.steps + 1;
-        self.advance(session, masks, index, current, seen, false, limit)
+        self.advance(session, masks, index, current, cache, false, limit)
     }
 }

@@ -21,27 +21,27 @@ ghost use Rattle.managers.specs.Moves.{Able, Operable, Makes, passed, Op
 
 impl Core {
     // READ field `b` into register `a`: of any object where `all` says so, or one of the level, from
-    // `current`; of others from `seen`, if it was read before. Else it is asked for.
+    // `current`; of others from `cache`, if it was read before. Else it is asked for.
     fn read(
         self,
         session: &[u8],
         masks: &[u16],
         current: &[u32],
-        seen: &[u32],
+        cache: &[u32],
         all: bool,
         a: u8,
         b: u8,
     ) -> Core
-        requires { ⌜ Able self × Operable (now session) (now masks) (now current) (now seen) self × (b < fieldCount) ⌝ }
-        ensures { λ r. ⌜ ReadMade (now (session .entry)) (now (current .entry)) (now (seen .entry)) all a b self r ⌝ }
+        requires { ⌜ Able self × Operable (now session) (now masks) (now current) (now cache) self × (b < fieldCount) ⌝ }
+        ensures { λ r. ⌜ ReadMade (now (session .entry)) (now (current .entry)) (now (cache .entry)) all a b self r ⌝ }
     {
         let f = self.top;
         let object = f.object;
         if all || contents::level_of(session, masks, object) == self.level as usize {
             return self.put(a, fields::get(current, object, b as usize));
         }
-        if fields::is_known(seen, object, b as usize) {
-            return self.put(a, fields::get(seen, object, b as usize));
+        if fields::is_known(cache, object, b as usize) {
+            return self.put(a, fields::get(cache, object, b as usize));
         }
         self.causing(Effect::Read {
             object: object as u8,
@@ -108,12 +108,12 @@ impl Core {
         session: &[u8],
         masks: &[u16],
         current: &[u32],
-        seen: &[u32],
+        cache: &[u32],
         all: bool,
         step: Step,
     ) -> Core
-        requires { ⌜ Operable (now session) (now masks) (now current) (now seen) self × (step ≡ nextStep (programOf (now session)) (frameOf (self .top))) ⌝ }
-        ensures { λ r. ⌜ Operated (now (session .entry)) (now (current .entry)) (now (seen .entry)) all self r ⌝ }
+        requires { ⌜ Operable (now session) (now masks) (now current) (now cache) self × (step ≡ nextStep (programOf (now session)) (frameOf (self .top))) ⌝ }
+        ensures { λ r. ⌜ Operated (now (session .entry)) (now (current .entry)) (now (cache .entry)) all self r ⌝ }
     {
         let f = self.top;
         match step {
@@ -121,7 +121,7 @@ impl Core {
             Step::Set { a, n } => self.put(a, Value::Number(n)),
             Step::Add { a, b } => self.put(a, values::sum(f.register(a), f.register(b))),
             Step::Jump { a, b } => self.jump(a, b),
-            Step::Read { a, b } => self.read(session, masks, current, seen, all, a, b),
+            Step::Read { a, b } => self.read(session, masks, current, cache, all, a, b),
             Step::Write { a, b } => self.write(session, masks, a, b),
             Step::Send { a, b, c } => self.send(session, masks, a, b, c),
             Step::Quit { a } => self.quit(a),

@@ -49,8 +49,8 @@ abbrev pub lent : List ℕ → ℕ → Request
 lent s c = lending s c 8193 4625
 
 -- number, place, count and the bytes written
-abbrev pub told : Answer → List ℕ
-told a = a .number ∷ a .place ∷ a .count ∷ bytesWritten a
+abbrev pub answered : Answer → List ℕ
+answered a = a .number ∷ a .place ∷ a .count ∷ bytesWritten a
 
 -- a program by its masks: an object at each level, of the same number, its fields NIL, with these methods
 abbrev pub eachLevel : List ℕ → List (List (List Step)) → Program

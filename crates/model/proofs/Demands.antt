@@ -28,7 +28,7 @@ use Rattle.model.specs.Demands.{OneEnd, EmptiedAccepted, PlainFinishes, 
 use Rattle.model.proofs.Laws.Order.Accepted.{sound, any-order}
 use Rattle.model.proofs.Laws.Order.PlainRun.{accepted-plain}
 use Rattle.model.proofs.Laws.Code.Direct.{move-direct}
-use Rattle.model.proofs.Laws.Code.Live.{present}
+use Rattle.model.proofs.Laws.Code.Reached.{present}
 use Rattle.model.proofs.Laws.Code.Progress.{leads-live}
 use Rattle.model.proofs.Laws.Deep.Root.{same-result}
 use Rattle.model.proofs.Laws.Reader.Isolation as laws
@@ -54,7 +54,7 @@ deep-finishes q order e = deep-finished q order e
 pub step-from-view : StepFromView
 step-from-view s a ls st r l h =
     let live = leads-live s a ls st r in
-    move-direct (programOf s) (sound s a) st (live .reachable .steady .orderly) (live .reachable .contained) l (present s l h)
+    move-direct (programOf s) (sound s a) st (live .reachable .steady .fork-invariant) (live .reachable .contained) l (present s l h)
 
 few-of : (s : List ℕ) → verdictOf s ≡ Accepted → programOf s .levels ≤ maxLevels
 few-of s a = unfold programOf in few-levels s (accepted s a .three)

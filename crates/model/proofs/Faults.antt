@@ -19,7 +19,7 @@ use Rattle.model.specs.Step.{State, stepAt}
 use Rattle.model.specs.Schedule.{question15, stepRefusal, Outcome, finished, refused, runFrom, runOf, plainOrder}
 use Rattle.model.specs.Entries.{Request, question9, question10, question11, entryRefusal, answerOf, timetabled, plain, deep}
 use Rattle.model.specs.Faults as faults
-use Rattle.model.specs.Faults.{Question, asks, checkAsks, runAsks, deepAsks, stepAsks, AllYes, LowestNo, Put, ends, Demand1Check, Made, startOf, StopsAt, ListMade, Listed, stops, unended, ended, Demand1Timetabled, Demand1Plain, Demand1DepthFirst}
+use Rattle.model.specs.Faults.{Question, asks, checkAsks, runAsks, deepAsks, stepAsks, AllYes, LowestNo, Put, ends, Demand1Check, Made, initialState, StopsAt, ListMade, Listed, stops, unended, ended, Demand1Timetabled, Demand1Plain, Demand1DepthFirst}
 use Rattle.model.proofs.Laws.Order.PlainRun.{accepted-plain}
 use Rattle.model.proofs.Laws.Reader.Answers.{passes, timetabled-is, deep-is}
 use Rattle.model.proofs.Laws.Code.Progress.{run-made, run-stops, run-ends, run-unended}
@@ -171,21 +171,21 @@ module _ (s ls : List ℕ) where
   stops-is : (k i : ℕ) → StopsAt s ls k i → runOf (programOf s) (rootOf s) ls ≡ refused k i
   unfolding runOf
   stops-is k i x =
-      ap (λ ks. runFrom 0 (programOf s) ks (startOf s)) (x .place)
-      ∙ made-run 0 (programOf s) (startOf s) (x .before) (x .state) (x .byte ∷ x .behind) (x .made)
+      ap (λ ks. runFrom 0 (programOf s) ks (initialState s)) (x .place)
+      ∙ made-run 0 (programOf s) (initialState s) (x .before) (x .state) (x .byte ∷ x .behind) (x .made)
       ∙ run-stops (length (x .before) + 0) (programOf s) (x .byte) (x .behind) (x .state) k (step-lowest (programOf s) (x .state) (x .byte) ∙ lowest-is _ k (x .refusal)) (lowest-not (stepAsks (programOf s) (x .state) (x .byte)) k (x .refusal) (unfold every in refl))
       ∙ ap (refused k) (omega (arith, x .position))
 
   unended-is : (t : State) → ListMade s ls t false → runOf (programOf s) (rootOf s) ls ≡ refused 15 0
   unfolding runOf
   unended-is t x =
-      made-all 0 (programOf s) (startOf s) ls t (x .made)
+      made-all 0 (programOf s) (initialState s) ls t (x .made)
       ∙ run-unended (length ls + 0) (programOf s) t (x .says)
 
   ended-is : (t : State) → ListMade s ls t true → runOf (programOf s) (rootOf s) ls ≡ finished t
   unfolding runOf
   ended-is t x =
-      made-all 0 (programOf s) (startOf s) ls t (x .made)
+      made-all 0 (programOf s) (initialState s) ls t (x .made)
       ∙ run-ends (length ls + 0) (programOf s) t (x .says)
 
 -- a list from any state: a byte stops it, or it is made whole
@@ -204,9 +204,9 @@ ran-of p st (l ∷ ls) = by (put-of (stepAsks p st l)) (ran-of p (stepAt p l st)
     by (faults.passes y) (whole t m) = whole t (unfold Made in (y, m))
 
 listed-of : (s ls : List ℕ) → Listed s ls
-listed-of s ls = by (ran-of (programOf s) (startOf s) ls)
+listed-of s ls = by (ran-of (programOf s) (initialState s) ls)
   where
-    by : Ran (programOf s) (startOf s) ls → Listed s ls
+    by : Ran (programOf s) (initialState s) ls → Listed s ls
     by (stopped k before byte behind t e m w) =
         stops k (length before) (record { before = before; byte = byte; behind = behind; place = e; position = refl; state = t; made = m; refusal = w })
     by (whole t m) = elim (truth (question15 (programOf s) t)) [

@@ -10,7 +10,7 @@ use Rattle.model.specs.Lists.{inserted}
 use Rattle.model.specs.Entries.{timetabled, plain, deep, Answer}
 use Rattle.session.specs.Record.{Record}
 use Rattle.model.specs.Fork.{childStamp}
-use Rattle.model.proofs.Computing.{computing, lent, told}
+use Rattle.model.proofs.Computing.{computing, lent, answered}
 
 -- the records of session W's results: "(object, history, reply)", and those that clearance 1 is shown too: "object 1 as 5, 5, NIL and
 -- history stamp 10000000 hex, 2 writes, stamps 1 and 1, 5 steps"
@@ -47,21 +47,21 @@ abbrev masked : ℕ → ℕ → List ℕ
 masked first second = set (set sessionW 2 first) 18 second
 
 pub record ProvedCases : Type 0 where
-  m1 : told (plain (lent sessionW 0) (0 ∷ [])) ≡ for0
-  m1-depth-first : told (deep (lent sessionW 0) (0 ∷ [])) ≡ for0
-  m2 : told (plain (lent sessionW 1) (0 ∷ 1 ∷ [])) ≡ for1
-  m2-depth-first : told (deep (lent sessionW 1) (0 ∷ 1 ∷ [])) ≡ for1
-  m3 : told (timetabledW sixAndSix) ≡ for1
-  m4 : told (timetabledW (1 ∷ sixAndSix)) ≡ 13 ∷ 0 ∷ 0 ∷ []
-  m5 : told (timetabledW (0 ∷ 0 ∷ 0 ∷ 1 ∷ [])) ≡ 14 ∷ 3 ∷ 0 ∷ []
-  m6 : told (timetabledW (sixAndSix ++ 0 ∷ [])) ≡ 13 ∷ 12 ∷ 0 ∷ []
-  m7 : told (timetabledW (replicate 6 0)) ≡ 15 ∷ 0 ∷ 0 ∷ []
-  m8 : told (timetabled (lent [] 0) [] []) ≡ 1 ∷ 0 ∷ 0 ∷ []
+  m1 : answered (plain (lent sessionW 0) (0 ∷ [])) ≡ for0
+  m1-depth-first : answered (deep (lent sessionW 0) (0 ∷ [])) ≡ for0
+  m2 : answered (plain (lent sessionW 1) (0 ∷ 1 ∷ [])) ≡ for1
+  m2-depth-first : answered (deep (lent sessionW 1) (0 ∷ 1 ∷ [])) ≡ for1
+  m3 : answered (timetabledW sixAndSix) ≡ for1
+  m4 : answered (timetabledW (1 ∷ sixAndSix)) ≡ 13 ∷ 0 ∷ 0 ∷ []
+  m5 : answered (timetabledW (0 ∷ 0 ∷ 0 ∷ 1 ∷ [])) ≡ 14 ∷ 3 ∷ 0 ∷ []
+  m6 : answered (timetabledW (sixAndSix ++ 0 ∷ [])) ≡ 13 ∷ 12 ∷ 0 ∷ []
+  m7 : answered (timetabledW (replicate 6 0)) ≡ 15 ∷ 0 ∷ 0 ∷ []
+  m8 : answered (timetabled (lent [] 0) [] []) ≡ 1 ∷ 0 ∷ 0 ∷ []
   m9 : table.joinOf (0x01 ∷ 0x03 ∷ 0x05 ∷ 0x0F ∷ []) 1 2 ≡ 3
   m10 : table.numberOfVerdict (table.verdictOf (0x01 ∷ 0x02 ∷ [])) ≡ 5
-  m10-session : told (plain (lent (masked 0x01 0x02) 0) []) ≡ 5 ∷ 0 ∷ 0 ∷ []
+  m10-session : answered (plain (lent (masked 0x01 0x02) 0) []) ≡ 5 ∷ 0 ∷ 0 ∷ []
   m11 : table.numberOfVerdict (table.verdictOf (0x03 ∷ 0x03 ∷ [])) ≡ 4
-  m11-session : told (plain (lent (masked 0x03 0x03) 0) []) ≡ 4 ∷ 0 ∷ 0 ∷ []
+  m11-session : answered (plain (lent (masked 0x03 0x03) 0) []) ≡ 4 ∷ 0 ∷ 0 ∷ []
   m12-stamp : childStamp (childStamp 0 0 2) 1 1 ≡ 0x21000000
   m12-order : inserted (λ x. x) 0x21000000 (0x20000000 ∷ 0x30000000 ∷ []) ≡ 0x20000000 ∷ 0x21000000 ∷ 0x30000000 ∷ []
 

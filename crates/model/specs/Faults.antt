@@ -80,8 +80,8 @@ Made p a [] b = a ≡ b
 Made p a (l ∷ ls) b = AllYes (stepAsks p a l) × Made p (stepAt p l a) ls b
 
 -- "The first starts from the session as read in"
-abbrev pub startOf : List ℕ → State
-startOf s = readIn (programOf s) (rootOf s)
+abbrev pub initialState : List ℕ → State
+initialState s = readIn (programOf s) (rootOf s)
 
 -- question k is the lowest of 12 to 14 that says no of the byte at position i, and the steps before it are made
 pub record StopsAt (s ls : List ℕ) (k i : ℕ) : Type 0 where
@@ -91,12 +91,12 @@ pub record StopsAt (s ls : List ℕ) (k i : ℕ) : Type 0 where
   pub place : ls ≡ before ++ byte ∷ behind
   pub position : length before ≡ i
   pub state : State
-  pub made : Made (programOf s) (startOf s) before state
+  pub made : Made (programOf s) (initialState s) before state
   pub refusal : LowestNo (stepAsks (programOf s) state byte) k
 
 -- the whole list is made, and this is what question 15 says at its end
 pub record ListMade (s ls : List ℕ) (state : State) (fifteen : Bool) : Type 0 where
-  pub made : Made (programOf s) (startOf s) ls state
+  pub made : Made (programOf s) (initialState s) ls state
   pub says : question15 (programOf s) state ≡ fifteen
 
 -- how a list of scheduler steps of session s ends

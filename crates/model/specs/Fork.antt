@@ -14,12 +14,12 @@ use Rattle.model.specs.Limits.{stampDigits}
 pub record Fork : Type 0 where
   pub stamp : ℕ
   pub depth : ℕ
-  pub seen : List ℕ
+  pub carried : List ℕ
   pub message : Message
 
 -- "The root's is 0": the root's message, among n levels
 abbrev pub rootFork : ℕ → Message → Fork
-rootFork n message = record { stamp = 0; depth = 0; seen = replicate n 0; message = message }
+rootFork n message = record { stamp = 0; depth = 0; carried = replicate n 0; message = message }
 
 -- "Child k (1 to 15) of a manager d forks deep has the parent's stamp plus k × 16^(7−d)"
 abbrev pub childStamp : ℕ → ℕ → ℕ → ℕ
@@ -31,6 +31,6 @@ childOf level x m message =
     record {
       stamp = childStamp (x .stamp) (x .depth) (m .forks + 1);
       depth = x .depth + 1;
-      seen = set (x .seen) level (m .stamp);
+      carried = set (x .carried) level (m .stamp);
       message = message;
     }

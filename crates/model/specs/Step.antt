@@ -1,6 +1,6 @@
 -- A scheduler step at a level: what the level sees, and what it does. Assumes nothing.
 -- Laws: what a step does depends on what its level sees alone, and a level that does not dominate its level does not see it
--- (`proofs/Laws/Steps/Locality`). Every step keeps the invariant (`proofs/Laws/Invariant/Keeps`: `step-keeps`). What it comes to, made from
+-- (`proofs/Laws/Steps/Locality`). Every step keeps the invariant (`proofs/Laws/Invariant/Preserved`: `step-preserves`). What it comes to, made from
 -- the whole program and the whole state: `proofs/Laws/Code/Direct`.
 use Prim.Native.Nat.{ℕ}
 use mathlib.Core.Bool.{cond}
@@ -33,7 +33,7 @@ viewOf p l st = tab (p .levels) (λ j. cond (p .dom l j) (levelAt st j) newLevel
 -- stamp of the largest smaller fork stamp there, or 0": v for the manager of fork x
 abbrev pub readBound : fork.Fork → State → ℕ → ℕ
 readBound x st j =
-    let carried = getD (x .seen) j 0 in
+    let carried = getD (x .carried) j 0 in
     cond (eqb carried 0) (endBefore (x .stamp) (levelAt st j .ended)) carried
 
 -- "A read at m takes the newest version." What a manager at level l, of fork x, reads

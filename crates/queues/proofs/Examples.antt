@@ -21,7 +21,7 @@ sent = record { object = 2; name = 1; parameter = Number 7 }
 
 -- a child of the root that carries write stamp 4 for level 1
 abbrev child : Fork
-child = record { stamp = 0x10000000; depth = 1; seen = 0 ∷ 4 ∷ 0 ∷ []; message = sent }
+child = record { stamp = 0x10000000; depth = 1; carried = 0 ∷ 4 ∷ 0 ∷ []; message = sent }
 
 abbrev sentRow : List ℕ
 sentRow = 0x10000000 ∷ 1 ∷ 2 ∷ 1 ∷ 1 ∷ 7 ∷ 0 ∷ 4 ∷ replicate 6 0

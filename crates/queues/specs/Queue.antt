@@ -60,7 +60,7 @@ forkOfRow n row =
     record {
       stamp = getD row stampPlace 0;
       depth = getD row depthPlace 0 % 2 ^ 8;
-      seen = tab n (λ j. getD row (carriedPlace + j) 0 % 2 ^ 16);
+      carried = tab n (λ j. getD row (carriedPlace + j) 0 % 2 ^ 16);
       message =
           record {
             object = getD row objectPlace 0 % 2 ^ 8;
@@ -120,7 +120,7 @@ ChildRow ws l i stamp depth carried message row =
     (n : ℕ)
     → l < n
     → n ≤ maxLevels
-    → forkOfRow n row ≡ record { stamp = stamp; depth = depth; seen = set (forkAt n ws l i .seen) l carried; message = message }
+    → forkOfRow n row ≡ record { stamp = stamp; depth = depth; carried = set (forkAt n ws l i .carried) l carried; message = message }
 
 -- at level l `started` forks have started, and `waiting` wait, by rising stamp
 pub record Room (ws : List ℕ) (l started waiting : ℕ) : Type 0 where

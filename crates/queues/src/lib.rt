@@ -103,7 +103,7 @@ pub fn message_at(queue: &[u32], level: usize, i: usize) -> Message
 // The write stamp that it carries for level `j`, or 0.
 pub fn carried_at(queue: &[u32], level: usize, i: usize, j: usize) -> u16
     requires { ⌜ There (now queue) level i × (j < maxLevels) ⌝ }
-    ensures { λ r. ⌜ ((n : ℕ) → j < n → getD (forkAt n (now (queue .entry)) level i .seen) j 0 ≡ r) ⌝ }
+    ensures { λ r. ⌜ ((n : ℕ) → j < n → getD (forkAt n (now (queue .entry)) level i .carried) j 0 ≡ r) ⌝ }
 {
     (queue[place_of(level, i) + CARRIED + j] % HALVES) as u16
 }

@@ -3,8 +3,8 @@ pub mod Start
 pub mod Listed
 pub mod Level
 pub mod Asks
-pub mod Lagging
-pub mod Going
+pub mod Unsettled
+pub mod Running
 pub mod Next
 pub mod Plain
 pub mod Answers

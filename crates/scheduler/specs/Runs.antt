@@ -1,5 +1,5 @@
 -- What the stages of a run promise each other. No meaning rests on these. Assumes nothing.
--- Laws: a timetable step by step (`proofs/Laws/Listed`: `Going`); the plain run, level after level (`Plain`: `Ran`); the session as read in
+-- Laws: a timetable step by step (`proofs/Laws/Listed`: `Running`); the plain run, level after level (`Plain`: `Ran`); the session as read in
 -- (`Start`); the answers (`Answers`).
 use Prim.Native.Nat.{ℕ, _+_, _≤_, _<_}
 use mathlib.Core.Path.{_≡_}
@@ -25,19 +25,19 @@ use Rattle.records.specs.Writing.{resultIn, bytesIn, Written}
 use Rattle.entries.specs.declared.Answer.{Answer}
 use Rattle.queues.specs.Queue.{queueWords}
 use Rattle.tallies.specs.Places.{startTallies}
-use Rattle.level_managers.specs.Kept.{Words, Told, Says}
+use Rattle.level_managers.specs.Representation.{Words, Represents, RunInvariant}
 use Rattle.tallies.specs.Permits.{numberOfPermit}
 use Rattle.scheduler.specs.declared.Outcome.{Outcome}
 use Rattle.scheduler.specs.declared.Outcome.the-variants as outcome
 use Rattle.tallies.specs.declared.Permit.{Permit}
 
 -- the session as read in
-abbrev pub startOf : List ℕ → State
-startOf s = readIn (programOf s) (rootOf s)
+abbrev pub initialState : List ℕ → State
+initialState s = readIn (programOf s) (rootOf s)
 
--- the words say the state st, and no manager runs in it: so they say it whatever managers are held
-pub record Rests (s : List ℕ) (w : Words) (st : State) : Type 0 where
-  pub says : (ms : ℕ → Manager) → Says s w ms st
+-- the words represent the state st, and no manager runs in it: so they represent it whatever managers are held
+pub record Quiescent (s : List ℕ) (w : Words) (st : State) : Type 0 where
+  pub invariant : (ms : ℕ → Manager) → RunInvariant s w ms st
   pub idle-all : (k : ℕ) → k < levelCount s → levelAt st k .activity ≡ idle
 
 -- words that no run has used
@@ -47,11 +47,11 @@ pub record Fresh (index current tallies queue : List ℕ) : Type 0 where
   pub counts : tallies ≡ startTallies
   pub forks-room : queueWords ≤ length queue
 
--- they hold the method index and, with any words for histories and versions, say the session as read in; the root's object is at a level
-pub record ReadIn (s index current tallies queue : List ℕ) (level : ℕ) : Type 0 where
+-- they hold the method index and, with any words for histories and versions, represent the session as read in; the root's object is at a level
+pub record InitialWords (s index current tallies queue : List ℕ) (level : ℕ) : Type 0 where
   pub index-is : index ≡ indexOf s
   pub level-is : level ≡ levelOf s (rootObject s)
-  pub rests : (ended work : List ℕ) → historyWords ≤ length ended → workNumbers ≤ length work → Rests s (record { current = current; ended = ended; tallies = tallies; queue = queue; work = work }) (startOf s)
+  pub quiescent : (ended work : List ℕ) → historyWords ≤ length ended → workNumbers ≤ length work → Quiescent s (record { current = current; ended = ended; tallies = tallies; queue = queue; work = work }) (initialState s)
 
 -- the work slice is as it was beyond the versions
 abbrev pub SameRest : List ℕ → List ℕ → Type 0
@@ -71,29 +71,29 @@ abbrev pub listOf : List ℕ → List ℕ → Bool → List ℕ
 listOf s ls true = ls
 listOf s ls false = plainOrder (programOf s) (rootOf s)
 
--- a list of scheduler steps of session s has ended: refused, or in a state that the words say
+-- a list of scheduler steps of session s has ended: refused, or in a state that the words represent
 abbrev pub Ends : List ℕ → List ℕ → Words → Outcome → Type 0
 Ends s ls w outcome.Finished =
-    (ms : ℕ → Manager) × ((st : State) × ((runOf (programOf s) (rootOf s) ls ≡ finished st) × Told s w ms st))
+    (ms : ℕ → Manager) × ((st : State) × ((runOf (programOf s) (rootOf s) ls ≡ finished st) × Represents s w ms st))
 Ends s ls w (outcome.Refused number place) = runOf (programOf s) (rootOf s) ls ≡ refused number place
 
 -- a level may step, and no manager runs
 abbrev pub LevelReady : List ℕ → Words → ℕ → Type 0
-LevelReady s w level = (st : State) × (Rests s w st × (stepRefusal (programOf s) st level ≡ 0))
+LevelReady s w level = (st : State) × (Quiescent s w st × (stepRefusal (programOf s) st level ≡ 0))
 
 -- allowed steps led from state st to one in which the level has no manager
 pub record LevelRun (s : List ℕ) (w : Words) (level : ℕ) (st : State) : Type 0 where
   pub state : State
   pub list : List ℕ
   pub leads : Leads (programOf s) st list state
-  pub rests : Rests s w state
-  pub dry : hasManager (levelAt state level) ≡ false
+  pub quiescent : Quiescent s w state
+  pub no-manager : hasManager (levelAt state level) ≡ false
 
 pub record LevelDone (s : List ℕ) (w w' : Words) (level : ℕ) : Type 0 where
-  pub ran : (st : State) → Rests s w st → stepRefusal (programOf s) st level ≡ 0 → LevelRun s w' level st
+  pub ran : (st : State) → Quiescent s w st → stepRefusal (programOf s) st level ≡ 0 → LevelRun s w' level st
   pub rest : SameRest (w .work) (w' .work)
 
--- the words say the state in which some list of scheduler steps of session s finishes
+-- the words represent the state in which some list of scheduler steps of session s finishes
 abbrev pub Done : List ℕ → Words → Type 0
 Done s w = (ls : List ℕ) × Ends s ls w outcome.Finished
 

@@ -16,7 +16,7 @@ ghost use Rattle.scripts.specs.Valid.{Leveled};
 ghost use Rattle.model.specs.Entries.{timetabled, plain as plainly, Answers};
 ghost use Rattle.records.specs.Writing.{Ready};
 ghost use Rattle.level_managers.specs.Steps.{Read};
-ghost use Rattle.scheduler.specs.Runs.{startOf, listOf, Rests, Fresh, ReadIn, Ends, SameRest, Shows, RunReady, ListDone};
+ghost use Rattle.scheduler.specs.Runs.{initialState, listOf, Quiescent, Fresh, InitialWords, Ends, SameRest, Shows, RunReady, ListDone};
 
 // How the scheduler steps of a run end.
 pub enum Outcome {
@@ -37,7 +37,7 @@ fn read_in(
 ) -> usize
     requires { ⌜ Leveled (now session) (now masks) ⌝ }
     requires { ⌜ Fresh (now index) (now current) (now tallies) (now queue) ⌝ }
-    ensures { λ r. ⌜ ReadIn (now (session .entry)) (now (index .exit)) (now (current .exit)) (now (tallies .exit)) (now (queue .exit)) r ⌝ }
+    ensures { λ r. ⌜ InitialWords (now (session .entry)) (now (index .exit)) (now (current .exit)) (now (tallies .exit)) (now (queue .exit)) r ⌝ }
 {
     contents::index_methods(session, index);
     fields::fill(session, masks, current);
@@ -89,8 +89,8 @@ fn make_steps(
     queue: &mut [u32],
     work: &mut [u32],
 ) -> Outcome
-    requires { ⌜ Read (now session) (now masks) (now index) ⌝ }
-    requires { ⌜ Rests (now session) (record { current = now current; ended = now ended; tallies = now tallies; queue = now queue; work = now work }) (startOf (now session)) ⌝ }
+    requires { ⌜ Tables (now session) (now masks) (now index) ⌝ }
+    requires { ⌜ Quiescent (now session) (record { current = now current; ended = now ended; tallies = now tallies; queue = now queue; work = now work }) (initialState (now session)) ⌝ }
     ensures { λ r. ⌜ Ends (now (session .entry)) (listOf (now (session .entry)) (now (timetable .entry)) listed) (record { current = now (current .exit); ended = now (ended .exit); tallies = now (tallies .exit); queue = now (queue .exit); work = now (work .exit) }) r × SameRest (now (work .entry)) (now (work .exit)) ⌝ }
 {
     if listed {

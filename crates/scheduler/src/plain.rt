@@ -8,12 +8,12 @@ use words::fields::FIELD_WORDS;
 ghost use mathlib.Core.Path.{_≡_};
 ghost use Rattle.tallies.specs.Permits.{isGiven};
 ghost use Rattle.level_managers.specs.Steps.{Read};
-ghost use Rattle.scheduler.specs.Runs.{startOf, Rests, LevelReady, LevelDone, Done, SameRest};
+ghost use Rattle.scheduler.specs.Runs.{initialState, Quiescent, LevelReady, LevelDone, Done, SameRest};
 ghost use Rattle.scheduler.specs.Running.{NextReady, NextDone};
 
 // Starts the fork of smallest stamp that waits at a level that may step, and makes the steps of its manager
 // until that has ended. Nobody else steps meanwhile, and the manager writes at its own level alone: what it has
-// read elsewhere it would read again, so that is kept in `seen`.
+// read elsewhere it would read again, so that is kept in `cache`.
 fn run_next(
     session: &[u8],
     masks: &[u16],
@@ -25,11 +25,11 @@ fn run_next(
     work: &mut [u32],
     level: usize,
 )
-    requires { ⌜ Read (now session) (now masks) (now index) ⌝ }
+    requires { ⌜ Tables (now session) (now masks) (now index) ⌝ }
     requires { ⌜ NextReady (now session) (record { current = now current; ended = now ended; tallies = now tallies; queue = now queue; work = now work }) level ⌝ }
     ensures { λ _. ⌜ NextDone (now (session .entry)) (record { current = now (current .entry); ended = now (ended .entry); tallies = now (tallies .entry); queue = now (queue .entry); work = now (work .entry) }) (record { current = now (current .exit); ended = now (ended .exit); tallies = now (tallies .exit); queue = now (queue .exit); work = now (work .exit) }) level ⌝ }
 {
-    let mut seen = [0u32; FIELD_WORDS];
+    let mut cache = [0u32; FIELD_WORDS];
     let mut m = steps::start(session, index, ended, tallies, queue, level);
     let core = m.core;
     let mut ending = core.ending;
@@ -39,7 +39,7 @@ fn run_next(
             masks,
             index,
             current,
-            &seen,
+            &cache,
             false,
             MAX_SCRIPT_STEPS,
         );
@@ -47,7 +47,7 @@ fn run_next(
         ending = core.ending;
         let effect = core.effect;
         if let Effect::Read { object, field } = effect {
-            steps::tell(
+            steps::answer_read(
                 session,
                 masks,
                 current,
@@ -55,7 +55,7 @@ fn run_next(
                 tallies,
                 queue,
                 work,
-                &mut seen,
+                &mut cache,
                 level,
                 object,
                 field,
@@ -79,7 +79,7 @@ fn run_level(
     work: &mut [u32],
     level: usize,
 )
-    requires { ⌜ Read (now session) (now masks) (now index) ⌝ }
+    requires { ⌜ Tables (now session) (now masks) (now index) ⌝ }
     requires { ⌜ LevelReady (now session) (record { current = now current; ended = now ended; tallies = now tallies; queue = now queue; work = now work }) level ⌝ }
     ensures { λ _. ⌜ LevelDone (now (session .entry)) (record { current = now (current .entry); ended = now (ended .entry); tallies = now (tallies .entry); queue = now (queue .entry); work = now (work .entry) }) (record { current = now (current .exit); ended = now (ended .exit); tallies = now (tallies .exit); queue = now (queue .exit); work = now (work .exit) }) level ⌝ }
 {
@@ -121,8 +121,8 @@ pub fn run(
     queue: &mut [u32],
     work: &mut [u32],
 )
-    requires { ⌜ Read (now session) (now masks) (now index) ⌝ }
-    requires { ⌜ Rests (now session) (record { current = now current; ended = now ended; tallies = now tallies; queue = now queue; work = now work }) (startOf (now session)) ⌝ }
+    requires { ⌜ Tables (now session) (now masks) (now index) ⌝ }
+    requires { ⌜ Quiescent (now session) (record { current = now current; ended = now ended; tallies = now tallies; queue = now queue; work = now work }) (initialState (now session)) ⌝ }
     ensures { λ _. ⌜ Done (now (session .entry)) (record { current = now (current .exit); ended = now (ended .exit); tallies = now (tallies .exit); queue = now (queue .exit); work = now (work .exit) }) × SameRest (now (work .entry)) (now (work .exit)) ⌝ }
 {
     let mut level = 0;

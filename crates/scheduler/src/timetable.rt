@@ -10,7 +10,7 @@ use words::fields::FIELD_WORDS;
 ghost use mathlib.Core.Path.{_≡_};
 ghost use Rattle.tallies.specs.Permits.{numberOfPermit, endedOf, Countable};
 ghost use Rattle.level_managers.specs.Steps.{Read};
-ghost use Rattle.scheduler.specs.Runs.{startOf, Rests, RefusedAt, endOf, Ends, SameRest};
+ghost use Rattle.scheduler.specs.Runs.{initialState, Quiescent, RefusedAt, endOf, Ends, SameRest};
 
 // Document 01's number of what questions 12 to 14 say.
 fn number_of(permit: Permit) -> u32
@@ -51,7 +51,7 @@ fn at_end(masks: &[u16], tallies: &[usize]) -> Outcome
 // Makes the scheduler steps of a timetable, from the session as read in. The first that is not permitted
 // ends the run; so does a timetable at whose end a manager has not ended. A script step that asks for a field
 // is made once that is read. Between the steps of a manager others step: nothing that it has read is kept in
-// `seen`.
+// `cache`.
 pub fn run(
     session: &[u8],
     timetable: &[u8],
@@ -63,12 +63,12 @@ pub fn run(
     queue: &mut [u32],
     work: &mut [u32],
 ) -> Outcome
-    requires { ⌜ Read (now session) (now masks) (now index) ⌝ }
-    requires { ⌜ Rests (now session) (record { current = now current; ended = now ended; tallies = now tallies; queue = now queue; work = now work }) (startOf (now session)) ⌝ }
+    requires { ⌜ Tables (now session) (now masks) (now index) ⌝ }
+    requires { ⌜ Quiescent (now session) (record { current = now current; ended = now ended; tallies = now tallies; queue = now queue; work = now work }) (initialState (now session)) ⌝ }
     ensures { λ r. ⌜ Ends (now (session .entry)) (now (timetable .entry)) (record { current = now (current .exit); ended = now (ended .exit); tallies = now (tallies .exit); queue = now (queue .exit); work = now (work .exit) }) r × SameRest (now (work .entry)) (now (work .exit)) ⌝ }
 {
     let mut managers = [Manager::none(); MAX_LEVELS];
-    let mut seen = [0u32; FIELD_WORDS];
+    let mut cache = [0u32; FIELD_WORDS];
     for i in 0..timetable.len() {
         let level = timetable[i] as usize;
         let permit = tallies::ask(masks, tallies, level);
@@ -80,11 +80,11 @@ pub fn run(
             continue;
         }
         let m = managers[level];
-        let n = m.step(session, masks, index, current, &seen);
+        let n = m.step(session, masks, index, current, &cache);
         let core = n.core;
         let effect = core.effect;
         if let Effect::Read { object, field } = effect {
-            steps::tell(
+            steps::answer_read(
                 session,
                 masks,
                 current,
@@ -92,13 +92,13 @@ pub fn run(
                 tallies,
                 queue,
                 work,
-                &mut seen,
+                &mut cache,
                 level,
                 object,
                 field,
             );
-            let r = n.step(session, masks, index, current, &seen);
-            fields::forget(&mut seen, object as usize, field as usize);
+            let r = n.step(session, masks, index, current, &cache);
+            fields::forget(&mut cache, object as usize, field as usize);
             let after = r.core;
             managers[level] = r;
             steps::done(current, ended, tallies, queue, work, level, after);

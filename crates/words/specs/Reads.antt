@@ -13,13 +13,13 @@ use Rattle.words.specs.Fields.{fieldAt, knownAt}
 -- what the words say of a field. Where the object is of the level, or every object is shown, it is what the field holds; of any other object it is
 -- what was read before
 abbrev pub shownIn : List ℕ → List ℕ → List ℕ → Bool → ℕ → ℕ → ℕ → Value
-shownIn s current seen all level o k = cond (all || eqb (levelOf s o) level) (fieldAt current o k) (fieldAt seen o k)
+shownIn s current cache all level o k = cond (all || eqb (levelOf s o) level) (fieldAt current o k) (fieldAt cache o k)
 
 -- whether they say it, so that a READ of it need not pause
-abbrev pub isOpen : List ℕ → List ℕ → Bool → ℕ → ℕ → ℕ → Bool
-isOpen s seen all level o k = (all || eqb (levelOf s o) level) || knownAt seen o k
+abbrev pub isAvailable : List ℕ → List ℕ → Bool → ℕ → ℕ → ℕ → Bool
+isAvailable s cache all level o k = (all || eqb (levelOf s o) level) || knownAt cache o k
 
 -- `read` gives what the words say, wherever they say it
-abbrev pub Sees : List ℕ → List ℕ → List ℕ → Bool → ℕ → (ℕ → ℕ → Value) → Type 0
-Sees s current seen all level read =
-    (o k : ℕ) → o < objectCount s → k < fields → isOpen s seen all level o k ≡ true → read o k ≡ shownIn s current seen all level o k
+abbrev pub Agrees : List ℕ → List ℕ → List ℕ → Bool → ℕ → (ℕ → ℕ → Value) → Type 0
+Agrees s current cache all level read =
+    (o k : ℕ) → o < objectCount s → k < fields → isAvailable s cache all level o k ≡ true → read o k ≡ shownIn s current cache all level o k

@@ -17,16 +17,16 @@ use Rattle.managers.specs.declared.Effect.the-variants.{Write, Fork}
 use Rattle.model.specs.Fork as model
 use Rattle.model.specs.DepthFirst.{effected, runFork}
 use Rattle.model.proofs.Laws.Invariant.Stamps.{child-within}
-use Rattle.depth_first.specs.Kept.{Read, Keeps, Runnable, Same, Words, Says, Performable, Performed, ForkDone}
+use Rattle.depth_first.specs.Representation.{Tables, RepresentsSome, Runnable, Same, Words, Represents, Performable, Performed, ForkDone}
 use Rattle.depth_first.specs.declared.forks.Fork as fork
-use Rattle.depth_first.proofs.Laws.Kept.{kept-write}
+use Rattle.depth_first.proofs.Laws.Representation.{kept-write}
 use Rattle.depth_first.proofs.Laws.Spared.{spared-none, spared-write}
 
 -- the fork that a step makes
 abbrev pub child : fork.Fork → ℕ → ℕ → Message → fork.Fork
 child f u stamp message = record { level = u; stamp = stamp; depth = f .depth + 1; message = message }
 
-module _ {s masks index : List ℕ} (a : Read s masks index) {left : ℕ} {f : fork.Fork} {forks : ℕ} {e : Effect} (can : Performable s left f forks e) where
+module _ {s masks index : List ℕ} (a : Tables s masks index) {left : ℕ} {f : fork.Fork} {forks : ℕ} {e : Effect} (can : Performable s left f forks e) where
   abbrev p : Program
   p = programOf s
 
@@ -35,7 +35,7 @@ module _ {s masks index : List ℕ} (a : Read s masks index) {left : ℕ} {f : f
   unfolding effected
   perform-nothing w none = (
     spared-none s w,
-    λ g x n says same forking. subst (λ t. Says s (effected (runFork left p) (f .level) x n t g) w) (sym none) says,
+    λ g x n represents same forking. subst (λ t. Represents s (effected (runFork left p) (f .level) x n t g) w) (sym none) represents,
   )
 
   -- one that wrote a field
@@ -43,7 +43,7 @@ module _ {s masks index : List ℕ} (a : Read s masks index) {left : ℕ} {f : f
     there : Present s (Write o i v)
     there = subst (Present s) is (can .present)
 
-    pub write-there : {c h t : List ℕ} → Keeps s c h t → FieldThere c o i
+    pub write-there : {c h t : List ℕ} → RepresentsSome s c h t → FieldThere c o i
     write-there q =
         record {
           room = q .1 .fields-there;
@@ -55,7 +55,7 @@ module _ {s masks index : List ℕ} (a : Read s masks index) {left : ℕ} {f : f
     unfolding effected
     perform-writes w c' set = (
       spared-write s w c' o i v (there .0) (there .1) set,
-      λ g x n says same forking. rw is (kept-write s g (w .current) c' (w .ended) (w .tallies) o i v says (there .0) (there .1) set),
+      λ g x n represents same forking. rw is (kept-write s g (w .current) c' (w .ended) (w .tallies) o i v represents (there .0) (there .1) set),
     )
 
   -- one that made a fork: it runs whole, if its level keeps it
@@ -98,5 +98,5 @@ module _ {s masks index : List ℕ} (a : Read s masks index) {left : ℕ} {f : f
       unfolding effected
       perform-forks w w' done = (
         done .0,
-        λ g x n says same forking. rw is (done .1 g (model.childOf (f .level) x n message) says (same-child x n same (forking u o b v is))),
+        λ g x n represents same forking. rw is (done .1 g (model.childOf (f .level) x n message) represents (same-child x n same (forking u o b v is))),
       )

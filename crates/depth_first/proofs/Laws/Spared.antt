@@ -13,7 +13,7 @@ use Rattle.model.specs.Limits.{maxManagers}
 use Rattle.records.specs.Limits.{rowWords}
 use Rattle.records.specs.Histories.{levelPlace}
 use Rattle.tallies.specs.Places.{nextPlace, waitingPlace, Closed}
-use Rattle.depth_first.specs.Kept.{Words, Spared}
+use Rattle.depth_first.specs.Representation.{Words, Spared}
 
 module _ (s : List ℕ) where
   pub spared-none : (w : Words) → Spared s w w

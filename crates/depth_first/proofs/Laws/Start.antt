@@ -22,8 +22,8 @@ use Rattle.records.specs.Histories.{historiesAt, InOrder}
 use Rattle.records.proofs.Laws.Histories.{histories-none}
 use Rattle.tallies.specs.Places.{startTallies}
 use Rattle.tallies.proofs.Laws.First.{first-ended, first-next}
-use Rattle.depth_first.specs.Kept.{Counted, Kept}
-use Rattle.depth_first.specs.Runs.{startOf}
+use Rattle.depth_first.specs.Representation.{Counted, RepresentedBy}
+use Rattle.depth_first.specs.Runs.{initialProgress}
 
 none-rises : InOrder []
 unfolding risingFrom
@@ -39,14 +39,14 @@ module _ (s : List ℕ) (a : verdictOf s ≡ Accepted) where
   level-byte m level e i =
       omega (arith, i, ap (λ m. levelOf s (m .object)) e, level-present s a (rootObject s) (root-present s a), level-limit s a)
 
-  pub start-tally : (l : ℕ) → l < levelCount s → tallyAt (startOf s) l ≡ newTally
+  pub start-tally : (l : ℕ) → l < levelCount s → tallyAt (initialProgress s) l ≡ newTally
   start-tally l h = getD-replicate (levelCount s) l newTally newTally h
 
-  start-field : (o k : ℕ) → fieldNow (programOf s) (startOf s) o k ≡ fieldOf s o k
+  start-field : (o k : ℕ) → fieldNow (programOf s) (initialProgress s) o k ≡ fieldOf s o k
   unfolding current programOf
   start-field o k = refl
 
-  counted-start : (ended : List ℕ) (l : ℕ) → l < levelCount s → Counted (startOf s) ended startTallies l
+  counted-start : (ended : List ℕ) (l : ℕ) → l < levelCount s → Counted (initialProgress s) ended startTallies l
   counted-start ended l h =
       let e = start-tally l h in
       let small : l < maxLevels = omega (arith, h, level-limit s a) in
@@ -59,7 +59,7 @@ module _ (s : List ℕ) (a : verdictOf s ≡ Accepted) where
         pace = rw e (omega arith);
       }
 
-  pub kept-start : (before c ended tallies : List ℕ) → Filled s before c → fieldWords ≤ length before → historyWords ≤ length ended → tallies ≡ startTallies → Kept s (startOf s) c ended tallies
+  pub kept-start : (before c ended tallies : List ℕ) → Filled s before c → fieldWords ≤ length before → historyWords ≤ length ended → tallies ≡ startTallies → RepresentedBy s (initialProgress s) c ended tallies
   kept-start before c ended tallies f there room first =
       rw first (record {
         fields-there = rw (f .outside .length-same) there;

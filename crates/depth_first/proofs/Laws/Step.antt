@@ -20,14 +20,14 @@ use Rattle.scripts.proofs.Laws.Accepted.{program-sound}
 use Rattle.scripts.proofs.Laws.Counts.{counts, grown, oneMore, stepped-counts}
 use Rattle.scripts.proofs.Laws.Valid.{stepped-valid}
 use Rattle.managers.specs.Core.{managerOf, steppedOf, effectOf}
-use Rattle.managers.specs.Steps.{Quietly, Leads, quiet, last}
+use Rattle.managers.specs.Steps.{InternalSteps, Leads, internal, last}
 use Rattle.managers.specs.declared.Manager as code
 use Rattle.managers.specs.declared.Effect.{Effect}
-use Rattle.managers.proofs.Laws.Leads.{step-counted, quiet-alike}
+use Rattle.managers.proofs.Laws.Leads.{step-counted, internal-alike}
 use Rattle.model.specs.Fork as model
 use Rattle.model.specs.DepthFirst.{Progress, tallyAt, fieldNow, effected, finish, runFork}
 use Rattle.model.proofs.Laws.Code.DepthFirst.{finish-step, effected-own, runFork-leaves}
-use Rattle.depth_first.specs.Kept.{Same, Words, Says, Forking, Performed}
+use Rattle.depth_first.specs.Representation.{Same, Words, Represents, Forking, Performed}
 use Rattle.depth_first.specs.declared.forks.Fork as fork
 
 -- a manager that made a fork has made one more than before that step
@@ -38,8 +38,8 @@ step-forking p read n r e u o b v i =
     ∙ ap (λ c. c .forks) (stepped-counts p read n ∙ ap (λ t. oneMore (grown (counts n) t)) (ap (λ d. d .effect) e ∙ ap effectOf i))
 
 -- one that made none has none to count
-quiet-forking : (e : Effect) (before forks : ℕ) → effectOf e ≡ effect.Nothing → Forking e before forks
-quiet-forking e before forks none u o b v i =
+internal-forking : (e : Effect) (before forks : ℕ) → effectOf e ≡ effect.Nothing → Forking e before forks
+internal-forking e before forks none u o b v i =
     let t : effect.Fork u (record { object = o; name = b; parameter = v }) ≡ effect.Nothing = sym (ap effectOf i) ∙ none in
     let z : _≡_ {A = ℕ} 0 1 = cc in
     absurd (omega (arith, z))
@@ -48,21 +48,21 @@ module _ (s : List ℕ) (a : verdictOf s ≡ Accepted) where
   abbrev p : Program
   p = programOf s
 
-  quiet-valid : (read : ℕ → ℕ → Value) (k : ℕ) (m n : Manager) → Valid s m → Quietly p read k m n → Valid s n
-  unfolding Quietly
-  quiet-valid read zero m n v e = subst (Valid s) e v
-  quiet-valid read (suc k) m n v (run, (none, q)) =
-      quiet-valid read k (stepped p read m .manager) n (stepped-valid s a read m v run) q
+  internal-valid : (read : ℕ → ℕ → Value) (k : ℕ) (m n : Manager) → Valid s m → InternalSteps p read k m n → Valid s n
+  unfolding InternalSteps
+  internal-valid read zero m n v e = subst (Valid s) e v
+  internal-valid read (suc k) m n v (run, (none, q)) =
+      internal-valid read k (stepped p read m .manager) n (stepped-valid s a read m v run) q
 
   -- what steps up to one that concerns others leave is valid
   pub led-valid : (read : ℕ → ℕ → Value) (m : Manager) (d : Stepped) → Valid s m → Leads p read m d → Valid s (d .manager)
-  led-valid read m d v (quiet k q none) = quiet-valid read k m (d .manager) v q
+  led-valid read m d v (internal k q none) = internal-valid read k m (d .manager) v q
   led-valid read m d v (last k n q run e) =
-      subst (λ d. Valid s (d .manager)) e (stepped-valid s a read n (quiet-valid read k m n v q) run)
+      subst (λ d. Valid s (d .manager)) e (stepped-valid s a read n (internal-valid read k m n v q) run)
 
   -- a fork that the last one made is counted
   pub led-forking : (read : ℕ → ℕ → Value) (m : Manager) (r : code.Manager) → Leads p read m (steppedOf r) → Forking (r .core .effect) (r .core .forks - 1) (r .core .forks)
-  led-forking read m r (quiet k q none) = quiet-forking (r .core .effect) (r .core .forks - 1) (r .core .forks) none
+  led-forking read m r (internal k q none) = internal-forking (r .core .effect) (r .core .forks - 1) (r .core .forks) none
   led-forking read m r (last k n q run e) = λ u o b v i. omega (arith, step-forking p read n r e u o b v i)
 
   module _ (left l : ℕ) (x : model.Fork) where
@@ -83,32 +83,32 @@ module _ (s : List ℕ) (a : verdictOf s ≡ Accepted) where
         rw (sym e) (step-ends m g v run, effected-own p (program-sound s a) (runFork left p) (runFork-leaves p (program-sound s a) left) l placed x m g at)
 
     -- steps that concern nobody else
-    quiet-ends : (k : ℕ) (m b : Manager) (g : Progress) → Valid s m → Quietly p (fieldNow p g) k m b → ends m g ≡ ends b g
-    unfolding Quietly effected
-    quiet-ends zero m b g v e = ap (λ n. ends n g) e
-    quiet-ends (suc k) m b g v (run, (none, q)) =
+    internal-ends : (k : ℕ) (m b : Manager) (g : Progress) → Valid s m → InternalSteps p (fieldNow p g) k m b → ends m g ≡ ends b g
+    unfolding InternalSteps effected
+    internal-ends zero m b g v e = ap (λ n. ends n g) e
+    internal-ends (suc k) m b g v (run, (none, q)) =
         let n = stepped p (fieldNow p g) m .manager in
         step-ends m g v run
         ∙ ap (λ e. ends n (effected (runFork left p) l x m e g)) none
-        ∙ quiet-ends k n b g (stepped-valid s a (fieldNow p g) m v run) q
+        ∙ internal-ends k n b g (stepped-valid s a (fieldNow p g) m v run) q
 
   -- from the words w and the manager m the run of the fork ends as from w' and m'
   abbrev pub SameEnd : ℕ → fork.Fork → Words → Words → Manager → Manager → Progress → model.Fork → Type 0
   SameEnd left f w w' m m' g x =
-      (g' : Progress) × (Says s g' w'
+      (g' : Progress) × (Represents s g' w'
       × ((ends left (f .level) x m g ≡ ends left (f .level) x m' g')
       × (tallyAt g' (f .level) ≡ tallyAt g (f .level))))
 
   -- steps up to one that concerns others, and what that one does outside its manager
-  pub led-ends : (left : ℕ) (f : fork.Fork) (w w' : Words) (m : Manager) (r : code.Manager) → Valid s m → f .level < levelCount s → m .level ≡ f .level → Performed s left f (r .core .forks) (r .core .effect) w w' → (g : Progress) (x : model.Fork) → Says s g w → Same f x → Leads p (fieldNow p g) m (steppedOf r) → SameEnd left f w w' m (managerOf r) g x
+  pub led-ends : (left : ℕ) (f : fork.Fork) (w w' : Words) (m : Manager) (r : code.Manager) → Valid s m → f .level < levelCount s → m .level ≡ f .level → Performed s left f (r .core .forks) (r .core .effect) w w' → (g : Progress) (x : model.Fork) → Represents s g w → Same f x → Leads p (fieldNow p g) m (steppedOf r) → SameEnd left f w w' m (managerOf r) g x
   unfolding effected
-  led-ends left f w w' m r v placed at does g x says same (quiet k q none) =
-      let said = does .1 g x m says same (quiet-forking (r .core .effect) (m .forks) (r .core .forks) none) in
-      (g, (subst (λ e. Says s (effected (runFork left p) (f .level) x m e g) w') none said, (quiet-ends left (f .level) x k m (managerOf r) g v q, refl)))
-  led-ends left f w w' m r v placed at does g x says same (last k n q run e) =
+  led-ends left f w w' m r v placed at does g x represents same (internal k q none) =
+      let represented = does .1 g x m represents same (internal-forking (r .core .effect) (m .forks) (r .core .forks) none) in
+      (g, (subst (λ e. Represents s (effected (runFork left p) (f .level) x m e g) w') none represented, (internal-ends left (f .level) x k m (managerOf r) g v q, refl)))
+  led-ends left f w w' m r v placed at does g x represents same (last k n q run e) =
       let read = fieldNow p g in
       let there : f .level < p .levels = unfold programOf in placed in
-      let step = step-does left (f .level) x n (steppedOf r) g (quiet-valid read k m n v q) run there (quiet-alike p read k m n q .0 ∙ at) e in (
+      let step = step-does left (f .level) x n (steppedOf r) g (internal-valid read k m n v q) run there (internal-alike p read k m n q .0 ∙ at) e in (
         effected (runFork left p) (f .level) x n (effectOf (r .core .effect)) g,
-        (does .1 g x n says same (step-forking p read n r e), (quiet-ends left (f .level) x k m n g v q ∙ step .0, step .1)),
+        (does .1 g x n represents same (step-forking p read n r e), (internal-ends left (f .level) x k m n g v q ∙ step .0, step .1)),
       )

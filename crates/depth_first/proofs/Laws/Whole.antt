@@ -18,12 +18,12 @@ use Rattle.records.specs.Histories.{historiesAt, endedIn}
 use Rattle.records.specs.Writing.{resultIn, bytesIn, Ready, Written}
 use Rattle.records.proofs.Laws.Depends.{bytes-depend-by-number}
 use Rattle.records.proofs.Laws.Written.{bytes-fit}
-use Rattle.depth_first.specs.Kept.{Read, Runnable, Same, Words, Says, RunDone}
-use Rattle.depth_first.specs.Runs.{RootFork, startOf, bytesShown, RanOver}
+use Rattle.depth_first.specs.Representation.{Tables, Runnable, Same, Words, Represents, RunDone}
+use Rattle.depth_first.specs.Runs.{RootFork, initialProgress, bytesShown, RanOver}
 use Rattle.depth_first.specs.declared.forks.Fork.{Fork}
 use Rattle.depth_first.proofs.Laws.Start.{start-tally}
 
-module _ (s masks index : List ℕ) (a : Read s masks index) where
+module _ (s masks index : List ℕ) (a : Tables s masks index) where
   abbrev p : Program
   p = programOf s
 
@@ -34,7 +34,7 @@ module _ (s masks index : List ℕ) (a : Read s masks index) where
   root-level = level-present s (a .accepted) (rootObject s) (root-present s (a .accepted))
 
   -- the words of a run, and the bytes that they make
-  module _ (g : Progress) (w : Words) (q : Says s g w) (c : ℕ) where
+  module _ (g : Progress) (w : Words) (q : Represents s g w) (c : ℕ) where
     levels-are : programOf s .levels ≡ levelCount s
     levels-are = unfold programOf in refl
 
@@ -72,25 +72,25 @@ module _ (s masks index : List ℕ) (a : Read s masks index) where
     root-same : Same f (model.rootFork (levelCount s) (rootOf s))
     root-same = record { stamp = sym (r .stamp); depth = sym (r .depth); message = sym (r .message) }
 
-    pub root-room : (w : Words) → Says s (startOf s) w → getD (w .tallies) (f .level) 0 < maxManagers
+    pub root-room : (w : Words) → Represents s (initialProgress s) w → getD (w .tallies) (f .level) 0 < maxManagers
     root-room w q =
         let h : f .level < levelCount s = rw (r .level) root-level in
         let e = start-tally s (a .accepted) (f .level) h in
         omega (arith, q .counted (f .level) h .count, ap (λ t. length (t .ended)) e)
 
-    run-is : runFork (length masks) p (f .level) (model.rootFork (levelCount s) (rootOf s)) (startOf s) ≡ depthFirst p (rootOf s)
+    run-is : runFork (length masks) p (f .level) (model.rootFork (levelCount s) (rootOf s)) (initialProgress s) ≡ depthFirst p (rootOf s)
     unfolding depthFirst programOf
     run-is = rw (table-length, r .level) refl
 
     -- the words then say the whole run
-    pub run-says : (w w' : Words) (h : Ended) → Says s (startOf s) w → RunDone s (length masks) f w w' h → Says s (depthFirst p (rootOf s)) w'
-    run-says w w' h q d =
-        rw (sym run-is) (d .1 (startOf s) (model.rootFork (levelCount s) (rootOf s)) q root-same .0)
+    pub run-represents : (w w' : Words) (h : Ended) → Represents s (initialProgress s) w → RunDone s (length masks) f w w' h → Represents s (depthFirst p (rootOf s)) w'
+    run-represents w w' h q d =
+        rw (sym run-is) (d .1 (initialProgress s) (model.rootFork (levelCount s) (rootOf s)) q root-same .0)
 
-    module _ (w w' : Words) (h : Ended) (q : Says s (startOf s) w) (d : RunDone s (length masks) f w w' h) where
+    module _ (w w' : Words) (h : Ended) (q : Represents s (initialProgress s) w) (d : RunDone s (length masks) f w w' h) where
       pub write-ready : (buffer : List ℕ) → resultBytes ≤ length buffer → Ready s masks (w' .current) (w' .ended) (w' .tallies) (f .level) buffer
       write-ready buffer room =
-          let k = run-says w w' h q d in
+          let k = run-represents w w' h q d in
           record {
             fields-ready = record { accepted = a .accepted; table = a .masks-are; room = k .fields-there };
             histories-ready = record {
@@ -104,12 +104,12 @@ module _ (s masks index : List ℕ) (a : Read s masks index) where
 
       pub run-shown : (c count : ℕ) (before after : List ℕ) → Written (bytesIn s (resultIn (w' .current) (w' .ended) (w' .tallies)) c (f .level)) before after count → RanOver s c w w' before after count
       run-shown c count before after t =
-          let k = run-says w w' h q d in
+          let k = run-represents w w' h q d in
           let e : bytesIn s (resultIn (w' .current) (w' .ended) (w' .tallies)) c (f .level) ≡ bytesShown s c =
           ap (bytesIn s (resultIn (w' .current) (w' .ended) (w' .tallies)) c) (r .level) ∙ same-bytes (depthFirst p (rootOf s)) w' k c in
           let t' : Written (bytesShown s c) before after count = rw e at t in
           record {
-            says = k;
+            represents = k;
             spared = d .0;
             shown = record { written = t'; fits = omega (arith, t' .number, bytes-few (depthFirst p (rootOf s)) w' k c) };
           }

@@ -1,5 +1,5 @@
 -- `depth_first::run_over` meets its contract. Assumes nothing.
-use Rattle.depth_first.specs.Runs.{startOf}
+use Rattle.depth_first.specs.Runs.{initialProgress}
 use Rattle.depth_first.proofs.Laws.Whole.{root-runnable, root-room, write-ready, run-shown}
 use borrow.Author.Needs.{needs}
 use Rattle.depth_first.proofs.run_over.Statement.{statement}
@@ -15,7 +15,7 @@ run-manager-requires : tie.Need-run-manager-requires
 run-manager-requires c κs =
     let z = c .before .before .before .before .before .before .before .before .before .before .before .before in
     let f = c .before .before .before .before .root-fork in
-    (z .pre .0, ((startOf (z .args .session .now), z .pre .1 .0), (root-runnable (z .args .session .now) (z .args .masks .now) (z .args .index .now) (z .pre .0) (f .result) (f .ensures), root-room (z .args .session .now) (z .args .masks .now) (z .args .index .now) (z .pre .0) (f .result) (f .ensures) (record { current = z .args .current .now; ended = z .args .ended .now; tallies = z .args .tallies .now }) (z .pre .1 .0))))
+    (z .pre .0, ((initialProgress (z .args .session .now), z .pre .1 .0), (root-runnable (z .args .session .now) (z .args .masks .now) (z .args .index .now) (z .pre .0) (f .result) (f .ensures), root-room (z .args .session .now) (z .args .masks .now) (z .args .index .now) (z .pre .0) (f .result) (f .ensures) (record { current = z .args .current .now; ended = z .args .ended .now; tallies = z .args .tallies .now }) (z .pre .1 .0))))
 
 write-requires : tie.Need-write-requires
 write-requires c κs =

@@ -22,18 +22,18 @@ use Rattle.model.specs.Level.{Version, Activity, busy, Level, newLevel, arrived
 use Rattle.model.specs.Step.{State, levelAt, readAt, versionsAfter, none, at, arrivalOf, delivered, stepAt}
 use Rattle.model.proofs.Laws.Lists.{modify-comm, modify-twice}
 use Rattle.model.proofs.Laws.Order.Accepted.{sound}
-use Rattle.model.proofs.Laws.Invariant.Measure.{arrived-tame}
+use Rattle.model.proofs.Laws.Invariant.Measure.{arrived-bounded}
 use Rattle.model.proofs.Laws.Code.Direct.{step-advance}
-use Rattle.model.proofs.Laws.Code.Live.{Live, present}
+use Rattle.model.proofs.Laws.Code.Reached.{ReachedState, present}
 use Rattle.model.proofs.Laws.Code.Needs.{live-room, live-versions, live-write, live-fork}
 use Rattle.queues.specs.Queue.{forkOfRow, forkAt}
 use Rattle.versions.specs.Log.{maxVersions}
-use Rattle.level_managers.specs.Kept.{Words, Runs, Told, placed}
+use Rattle.level_managers.specs.Representation.{Words, Runs, Represents, placed}
 use Rattle.level_managers.specs.Steps.{Parts, runningFork, Wrote, Forked, EffectDone, Settled}
-use Rattle.level_managers.proofs.Laws.Told.{Limited, at-own, at-other}
-use Rattle.level_managers.proofs.Laws.Write.{withVersions, told-write}
-use Rattle.level_managers.proofs.Laws.Arrive.{told-arrive}
-use Rattle.level_managers.proofs.Laws.Settle.{told-settle}
+use Rattle.level_managers.proofs.Laws.Representation.{Limited, at-own, at-other}
+use Rattle.level_managers.proofs.Laws.Write.{withVersions, represents-write}
+use Rattle.level_managers.proofs.Laws.Arrive.{represents-arrive}
+use Rattle.level_managers.proofs.Laws.Settle.{represents-settle}
 
 -- an element changed by what it is
 pub modify-fixed : {A : Type 0} (d : A) (i : ℕ) (f : A → A) (xs : List A) → modify i f xs ≡ modify i (λ _. f (getD xs i d)) xs
@@ -43,16 +43,16 @@ modify-fixed d zero f (x ∷ xs) = refl
 modify-fixed d (suc i) f (x ∷ xs) = ap (λ ys. x ∷ ys) (modify-fixed d i f xs)
 
 -- every level of a state that a run reaches is within its limits
-pub live-limited : (s : List ℕ) (a : verdictOf s ≡ Accepted) (st : State) → Live s st → (k : ℕ) → k < levelCount s → Limited (levelAt st k)
+pub live-limited : (s : List ℕ) (a : verdictOf s ≡ Accepted) (st : State) → ReachedState s st → (k : ℕ) → k < levelCount s → Limited (levelAt st k)
 live-limited s a st i k hk =
     record { managers = live-room s a st i k hk; versions = live-versions s a st i k hk }
 
 -- the same words
-pub told-words : {s : List ℕ} {w w' : Words} {ms : ℕ → Manager} {st : State} → w ≡ w' → Told s w ms st → Told s w' ms st
-told-words e t = rw (sym e) t
+pub represents-words : {s : List ℕ} {w w' : Words} {ms : ℕ → Manager} {st : State} → w ≡ w' → Represents s w ms st → Represents s w' ms st
+represents-words e t = rw (sym e) t
 
-pub told-state : {s : List ℕ} {w : Words} {ms : ℕ → Manager} {st st' : State} → st ≡ st' → Told s w ms st → Told s w ms st'
-told-state e t = rw (sym e) t
+pub represents-state : {s : List ℕ} {w : Words} {ms : ℕ → Manager} {st st' : State} → st ≡ st' → Represents s w ms st → Represents s w ms st'
+represents-state e t = rw (sym e) t
 
 pub after-any : (v u : Level) (ws : List Fork) (vs : List Version) (x : Fork) (m : Manager) → u .ended ≡ v .ended → u .next ≡ v .next → after u ws vs x m ≡ after v ws vs x m
 unfolding after
@@ -66,11 +66,11 @@ delivers-none : (st : State) → delivered none st ≡ st
 unfolding delivered
 delivers-none st = refl
 
-child-of : (l : ℕ) (x : Fork) (m : Manager) (message : Message) → record { stamp = childStamp (x .stamp) (x .depth) (m .forks + 1); depth = x .depth + 1; seen = set (x .seen) l (m .stamp); message = message } ≡ childOf l x m message
+child-of : (l : ℕ) (x : Fork) (m : Manager) (message : Message) → record { stamp = childStamp (x .stamp) (x .depth) (m .forks + 1); depth = x .depth + 1; carried = set (x .carried) l (m .stamp); message = message } ≡ childOf l x m message
 unfolding childOf
 child-of l x m message = refl
 
-module _ (s : List ℕ) (a : verdictOf s ≡ Accepted) (few : levelCount s ≤ maxLevels) (w : Words) (ms : ℕ → Manager) (st : State) (t : Told s w ms st) (i : Live s st) (l : ℕ) (h : l < levelCount s) (x : Fork) (m : Manager) (runs : levelAt st l .activity ≡ busy x m) (n : Stepped) (made : stepped (programOf s) (readAt (programOf s) st l x) m ≡ n) (q : Parts) (ended' tallies' : List ℕ) where
+module _ (s : List ℕ) (a : verdictOf s ≡ Accepted) (few : levelCount s ≤ maxLevels) (w : Words) (ms : ℕ → Manager) (st : State) (t : Represents s w ms st) (i : ReachedState s st) (l : ℕ) (h : l < levelCount s) (x : Fork) (m : Manager) (runs : levelAt st l .activity ≡ busy x m) (n : Stepped) (made : stepped (programOf s) (readAt (programOf s) st l x) m ≡ n) (q : Parts) (ended' tallies' : List ℕ) where
   -- the words before and after the step
   abbrev pub partsBefore : Parts
   partsBefore = record { current = w .current; tallies = w .tallies; queue = w .queue; work = w .work }
@@ -91,20 +91,20 @@ module _ (s : List ℕ) (a : verdictOf s ≡ Accepted) (few : levelCount s ≤ m
   -- what the definition's step does, by its effect
   step-is : (e : Effect) → n .effect ≡ e → stepAt (programOf s) l st ≡ delivered (arrivalOf l x m e) (modify l (λ _. after v (v .waiting) (versionsAfter m e (v .versions)) x (n .manager)) st)
   step-is e is =
-      step-advance (programOf s) (sound s a) st (i .reachable .steady .orderly) (i .reachable .contained) l (present s l h) x m n runs made
+      step-advance (programOf s) (sound s a) st (i .reachable .steady .fork-invariant) (i .reachable .contained) l (present s l h) x m n runs made
       ∙ ap (λ e. delivered (arrivalOf l x m e) (modify l (λ _. after v (v .waiting) (versionsAfter m e (v .versions)) x (n .manager)) st)) is
 
   -- the words with which the manager settles
   abbrev middle : Words
   middle = record { current = q .current; ended = w .ended; tallies = q .tallies; queue = q .queue; work = q .work }
 
-  settles : (st1 : State) → Told s middle ms st1 → ((k : ℕ) → k < levelCount s → Limited (levelAt st1 k)) → levelAt st1 l .activity ≡ busy x m → Settled (w .ended) ended' (q .tallies) tallies' (q .queue) l (n .manager) → Told s wordsAfter (placed l (n .manager) ms) (modify l settled st1)
-  settles st1 t1 b1 r1 z = told-settle s middle ms st1 t1 b1 few l h x m r1 ended' tallies' (n .manager) z
+  settles : (st1 : State) → Represents s middle ms st1 → ((k : ℕ) → k < levelCount s → Limited (levelAt st1 k)) → levelAt st1 l .activity ≡ busy x m → Settled (w .ended) ended' (q .tallies) tallies' (q .queue) l (n .manager) → Represents s wordsAfter (placed l (n .manager) ms) (modify l settled st1)
+  settles st1 t1 b1 r1 z = represents-settle s middle ms st1 t1 b1 few l h x m r1 ended' tallies' (n .manager) z
 
-  told-nothing : n .effect ≡ effect.Nothing → q ≡ partsBefore → Settled (w .ended) ended' (q .tallies) tallies' (q .queue) l (n .manager) → Told s wordsAfter (placed l (n .manager) ms) (stepAt (programOf s) l st)
-  told-nothing is e z =
-      told-state (modify-fixed newLevel l settled st ∙ sym (delivers-none _) ∙ sym (step-is effect.Nothing is))
-      (settles st (told-words (ap (λ q. record { current = q .current; ended = w .ended; tallies = q .tallies; queue = q .queue; work = q .work }) (sym e)) t) limits runs z)
+  represents-nothing : n .effect ≡ effect.Nothing → q ≡ partsBefore → Settled (w .ended) ended' (q .tallies) tallies' (q .queue) l (n .manager) → Represents s wordsAfter (placed l (n .manager) ms) (stepAt (programOf s) l st)
+  represents-nothing is e z =
+      represents-state (modify-fixed newLevel l settled st ∙ sym (delivers-none _) ∙ sym (step-is effect.Nothing is))
+      (settles st (represents-words (ap (λ q. record { current = q .current; ended = w .ended; tallies = q .tallies; queue = q .queue; work = q .work }) (sym e)) t) limits runs z)
 
   -- the manager's effect is what the definition says
   effect-is : (e : Effect) → n .effect ≡ e → stepped (programOf s) (readAt (programOf s) st l x) m .effect ≡ e
@@ -129,15 +129,15 @@ module _ (s : List ℕ) (a : verdictOf s ≡ Accepted) (few : levelCount s ≤ m
       | no d ↦ rw (at-other s w w ms ms st t limits l h written j d) (limits j hj)
     ]
 
-    told-written : Settled (w .ended) ended' (q .tallies) tallies' (q .queue) l (n .manager) → Told s wordsAfter (placed l (n .manager) ms) (stepAt (programOf s) l st)
-    told-written z =
-        told-state
+    represents-written : Settled (w .ended) ended' (q .tallies) tallies' (q .queue) l (n .manager) → Represents s wordsAfter (placed l (n .manager) ms) (stepAt (programOf s) l st)
+    represents-written z =
+        represents-state
         (modify-twice l settled written st
         ∙ modify-fixed newLevel l (λ v. settled (written v)) st
         ∙ ap (λ u. modify l (λ _. u) st) (after-any v (written v) (v .waiting) (written v .versions) x (n .manager) refl refl)
         ∙ sym (delivers-none _)
         ∙ sym (step-is (effect.Write o k c) is))
-        (settles (modify l written st) (told-words (ap (λ queue. record { current = q .current; ended = w .ended; tallies = q .tallies; queue = queue; work = q .work }) (sym same)) (told-write s w ms st t limits few l h (q .current) (q .tallies) (q .work) (m .stamp) o k c wrote lies)) limits-written (ap (λ v. v .activity) at-l ∙ runs) z)
+        (settles (modify l written st) (represents-words (ap (λ queue. record { current = q .current; ended = w .ended; tallies = q .tallies; queue = queue; work = q .work }) (sym same)) (represents-write s w ms st t limits few l h (q .current) (q .tallies) (q .work) (m .stamp) o k c wrote lies)) limits-written (ap (λ v. v .activity) at-l ∙ runs) z)
 
   module _ (u : ℕ) (message : Message) (is : n .effect ≡ effect.Fork u message) (forked : Forked (w .tallies) (q .tallies) (w .queue) (q .queue) l (m .stamp) (m .forks) u message) (same-current : q .current ≡ w .current) (same-work : q .work ≡ w .work) where
     above : u < levelCount s
@@ -157,7 +157,7 @@ module _ (s : List ℕ) (a : verdictOf s ≡ Accepted) (few : levelCount s ≤ m
     child-made : child ≡ childOf l x m message
     child-made =
         forked .child (levelCount s) h few
-        ∙ ap (λ y. record { stamp = childStamp (y .stamp) (y .depth) (m .forks + 1); depth = y .depth + 1; seen = set (y .seen) l (m .stamp); message = message }) running
+        ∙ ap (λ y. record { stamp = childStamp (y .stamp) (y .depth) (m .forks + 1); depth = y .depth + 1; carried = set (y .carried) l (m .stamp); message = message }) running
         ∙ child-of l x m message
 
     apart : l ≡ u → ⊥
@@ -169,28 +169,28 @@ module _ (s : List ℕ) (a : verdictOf s ≡ Accepted) (few : levelCount s ≤ m
 
     limits-arrived : (j : ℕ) → j < levelCount s → Limited (levelAt (modify u (arrived child) st) j)
     limits-arrived j hj = elim (ℕ-discrete j u) [
-      | yes e ↦ rw (e, at-u) (record { managers = arrived-tame child (levelAt st u) (i .reachable .steady .tame u) .room; versions = versions })
+      | yes e ↦ rw (e, at-u) (record { managers = arrived-bounded child (levelAt st u) (i .reachable .steady .bounded u) .room; versions = versions })
       | no d ↦ rw (at-other s w w ms ms st t limits u above (arrived child) j d) (limits j hj)
     ]
       where
         versions : length (arrived child (levelAt st u) .versions) ≤ maxVersions
         versions = unfold arrived in limits u above .versions
 
-    told-forked : Settled (w .ended) ended' (q .tallies) tallies' (q .queue) l (n .manager) → Told s wordsAfter (placed l (n .manager) ms) (stepAt (programOf s) l st)
-    told-forked z =
-        told-state
+    represents-forked : Settled (w .ended) ended' (q .tallies) tallies' (q .queue) l (n .manager) → Represents s wordsAfter (placed l (n .manager) ms) (stepAt (programOf s) l st)
+    represents-forked z =
+        represents-state
         (modify-comm l u settled (arrived child) st apart
         ∙ ap (modify u (arrived child)) (modify-fixed newLevel l settled st)
         ∙ ap (λ c. modify u (arrived c) (modify l (λ _. settled v) st)) child-made
         ∙ sym (delivers u (childOf l x m message) _)
         ∙ sym (step-is (effect.Fork u message) is))
-        (settles (modify u (arrived child) st) (told-words (ap (λ z. record { current = z; ended = w .ended; tallies = q .tallies; queue = q .queue; work = w .work }) (sym same-current) ∙ ap (λ z. record { current = q .current; ended = w .ended; tallies = q .tallies; queue = q .queue; work = z }) (sym same-work)) (told-arrive s w ms st t limits few u above (q .tallies) (q .queue) (forked .row) (forked .count) (forked .arrived) (forked .tallies-are))) limits-arrived (ap (λ v. v .activity) (at-other s w w ms ms st t limits u above (arrived child) l apart) ∙ runs) z)
+        (settles (modify u (arrived child) st) (represents-words (ap (λ z. record { current = z; ended = w .ended; tallies = q .tallies; queue = q .queue; work = w .work }) (sym same-current) ∙ ap (λ z. record { current = q .current; ended = w .ended; tallies = q .tallies; queue = q .queue; work = z }) (sym same-work)) (represents-arrive s w ms st t limits few u above (q .tallies) (q .queue) (forked .row) (forked .count) (forked .arrived) (forked .tallies-are))) limits-arrived (ap (λ v. v .activity) (at-other s w w ms ms st t limits u above (arrived child) l apart) ∙ runs) z)
 
-  -- the stages together: the words say the state after the step
-  pub told-advance : EffectDone partsBefore q l (m .stamp) (m .forks) (n .effect) → Settled (w .ended) ended' (q .tallies) tallies' (q .queue) l (n .manager) → Told s wordsAfter (placed l (n .manager) ms) (stepAt (programOf s) l st)
-  told-advance d z = by (n .effect) refl d
+  -- the stages together: the words represent the state after the step
+  pub represents-advance : EffectDone partsBefore q l (m .stamp) (m .forks) (n .effect) → Settled (w .ended) ended' (q .tallies) tallies' (q .queue) l (n .manager) → Represents s wordsAfter (placed l (n .manager) ms) (stepAt (programOf s) l st)
+  represents-advance d z = by (n .effect) refl d
     where
-      by : (e : Effect) → n .effect ≡ e → EffectDone partsBefore q l (m .stamp) (m .forks) e → Told s wordsAfter (placed l (n .manager) ms) (stepAt (programOf s) l st)
-      by effect.Nothing is d = told-nothing is d z
-      by (effect.Write o k c) is d = told-written o k c is (d .0) (d .1) z
-      by (effect.Fork u message) is d = told-forked u message is (d .0) (d .1 .0) (d .1 .1) z
+      by : (e : Effect) → n .effect ≡ e → EffectDone partsBefore q l (m .stamp) (m .forks) e → Represents s wordsAfter (placed l (n .manager) ms) (stepAt (programOf s) l st)
+      by effect.Nothing is d = represents-nothing is d z
+      by (effect.Write o k c) is d = represents-written o k c is (d .0) (d .1) z
+      by (effect.Fork u message) is d = represents-forked u message is (d .0) (d .1 .0) (d .1 .1) z

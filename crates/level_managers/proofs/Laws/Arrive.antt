@@ -16,9 +16,9 @@ use Rattle.model.specs.Step.{State, levelAt}
 use Rattle.queues.specs.Queue.{forkOfRow, forksAt, ForksRise, Arrived}
 use Rattle.queues.proofs.Laws.Queue.{forks-length, fork-apart}
 use Rattle.tallies.specs.Places.{nextPlace, waitingPlace, versionsPlace, busyPlace}
-use Rattle.level_managers.specs.Kept.{Words, Runs, LevelTold, Told}
+use Rattle.level_managers.specs.Representation.{Words, Runs, LevelRepresents, Represents}
 use Rattle.level_managers.specs.Steps.{startedOf}
-use Rattle.level_managers.proofs.Laws.Told.{Limited, SameAt, started-is, field-kept, told-change}
+use Rattle.level_managers.proofs.Laws.Representation.{Limited, SameAt, started-is, field-kept, represents-change}
 
 -- what an arrival leaves of a level
 waiting-arrived : (x : Fork) (v : Level) → arrived x v .waiting ≡ take (maxManagers - startedCount v) (inserted (λ y. y .stamp) x (v .waiting))
@@ -45,7 +45,7 @@ started-arrived : (x : Fork) (v : Level) → startedCount (arrived x v) ≡ star
 unfolding arrived
 started-arrived x v = refl
 
-module _ (s : List ℕ) (w : Words) (ms : ℕ → Manager) (st : State) (t : Told s w ms st) (b : (k : ℕ) → k < levelCount s → Limited (levelAt st k)) (few : levelCount s ≤ maxLevels) (u : ℕ) (h : u < levelCount s) (tallies' queue' row : List ℕ) (count : ℕ) (came : Arrived (w .queue) queue' u (startedOf (w .tallies) u) (getD (w .tallies) (waitingPlace u) 0) row count) (told : tallies' ≡ set (w .tallies) (waitingPlace u) count) where
+module _ (s : List ℕ) (w : Words) (ms : ℕ → Manager) (st : State) (t : Represents s w ms st) (b : (k : ℕ) → k < levelCount s → Limited (levelAt st k)) (few : levelCount s ≤ maxLevels) (u : ℕ) (h : u < levelCount s) (tallies' queue' row : List ℕ) (count : ℕ) (came : Arrived (w .queue) queue' u (startedOf (w .tallies) u) (getD (w .tallies) (waitingPlace u) 0) row count) (represents : tallies' ≡ set (w .tallies) (waitingPlace u) count) where
   abbrev pub wordsArrived : Words
   wordsArrived =
       record { current = w .current; ended = w .ended; tallies = tallies'; queue = queue'; work = w .work }
@@ -60,11 +60,11 @@ module _ (s : List ℕ) (w : Words) (ms : ℕ → Manager) (st : State) (t : Tol
   v = levelAt st u
 
   tally-other : (j : ℕ) → (j ≡ waitingPlace u → ⊥) → getD tallies' j 0 ≡ getD (w .tallies) j 0
-  tally-other j d = ap (λ t. getD t j 0) told ∙ getD-set-other (w .tallies) (waitingPlace u) j count 0 d
+  tally-other j d = ap (λ t. getD t j 0) represents ∙ getD-set-other (w .tallies) (waitingPlace u) j count 0 d
 
   tally-own : getD tallies' (waitingPlace u) 0 ≡ count
   tally-own =
-      ap (λ t. getD t (waitingPlace u) 0) told
+      ap (λ t. getD t (waitingPlace u) 0) represents
       ∙ getD-set-same (w .tallies) (waitingPlace u) count 0 (omega (arith, t .roomy .tallies, h, few))
 
   same : (j : ℕ) → j < levelCount s → (j ≡ u → ⊥) → SameAt w wordsArrived j
@@ -110,7 +110,7 @@ module _ (s : List ℕ) (w : Words) (ms : ℕ → Manager) (st : State) (t : Tol
   at-level : {a a' : Activity} {i i' : ℕ} → a' ≡ a → i' ≡ i → Runs n wordsArrived u (ms u) i a → Runs n wordsArrived u (ms u) i' a'
   at-level e q r = rw (e, q) r
 
-  own : LevelTold n wordsArrived u (ms u) (arrived x v)
+  own : LevelRepresents n wordsArrived u (ms u) (arrived x v)
   own =
       let q = t .level u h in
       let ended = ended-arrived x v in
@@ -128,13 +128,13 @@ module _ (s : List ℕ) (w : Words) (ms : ℕ → Manager) (st : State) (t : Tol
       }
 
   -- the words then say that the fork has arrived
-  pub told-arrive : Told s wordsArrived ms (modify u (arrived (forkOfRow (levelCount s) row)) st)
-  told-arrive =
-      told-change s w wordsArrived ms ms st t b u h (arrived x)
+  pub represents-arrive : Represents s wordsArrived ms (modify u (arrived (forkOfRow (levelCount s) row)) st)
+  represents-arrive =
+      represents-change s w wordsArrived ms ms st t b u h (arrived x)
       (record {
         current = t .roomy .current;
         ended = t .roomy .ended;
-        tallies = rw (told, length-set (w .tallies) (waitingPlace u) count) (t .roomy .tallies);
+        tallies = rw (represents, length-set (w .tallies) (waitingPlace u) count) (t .roomy .tallies);
         queue = rw (came .outside .length-same) (t .roomy .queue);
         work = t .roomy .work;
       })

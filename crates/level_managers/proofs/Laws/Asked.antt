@@ -25,7 +25,7 @@ use Rattle.model.specs.Step.{State, levelAt}
 use Rattle.model.specs.Schedule.{question14, question15, stepRefusal}
 use Rattle.model.proofs.Laws.Code.Progress.{refusal-absent, refusal-idle, refusal-blocked, refusal-none, allowed}
 use Rattle.tallies.specs.Places.{nextPlace, waitingPlace, versionsPlace, busyPlace, clearPlace}
-use Rattle.level_managers.specs.Kept.{Words, Runs, LevelTold, Told, Says}
+use Rattle.level_managers.specs.Representation.{Words, Runs, LevelRepresents, Represents, RunInvariant}
 use Rattle.tallies.specs.Permits.{numberOfPermit, managed, clearOf, endedOf, isClear, permitOf}
 use Rattle.tallies.specs.declared.Permit.{Permit}
 
@@ -34,18 +34,18 @@ some-empty [] = refl
 some-empty (x ∷ xs) = lt-ltb 0 (length (x ∷ xs)) (omega arith)
 
 -- a level has a manager exactly where one is counted
-pub told-managed : (n : ℕ) (w : Words) (l : ℕ) (m : Manager) (v : Level) → LevelTold n w l m v → managed (w .tallies) l ≡ hasManager v
-told-managed n w l m v t =
+pub represents-managed : (n : ℕ) (w : Words) (l : ℕ) (m : Manager) (v : Level) → LevelRepresents n w l m v → managed (w .tallies) l ≡ hasManager v
+represents-managed n w l m v t =
     ap₂ _||_ (by (v .activity) (t .activity)) (ap (ltb 0) (t .waiting-count) ∙ some-empty (v .waiting))
   where
     by : (a : Activity) → Runs n w l m (length (v .ended)) a → ltb 0 (getD (w .tallies) (busyPlace l) 0) ≡ isBusy a
     by idle r = ap (ltb 0) r
     by (busy x y) r = ap (ltb 0) (r .0)
 
-module _ (s masks : List ℕ) (table : masks ≡ masksOf s) (long : length masks ≡ levelCount s) (w : Words) (ms : ℕ → Manager) (st : State) (t : Told s w ms st) where
+module _ (s masks : List ℕ) (table : masks ≡ masksOf s) (long : length masks ≡ levelCount s) (w : Words) (ms : ℕ → Manager) (st : State) (t : Represents s w ms st) where
   each-managed : (j : ℕ) → j < length masks → managed (w .tallies) j ≡ hasManager (levelAt st j)
   each-managed j h =
-      told-managed (levelCount s) w j (ms j) (levelAt st j) (t .level j (rw (sym long) h))
+      represents-managed (levelCount s) w j (ms j) (levelAt st j) (t .level j (rw (sym long) h))
 
   -- 14
   pub clear-is : (l : ℕ) → clearOf masks (w .tallies) l ≡ question14 (programOf s) st l
@@ -69,10 +69,10 @@ module _ (s masks : List ℕ) (table : masks ≡ masksOf s) (long : length masks
   managed-is l e = each-managed l (ltb-true l (length masks) e)
 
 -- 12 to 14, with what is noted of 14
-module _ (s masks : List ℕ) (table : masks ≡ masksOf s) (long : length masks ≡ levelCount s) (w : Words) (ms : ℕ → Manager) (st : State) (y : Says s w ms st) (l : ℕ) where
+module _ (s masks : List ℕ) (table : masks ≡ masksOf s) (long : length masks ≡ levelCount s) (w : Words) (ms : ℕ → Manager) (st : State) (y : RunInvariant s w ms st) (l : ℕ) where
   noted-clear : ltb l (length masks) ≡ true → isClear masks (w .tallies) l ≡ question14 (programOf s) st l
   noted-clear e = elim (truth (eqb (getD (w .tallies) (clearPlace l) 0) 0)) [
-    | holds z ↦ rw z (clear-is s masks table long w ms st (y .told) l)
+    | holds z ↦ rw z (clear-is s masks table long w ms st (y .represents) l)
     | fails z ↦
         rw z (sym (y .clear l (rw (sym long) (ltb-true l (length masks) e)) (λ q. not-both (eqb (getD (w .tallies) (clearPlace l) 0) 0) (eq-eqb (getD (w .tallies) (clearPlace l) 0) 0 q) z)))
   ]
@@ -83,15 +83,15 @@ module _ (s masks : List ℕ) (table : masks ≡ masksOf s) (long : length masks
   -- the number of the permit is that of the refusal
   pub asked-is : numberOfPermit answers ≡ stepRefusal (programOf s) st l
   asked-is = elim (truth (ltb l (length masks))) [
-    | fails e ↦ rw e (sym (refusal-absent (programOf s) st l (sym (present-is s masks table long w ms st (y .told) l) ∙ e)))
+    | fails e ↦ rw e (sym (refusal-absent (programOf s) st l (sym (present-is s masks table long w ms st (y .represents) l) ∙ e)))
     | holds e ↦ elim (truth (managed (w .tallies) l)) [
       | fails f ↦
-          rw (e, f) (sym (refusal-idle (programOf s) st l (sym (present-is s masks table long w ms st (y .told) l) ∙ e) (sym (managed-is s masks table long w ms st (y .told) l e) ∙ f)))
+          rw (e, f) (sym (refusal-idle (programOf s) st l (sym (present-is s masks table long w ms st (y .represents) l) ∙ e) (sym (managed-is s masks table long w ms st (y .represents) l e) ∙ f)))
       | holds f ↦ elim (truth (isClear masks (w .tallies) l)) [
         | fails g ↦
-            rw (e, f, g) (sym (refusal-blocked (programOf s) st l (sym (present-is s masks table long w ms st (y .told) l) ∙ e) (sym (managed-is s masks table long w ms st (y .told) l e) ∙ f) (sym (noted-clear e) ∙ g)))
+            rw (e, f, g) (sym (refusal-blocked (programOf s) st l (sym (present-is s masks table long w ms st (y .represents) l) ∙ e) (sym (managed-is s masks table long w ms st (y .represents) l e) ∙ f) (sym (noted-clear e) ∙ g)))
         | holds g ↦
-            rw (e, f, g) (sym (refusal-none (programOf s) st l (sym (present-is s masks table long w ms st (y .told) l) ∙ e) (sym (managed-is s masks table long w ms st (y .told) l e) ∙ f) (sym (noted-clear e) ∙ g)))
+            rw (e, f, g) (sym (refusal-none (programOf s) st l (sym (present-is s masks table long w ms st (y .represents) l) ∙ e) (sym (managed-is s masks table long w ms st (y .represents) l e) ∙ f) (sym (noted-clear e) ∙ g)))
       ]
     ]
   ]
@@ -102,21 +102,21 @@ wordsNoted w l =
     record { current = w .current; ended = w .ended; tallies = set (w .tallies) (clearPlace l) 1; queue = w .queue; work = w .work }
 
 -- what is noted of question 14 says nothing of the levels
-pub noted-says : (s : List ℕ) (w : Words) (ms : ℕ → Manager) (st : State) (l : ℕ) → levelCount s ≤ maxLevels → Says s w ms st → stepRefusal (programOf s) st l ≡ 0 → Says s (wordsNoted w l) ms st
-noted-says s w ms st l few y ok =
+pub noted-invariant : (s : List ℕ) (w : Words) (ms : ℕ → Manager) (st : State) (l : ℕ) → levelCount s ≤ maxLevels → RunInvariant s w ms st → stepRefusal (programOf s) st l ≡ 0 → RunInvariant s (wordsNoted w l) ms st
+noted-invariant s w ms st l few y ok =
     record {
-      told = record {
+      represents = record {
         roomy = record {
-          current = y .told .roomy .current;
-          ended = y .told .roomy .ended;
-          tallies = rw (length-set (w .tallies) (clearPlace l) 1) (y .told .roomy .tallies);
-          queue = y .told .roomy .queue;
-          work = y .told .roomy .work;
+          current = y .represents .roomy .current;
+          ended = y .represents .roomy .ended;
+          tallies = rw (length-set (w .tallies) (clearPlace l) 1) (y .represents .roomy .tallies);
+          queue = y .represents .roomy .queue;
+          work = y .represents .roomy .work;
         };
-        counts-few = λ k hk. rw (other k (λ e. omega (arith, e, hk))) (y .told .counts-few k hk);
-        levels = y .told .levels;
-        field = y .told .field;
-        level = λ k hk. level k hk (y .told .level k hk);
+        counts-few = λ k hk. rw (other k (λ e. omega (arith, e, hk))) (y .represents .counts-few k hk);
+        levels = y .represents .levels;
+        field = y .represents .field;
+        level = λ k hk. level k hk (y .represents .level k hk);
       };
       reached = y .reached;
       clear = λ k hk z. clear k hk z (ℕ-discrete k l);
@@ -125,7 +125,7 @@ noted-says s w ms st l few y ok =
     other : (k : ℕ) → (k ≡ clearPlace l → ⊥) → getD (set (w .tallies) (clearPlace l) 1) k 0 ≡ getD (w .tallies) k 0
     other k d = getD-set-other (w .tallies) (clearPlace l) k 1 0 d
 
-    level : (k : ℕ) → k < levelCount s → LevelTold (levelCount s) w k (ms k) (levelAt st k) → LevelTold (levelCount s) (wordsNoted w l) k (ms k) (levelAt st k)
+    level : (k : ℕ) → k < levelCount s → LevelRepresents (levelCount s) w k (ms k) (levelAt st k) → LevelRepresents (levelCount s) (wordsNoted w l) k (ms k) (levelAt st k)
     level k hk t =
         record {
           ended-count = other k (λ e. omega (arith, e, hk, few)) ∙ t .ended-count;

@@ -16,9 +16,9 @@ use Rattle.model.specs.Step.{State, levelAt}
 use Rattle.queues.specs.Queue.{forkAt, forksAt, ForksRise}
 use Rattle.queues.proofs.Laws.Queue.{forks-first, rises-behind}
 use Rattle.tallies.specs.Places.{nextPlace, waitingPlace, versionsPlace, busyPlace, tallyNumbers}
-use Rattle.level_managers.specs.Kept.{Words, LevelTold, Told, placed}
+use Rattle.level_managers.specs.Representation.{Words, LevelRepresents, Represents, placed}
 use Rattle.level_managers.specs.Steps.{begunTallies}
-use Rattle.level_managers.proofs.Laws.Told.{Limited, SameAt, field-kept, told-change}
+use Rattle.level_managers.proofs.Laws.Representation.{Limited, SameAt, field-kept, represents-change}
 use Rattle.level_managers.proofs.Laws.Settle.{placed-own, placed-other}
 
 -- a level at which manager m of fork x runs, and those behind it wait
@@ -32,7 +32,7 @@ head-is x y xs ys e = cc
 tail-is : (x y : Fork) (xs ys : List Fork) → x ∷ xs ≡ y ∷ ys → xs ≡ ys
 tail-is x y xs ys e = cc
 
-module _ (s : List ℕ) (w : Words) (ms : ℕ → Manager) (st : State) (t : Told s w ms st) (b : (k : ℕ) → k < levelCount s → Limited (levelAt st k)) (few : levelCount s ≤ maxLevels) (l : ℕ) (h : l < levelCount s) (x : Fork) (xs : List Fork) (rests : levelAt st l .activity ≡ idle) (waits : levelAt st l .waiting ≡ x ∷ xs) (m : Manager) where
+module _ (s : List ℕ) (w : Words) (ms : ℕ → Manager) (st : State) (t : Represents s w ms st) (b : (k : ℕ) → k < levelCount s → Limited (levelAt st k)) (few : levelCount s ≤ maxLevels) (l : ℕ) (h : l < levelCount s) (x : Fork) (xs : List Fork) (quiescent : levelAt st l .activity ≡ idle) (waits : levelAt st l .waiting ≡ x ∷ xs) (m : Manager) where
   abbrev pub wordsBegun : Words
   wordsBegun =
       record { current = w .current; ended = w .ended; tallies = begunTallies (w .tallies) l; queue = w .queue; work = w .work }
@@ -85,7 +85,7 @@ module _ (s : List ℕ) (w : Words) (ms : ℕ → Manager) (st : State) (t : Tol
 
   started : startedCount v ≡ length (v .ended)
   started =
-      ap (λ a. length (v .ended) + cond {A = ℕ} (isBusy a) 1 0) rests ∙ omega arith
+      ap (λ a. length (v .ended) + cond {A = ℕ} (isBusy a) 1 0) quiescent ∙ omega arith
 
   -- the first fork that waits, and those behind it
   split : forkAt n (w .queue) l (length (v .ended)) ∷ forksAt n (w .queue) l (length (v .ended) + 1) (length xs) ≡ x ∷ xs
@@ -101,7 +101,7 @@ module _ (s : List ℕ) (w : Words) (ms : ℕ → Manager) (st : State) (t : Tol
   rises-at : (k c : ℕ) → k ≡ startedCount v → c ≡ length (v .waiting) → ForksRise (w .queue) l k c
   rises-at k c e q = rw (e, q) (t .level l h .waiting-rises)
 
-  own : LevelTold n wordsBegun l m (f v)
+  own : LevelRepresents n wordsBegun l m (f v)
   own =
       let q = t .level l h in
       record {
@@ -118,9 +118,9 @@ module _ (s : List ℕ) (w : Words) (ms : ℕ → Manager) (st : State) (t : Tol
       }
 
   -- the words then say that the manager runs
-  pub told-begin : Told s wordsBegun (placed l m ms) (modify l (begunLevel x xs m) st)
-  told-begin =
-      told-change s w wordsBegun ms (placed l m ms) st t b l h f
+  pub represents-begin : Represents s wordsBegun (placed l m ms) (modify l (begunLevel x xs m) st)
+  represents-begin =
+      represents-change s w wordsBegun ms (placed l m ms) st t b l h f
       (record {
         current = t .roomy .current;
         ended = t .roomy .ended;

@@ -24,7 +24,7 @@ use Rattle.scripts.specs.Valid.{Indexed, Startable}
 use Rattle.scripts.specs.declared.Ended.{Ended}
 use Rattle.scripts.proofs.Laws.Counts.{counts, grown, oneMore, stepped-counts}
 use Rattle.managers.specs.Core.{bare, managerOf, effectOf, steppedOf}
-use Rattle.managers.specs.Steps.{Held, keptOf}
+use Rattle.managers.specs.Steps.{WellFormed, keptOf}
 use Rattle.managers.specs.declared.Core.{Core}
 use Rattle.managers.specs.declared.Manager as code
 use Rattle.model.specs.Fork.{Fork, childStamp}
@@ -32,7 +32,7 @@ use Rattle.model.specs.Level.{idle, busy, hasManager}
 use Rattle.model.specs.Limits.{workNumbers}
 use Rattle.model.specs.Step.{State, levelAt, readAt, stepAt}
 use Rattle.model.specs.Schedule.{stepRefusal}
-use Rattle.model.proofs.Laws.Code.Live.{Live}
+use Rattle.model.proofs.Laws.Code.Reached.{ReachedState}
 use Rattle.model.proofs.Laws.Code.Progress.{allowed}
 use Rattle.records.specs.Histories.{HistoryIs, HistoryRoom}
 use Rattle.queues.specs.Queue.{forksAt, isDropped, ChildRow, Arrived}
@@ -40,11 +40,11 @@ use Rattle.queues.proofs.Laws.Queue.{dropped-arrives}
 use Rattle.queues.proofs.Laws.Row.{Fits, row-there}
 use Rattle.tallies.specs.Places.{nextPlace, waitingPlace, busyPlace, tallyNumbers}
 use Rattle.tallies.specs.Places as counted
-use Rattle.level_managers.specs.Kept.{Words, Says, placed}
-use Rattle.level_managers.specs.Steps.{Read, Busy, runningFork, WriteReady, Wrote, startedOf, ForkReady, Forked, EffectReady, Parts, EffectDone, forksAfter, PerformReady, Performed, SettleReady, Settled, CoreSettled, begunTallies, StepDone, StartReady, Started}
-use Rattle.level_managers.proofs.Laws.Ready.{told-rests, told-runs, waits-some, start-ready, busy-settles, effect-ready, settle-after}
+use Rattle.level_managers.specs.Representation.{Words, RunInvariant, placed}
+use Rattle.level_managers.specs.Steps.{Tables, Busy, runningFork, WriteReady, Wrote, startedOf, ForkReady, Forked, EffectReady, Parts, EffectDone, forksAfter, PerformReady, Performed, SettleReady, Settled, CoreSettled, begunTallies, StepDone, StartReady, Started}
+use Rattle.level_managers.proofs.Laws.Ready.{represents-quiescent, represents-runs, waits-some, start-ready, busy-settles, effect-ready, settle-after}
 use Rattle.level_managers.proofs.Laws.Script.{Blank, RunsAt, ScriptStep}
-use Rattle.level_managers.proofs.Laws.Step.{says-live, says-start, says-advance, rest-effect}
+use Rattle.level_managers.proofs.Laws.Step.{invariant-live, invariant-start, invariant-advance, rest-effect}
 
 -- a fork that is made, with the stamp and the depth that were read of its maker's
 module _ (tallies queue : List ℕ) (l forks u depth stamp : ℕ) (deep : (n : ℕ) → runningFork n tallies queue l .depth ≡ depth) (stamped : (n : ℕ) → runningFork n tallies queue l .stamp ≡ stamp) where
@@ -63,13 +63,13 @@ module _ (tallies queue : List ℕ) (l forks u depth stamp : ℕ) (deep : (n : �
 
   -- one that is dropped: its row is not made, and nothing changes
   pub forked-dropped : (carried child : ℕ) (message : Message) → child ≡ childStamp stamp depth (forks + 1) → Fits (depth + 1) message → carried < 65536 → ForkReady tallies queue l forks u → (dropped : Bool) → ((n : ℕ) → isDropped (startedOf tallies u) (forksAt n queue u (startedOf tallies u) (getD tallies (waitingPlace u) 0)) child ≡ dropped) → dropped ≡ true → Forked tallies tallies queue queue l carried forks u message
-  forked-dropped carried child message is fits small f dropped asked said =
+  forked-dropped carried child message is fits small f dropped asked represented =
       let r = row-there queue l (getD tallies l 0) child (depth + 1) carried message (f .there .level) fits small in
       record {
         row = r .row;
         child = λ n h k. rw (deep n, stamped n, sym is) (r .holds n h k);
         count = getD tallies (waitingPlace u) 0;
-        arrived = dropped-arrives 0 queue u (startedOf tallies u) (getD tallies (waitingPlace u) 0) (r .row) (f .room) (r .wide) (rw (r .key) (asked 0 ∙ said));
+        arrived = dropped-arrives 0 queue u (startedOf tallies u) (getD tallies (waitingPlace u) 0) (r .row) (f .room) (r .wide) (rw (r .key) (asked 0 ∙ represented));
         tallies-are = sym (set-getD tallies (waitingPlace u) 0);
       }
 
@@ -177,7 +177,7 @@ unfolding managerOf
 settled-of m z = z _
 
 -- a manager's write stamp fits 16 bits
-pub held-fits : {s : List ℕ} {m : code.Manager} → Held s m → m .core .first + m .core .forks < 2 ^ 16
+pub held-fits : {s : List ℕ} {m : code.Manager} → WellFormed s m → m .core .first + m .core .forks < 2 ^ 16
 held-fits h = omega (arith, h .forked, h .fits)
 
 -- what a step did outside is done, and leaves room for its history
@@ -206,28 +206,28 @@ module _ (s index ended tallies queue : List ℕ) (l : ℕ) (message : Message) 
   pub begun : (ended' tallies' : List ℕ) (m : Manager) → m ≡ started (programOf s) l (getD tallies (nextPlace l) 0) message → Settled ended ended' (begunTallies tallies l) tallies' queue l m → Started s ended ended' tallies tallies' queue l m
   begun ended' tallies' m made settled = record { manager = rw (is 0) made; settled = settled }
 
-abbrev accepted : {s masks index : List ℕ} → Read s masks index → verdictOf s ≡ Accepted
+abbrev accepted : {s masks index : List ℕ} → Tables s masks index → verdictOf s ≡ Accepted
 accepted a = a .indexed .accepted
 
--- the words say a state that a run reaches, in which level l may step; m is the manager that runs there, if one does
+-- the words represent a state that a run reaches, in which level l may step; m is the manager that runs there, if one does
 pub record Stepping (s : List ℕ) (w : Words) (l : ℕ) (m : code.Manager) (ms : ℕ → Manager) (st : State) : Type 0 where
-  pub says : Says s w ms st
+  pub invariant : RunInvariant s w ms st
   pub allowed : stepRefusal (programOf s) st l ≡ 0
   pub held : ms l ≡ managerOf m
 
 abbrev pub MayStep : List ℕ → Words → ℕ → code.Manager → Type 0
 MayStep s w l m = (ms : ℕ → Manager) × ((st : State) × Stepping s w l m ms st)
 
--- the words then say the state after a scheduler step at level l, with r for the manager that runs there; nothing is kept of what it has
+-- the words then represent the state after a scheduler step at level l, with r for the manager that runs there; nothing is kept of what it has
 -- read, and the work slice is as it was beyond the versions
-pub record StepSaid (s : List ℕ) (l : ℕ) (m : code.Manager) (w w' : Words) (seen' : List ℕ) (r : code.Manager) : Type 0 where
-  pub says : (ms : ℕ → Manager) (st : State) → Stepping s w l m ms st → Says s w' (placed l (managerOf r) ms) (stepAt (programOf s) l st)
-  pub held : Held s r
-  pub blank : Blank seen'
+pub record StepRepresented (s : List ℕ) (l : ℕ) (m : code.Manager) (w w' : Words) (cache' : List ℕ) (r : code.Manager) : Type 0 where
+  pub invariant : (ms : ℕ → Manager) (st : State) → Stepping s w l m ms st → RunInvariant s w' (placed l (managerOf r) ms) (stepAt (programOf s) l st)
+  pub held : WellFormed s r
+  pub blank : Blank cache'
   pub rest : drop workNumbers (w' .work) ≡ drop workNumbers (w .work)
 
 -- a step at level l, which may make one; m is the manager that runs there, if one does
-module _ (s masks index : List ℕ) (w : Words) (l : ℕ) (m : code.Manager) (a : Read s masks index) where
+module _ (s masks index : List ℕ) (w : Words) (l : ℕ) (m : code.Manager) (a : Tables s masks index) where
   abbrev few : levelCount s ≤ maxLevels
   few = level-limit s (accepted a)
 
@@ -237,25 +237,25 @@ module _ (s masks index : List ℕ) (w : Words) (l : ℕ) (m : code.Manager) (a 
   -- the numbers of the level are there
   pub counted-here : MayStep s w l m → (l < maxLevels) × (tallyNumbers ≤ length (w .tallies))
   counted-here may =
-      (omega (arith, few, placed-here (may .0) (may .1 .0) (may .1 .1)), may .1 .1 .says .told .roomy .tallies)
+      (omega (arith, few, placed-here (may .0) (may .1 .0) (may .1 .1)), may .1 .1 .invariant .represents .roomy .tallies)
 
   -- where no manager runs, one starts
   module _ (z : getD (w .tallies) (busyPlace l) 0 ≡ 0) where
-    rests-here : (ms : ℕ → Manager) (st : State) → Stepping s w l m ms st → levelAt st l .activity ≡ idle
-    rests-here ms st q =
-        told-rests (levelCount s) w l (ms l) (levelAt st l) (q .says .told .level l (placed-here ms st q)) z
+    quiescent-here : (ms : ℕ → Manager) (st : State) → Stepping s w l m ms st → levelAt st l .activity ≡ idle
+    quiescent-here ms st q =
+        represents-quiescent (levelCount s) w l (ms l) (levelAt st l) (q .invariant .represents .level l (placed-here ms st q)) z
 
     has-here : (ms : ℕ → Manager) (st : State) → Stepping s w l m ms st → hasManager (levelAt st l) ≡ true
     has-here ms st q = allowed (programOf s) st l (q .allowed) .1 .0
 
     pub start-here : MayStep s w l m → StartReady s index (w .ended) (w .tallies) (w .queue) l
     start-here (ms, (st, q)) =
-        start-ready s (accepted a) few (object-limit s (accepted a)) w ms st (q .says .told) (says-live s (accepted a) w ms st (q .says)) l (placed-here ms st q) index (a .indexed) (rests-here ms st q) (has-here ms st q)
+        start-ready s (accepted a) few (object-limit s (accepted a)) w ms st (q .invariant .represents) (invariant-live s (accepted a) w ms st (q .invariant)) l (placed-here ms st q) index (a .indexed) (quiescent-here ms st q) (has-here ms st q)
 
-    pub start-done : (seen ended' tallies' : List ℕ) (r : code.Manager) → Blank seen → Started s (w .ended) ended' (w .tallies) tallies' (w .queue) l (managerOf r) × Held s r → StepSaid s l m w (record { current = w .current; ended = ended'; tallies = tallies'; queue = w .queue; work = w .work }) seen r
-    start-done seen ended' tallies' r blank (d, held) =
+    pub start-done : (cache ended' tallies' : List ℕ) (r : code.Manager) → Blank cache → Started s (w .ended) ended' (w .tallies) tallies' (w .queue) l (managerOf r) × WellFormed s r → StepRepresented s l m w (record { current = w .current; ended = ended'; tallies = tallies'; queue = w .queue; work = w .work }) cache r
+    start-done cache ended' tallies' r blank (d, held) =
         record {
-          says = λ ms st q. let (x, (xs, e)) = waits-some (levelAt st l) (has-here ms st q) (rests-here ms st q) in says-start s (accepted a) few w ms st (q .says) l (placed-here ms st q) (q .allowed) x xs (rests-here ms st q) e ended' tallies' (managerOf r) d;
+          invariant = λ ms st q. let (x, (xs, e)) = waits-some (levelAt st l) (has-here ms st q) (quiescent-here ms st q) in invariant-start s (accepted a) few w ms st (q .invariant) l (placed-here ms st q) (q .allowed) x xs (quiescent-here ms st q) e ended' tallies' (managerOf r) d;
           held = held;
           blank = blank;
           rest = refl;
@@ -263,7 +263,7 @@ module _ (s masks index : List ℕ) (w : Words) (l : ℕ) (m : code.Manager) (a 
 
 -- m runs at level l, and makes a script step
 pub record Advancing (s masks index : List ℕ) (w : Words) (l : ℕ) (m : code.Manager) : Type 0 where
-  pub read : Read s masks index
+  pub read : Tables s masks index
   pub may : MayStep s w l m
   pub runs : getD (w .tallies) (busyPlace l) 0 ≡ 0 → ⊥
 
@@ -278,8 +278,8 @@ module _ {s masks index : List ℕ} {w : Words} {l : ℕ} {m : code.Manager} (a 
   runs-here : (ms : ℕ → Manager) (st : State) → Stepping s w l m ms st → (x : Fork) × Busy s w l ms st x (managerOf m)
   runs-here ms st q =
       let h = placed-here s masks index w l m (a .read) ms st q in
-      let r = told-runs (levelCount s) w l (ms l) (levelAt st l) (q .says .told .level l h) (a .runs) in
-      (r .0, record { says = q .says; present = h; runs = r .1 ∙ ap (busy (r .0)) (q .held) })
+      let r = represents-runs (levelCount s) w l (ms l) (levelAt st l) (q .invariant .represents .level l h) (a .runs) in
+      (r .0, record { invariant = q .invariant; present = h; runs = r .1 ∙ ap (busy (r .0)) (q .held) })
 
   x₀ : Fork
   x₀ = runs-here ms₀ st₀ (a .may .1 .1) .0
@@ -291,8 +291,8 @@ module _ {s masks index : List ℕ} {w : Words} {l : ℕ} {m : code.Manager} (a 
   pub busy-here : RunsAt s w l m
   busy-here = record { running = ms₀; state = st₀; fork = x₀; busy = busy₀ }
 
-  live₀ : Live s st₀
-  live₀ = says-live s (accepted (a .read)) w ms₀ st₀ (busy₀ .says)
+  live₀ : ReachedState s st₀
+  live₀ = invariant-live s (accepted (a .read)) w ms₀ st₀ (busy₀ .invariant)
 
   -- its write stamp is counted by its forks
   stamped₀ : managerOf m .stamp ≡ managerOf m .first + managerOf m .forks
@@ -301,13 +301,13 @@ module _ {s masks index : List ℕ} {w : Words} {l : ℕ} {m : code.Manager} (a 
 
   settles₀ : SettleReady (w .ended) (w .tallies) (w .queue) l
   settles₀ =
-      busy-settles s (accepted (a .read)) (level-limit s (accepted (a .read))) (object-limit s (accepted (a .read))) w ms₀ st₀ (busy₀ .says .told) live₀ l (busy₀ .present) x₀ (managerOf m) (busy₀ .runs)
+      busy-settles s (accepted (a .read)) (level-limit s (accepted (a .read))) (object-limit s (accepted (a .read))) w ms₀ st₀ (busy₀ .invariant .represents) live₀ l (busy₀ .present) x₀ (managerOf m) (busy₀ .runs)
 
 abbrev pub partsOf : Words → Parts
 partsOf w = record { current = w .current; tallies = w .tallies; queue = w .queue; work = w .work }
 
--- the script step gave r: so its effect can be made, then its history kept; the words then say the state after the step
-module _ {s masks index : List ℕ} {w : Words} {l : ℕ} {seen' : List ℕ} {m r : code.Manager} (v : Advancing s masks index w l m) (made : ScriptStep s w l seen' m r) where
+-- the script step gave r: so its effect can be made, then its history kept; the words then represent the state after the step
+module _ {s masks index : List ℕ} {w : Words} {l : ℕ} {cache' : List ℕ} {m r : code.Manager} (v : Advancing s masks index w l m) (made : ScriptStep s w l cache' m r) where
   abbrev n : Stepped
   n = steppedOf r
 
@@ -318,17 +318,17 @@ module _ {s masks index : List ℕ} {w : Words} {l : ℕ} {seen' : List ℕ} {m 
   done-performs =
       let yes = accepted (v .read) in
       performs (programOf s) (readAt (programOf s) (st₀ v) l (x₀ v)) (managerOf m) r step₀ (w .current) (w .tallies) (w .queue) (w .work) l
-      (effect-ready s yes (level-limit s yes) (object-limit s yes) w (ms₀ v) (st₀ v) (busy₀ v .says .told) (live₀ v) l (busy₀ v .present) (x₀ v) (managerOf m) (busy₀ v .runs) (readAt (programOf s) (st₀ v) l (x₀ v)) (n .effect) (ap (λ n. n .effect) step₀))
+      (effect-ready s yes (level-limit s yes) (object-limit s yes) w (ms₀ v) (st₀ v) (busy₀ v .invariant .represents) (live₀ v) l (busy₀ v .present) (x₀ v) (managerOf m) (busy₀ v .runs) (readAt (programOf s) (st₀ v) l (x₀ v)) (n .effect) (ap (λ n. n .effect) step₀))
       (held-fits (made .held))
 
   pub done-settles : SettleReady (w .ended) (w .tallies) (w .queue) l
   done-settles = settles₀ v
 
-  pub step-said : {w' : Words} → StepDone w w' l (r .core) → StepSaid s l m w w' seen' r
-  step-said {w'} d =
+  pub step-represented : {w' : Words} → StepDone w w' l (r .core) → StepRepresented s l m w w' cache' r
+  step-represented {w'} d =
       let yes = accepted (v .read) in
       record {
-        says = λ ms st q. let (x, b) = runs-here v ms st q in says-advance s yes (level-limit s yes) w ms st (q .says) l (b .present) (q .allowed) x (managerOf m) (b .runs) n (made .is ms st x b) p (w' .ended) (w' .tallies) done (settled-of r (d .settled));
+        invariant = λ ms st q. let (x, b) = runs-here v ms st q in invariant-advance s yes (level-limit s yes) w ms st (q .invariant) l (b .present) (q .allowed) x (managerOf m) (b .runs) n (made .is ms st x b) p (w' .ended) (w' .tallies) done (settled-of r (d .settled));
         held = made .held;
         blank = made .blank;
         rest = rest-effect (partsOf w) p l (managerOf m .stamp) (managerOf m .forks) (n .effect) done;

@@ -23,22 +23,22 @@ use Rattle.model.specs.History.{History, endBefore}
 use Rattle.model.specs.Level.{Version, newestTo}
 use Rattle.model.specs.Step.{State, levelAt, readBound, readAt}
 use Rattle.model.proofs.Laws.Safe.Reads.{read-own, read-below}
-use Rattle.model.proofs.Laws.Code.Live.{Live}
+use Rattle.model.proofs.Laws.Code.Reached.{ReachedState}
 use Rattle.model.proofs.Laws.Code.Needs.{live-ends, live-versions, live-falling}
 use Rattle.records.specs.Histories.{historiesAt}
 use Rattle.versions.specs.Log.{maxVersions, logStart, logOf, Within}
 use Rattle.versions.specs.Order.{StampsRise}
 use Rattle.versions.proofs.Laws.Order.{stamps-rise}
 use Rattle.tallies.specs.Places.{versionsPlace}
-use Rattle.level_managers.specs.Kept.{Words, LevelTold}
+use Rattle.level_managers.specs.Representation.{Words, LevelRepresents}
 use Rattle.level_managers.specs.Steps.{Busy, IsBusy, runningFork, BoundReady, boundIn, foundIn, ReadIs}
-use Rattle.level_managers.proofs.Laws.Ready.{told-fork, busy-settles}
-use Rattle.level_managers.proofs.Laws.Step.{says-live}
+use Rattle.level_managers.proofs.Laws.Ready.{represents-fork, busy-settles}
+use Rattle.level_managers.proofs.Laws.Step.{invariant-live}
 
 -- the bound at level j of the manager that runs at level l: what its fork carries for j, or an end stamp there
 module _ {ended tallies queue : List ℕ} {l j : ℕ} (q : BoundReady ended tallies queue l j) where
   -- a write stamp that it carries is the bound
-  pub bound-carried : {c : ℕ} → ((n : ℕ) → j < n → getD (runningFork n tallies queue l .seen) j 0 ≡ c) → (c ≡ 0 → ⊥) → (n : ℕ) → j < n → boundIn n ended tallies queue l j ≡ c
+  pub bound-carried : {c : ℕ} → ((n : ℕ) → j < n → getD (runningFork n tallies queue l .carried) j 0 ≡ c) → (c ≡ 0 → ⊥) → (n : ℕ) → j < n → boundIn n ended tallies queue l j ≡ c
   bound-carried {c = c} carries z n h = rw (carries n h, ne-eqb c 0 z) refl
 
   -- where it carries none, the end stamp is, and fits 16 bits
@@ -46,38 +46,38 @@ module _ {ended tallies queue : List ℕ} {l j : ℕ} (q : BoundReady ended tall
     pub bound-fits : r < 2 ^ 16
     bound-fits = rw (is, sym (stamped 0)) (q .fits)
 
-    pub bound-ended : {c : ℕ} → ((n : ℕ) → j < n → getD (runningFork n tallies queue l .seen) j 0 ≡ c) → c ≡ 0 → (n : ℕ) → j < n → boundIn n ended tallies queue l j ≡ r
+    pub bound-ended : {c : ℕ} → ((n : ℕ) → j < n → getD (runningFork n tallies queue l .carried) j 0 ≡ c) → c ≡ 0 → (n : ℕ) → j < n → boundIn n ended tallies queue l j ≡ r
     bound-ended {c = c} carries z n h = rw (carries n h, eq-eqb c 0 z, stamped n) (sym is)
 
--- the words say a state in which m, of fork x, runs at level l; j is any level
+-- the words represent a state in which m, of fork x, runs at level l; j is any level
 module _ {s masks : List ℕ} (a : Leveled s masks) {w : Words} {l : ℕ} {ms : ℕ → Manager} {st : State} {x : Fork} {m : Manager} (b : Busy s w l ms st x m) {j : ℕ} (h : j < levelCount s) where
-  abbrev level-told : LevelTold (levelCount s) w j (ms j) (levelAt st j)
-  level-told = b .says .told .level j h
+  abbrev level-represents : LevelRepresents (levelCount s) w j (ms j) (levelAt st j)
+  level-represents = b .invariant .represents .level j h
 
-  live : Live s st
-  live = says-live s (a .accepted) w ms st (b .says)
+  live : ReachedState s st
+  live = invariant-live s (a .accepted) w ms st (b .invariant)
 
   ended-are : historiesAt (w .ended) j (getD (w .tallies) j 0) ≡ levelAt st j .ended
-  ended-are = ap (historiesAt (w .ended) j) (level-told .ended-count) ∙ level-told .ended
+  ended-are = ap (historiesAt (w .ended) j) (level-represents .ended-count) ∙ level-represents .ended
 
   versions-are : logOf (w .work) (logStart j) (getD (w .tallies) (versionsPlace j) 0) ≡ levelAt st j .versions
-  versions-are = ap (logOf (w .work) (logStart j)) (level-told .version-count) ∙ level-told .versions
+  versions-are = ap (logOf (w .work) (logStart j)) (level-represents .version-count) ∙ level-represents .versions
 
   -- so the bound is the definition's
   bound-is : boundIn (levelCount s) (w .ended) (w .tallies) (w .queue) l j ≡ readBound x st j
   bound-is =
-      ap₂ (λ (y : Fork) (hs : List History). cond (eqb (getD (y .seen) j 0) 0) (endBefore (y .stamp) hs) (getD (y .seen) j 0))
-      (told-fork (levelCount s) w l (ms l) (levelAt st l) (b .says .told .level l (b .present)) x m (b .runs))
+      ap₂ (λ (y : Fork) (hs : List History). cond (eqb (getD (y .carried) j 0) 0) (endBefore (y .stamp) hs) (getD (y .carried) j 0))
+      (represents-fork (levelCount s) w l (ms l) (levelAt st l) (b .invariant .represents .level l (b .present)) x m (b .runs))
       ended-are
 
   bound-there : BoundReady (w .ended) (w .tallies) (w .queue) l j
   bound-there =
       let small : j < maxLevels = omega (arith, h, level-limit s (a .accepted)) in
       record {
-        there = busy-settles s (a .accepted) (level-limit s (a .accepted)) (object-limit s (a .accepted)) w ms st (b .says .told) live l (b .present) x m (b .runs) .there;
+        there = busy-settles s (a .accepted) (level-limit s (a .accepted)) (object-limit s (a .accepted)) w ms st (b .invariant .represents) live l (b .present) x m (b .runs) .there;
         level = small;
-        histories = record { room = b .says .told .roomy .ended; level = small; count = b .says .told .counts-few j small; rises = rw ended-are (level-told .ended-rises) };
-        counted = b .says .told .roomy .tallies;
+        histories = record { room = b .invariant .represents .roomy .ended; level = small; count = b .invariant .represents .counts-few j small; rises = rw ended-are (level-represents .ended-rises) };
+        counted = b .invariant .represents .roomy .tallies;
         fits = rw ended-are (live-ends s (a .accepted) st live j h (runningFork 0 (w .tallies) (w .queue) l .stamp));
       }
 
@@ -85,9 +85,9 @@ module _ {s masks : List ℕ} (a : Leveled s masks) {w : Words} {l : ℕ} {ms : 
   versions-there k hk =
       record {
         level-present = bound-there .level;
-        fits = omega (arith, level-told .version-count, live-versions s (a .accepted) st live j h);
+        fits = omega (arith, level-represents .version-count, live-versions s (a .accepted) st live j h);
         field-fits = hk;
-        long = b .says .told .roomy .work;
+        long = b .invariant .represents .roomy .work;
       }
 
   versions-rise : StampsRise (w .work) (logStart j) (getD (w .tallies) (versionsPlace j) 0)
@@ -112,7 +112,7 @@ module _ {s masks : List ℕ} (a : Leveled s masks) {w : Words} {l : ℕ} {ms : 
 -- at its level a manager reads the current fields
 pub read-here : {s : List ℕ} {w : Words} {l : ℕ} {ms : ℕ → Manager} {st : State} {x : Fork} {m : Manager} → Busy s w l ms st x m → (o k : ℕ) → o < objectCount s → k < fields → levelOf s o ≡ l → readAt (programOf s) st l x o k ≡ fieldAt (w .current) o k
 unfolding programOf
-read-here {s} {w} {l} {ms} {st} {x} b o k ho hk e = read-own (programOf s) st l x o k e ∙ sym (b .says .told .field o k ho hk)
+read-here {s} {w} {l} {ms} {st} {x} b o k ho hk e = read-own (programOf s) st l x o k e ∙ sym (b .invariant .represents .field o k ho hk)
 
 -- a read of field k of object o, which lies at level j
 module _ {s masks : List ℕ} (a : Leveled s masks) {w : Words} {l : ℕ} (q : IsBusy s w l) {o k : ℕ} (here : (o < objectCount s) × (k < fields)) {j : ℕ} (lies : j ≡ levelOf s o) where
@@ -123,7 +123,7 @@ module _ {s masks : List ℕ} (a : Leveled s masks) {w : Words} {l : ℕ} (q : I
   pub read-there : FieldThere (w .current) o k
   read-there =
       record {
-        room = q .1 .1 .1 .1 .says .told .roomy .current;
+        room = q .1 .1 .1 .1 .invariant .represents .roomy .current;
         object = omega (arith, here .0, object-limit s (a .accepted));
         field = here .1;
       }

@@ -22,13 +22,13 @@ use Rattle.model.specs.Limits.{maxManagers}
 use Rattle.model.specs.Fork.{Fork}
 use Rattle.model.specs.Level.{Activity, idle, busy, Level, isBusy, isEmpty, hasManager}
 use Rattle.model.specs.Step.{State, levelAt}
-use Rattle.model.proofs.Laws.Code.Live.{Live}
+use Rattle.model.proofs.Laws.Code.Reached.{ReachedState}
 use Rattle.model.proofs.Laws.Code.Needs.{live-startable, live-write, live-fork}
 use Rattle.queues.specs.Queue.{forkOfRow, forkAt}
 use Rattle.tallies.specs.Places.{waitingPlace, versionsPlace, busyPlace}
-use Rattle.level_managers.specs.Kept.{Words, Runs, LevelTold, Roomy, Told}
+use Rattle.level_managers.specs.Representation.{Words, Runs, LevelRepresents, Roomy, Represents}
 use Rattle.level_managers.specs.Steps.{Parts, runningFork, EffectReady, EffectDone, SettleReady, StartReady}
-use Rattle.level_managers.proofs.Laws.Told.{Limited, started-is, busy-fewer}
+use Rattle.level_managers.proofs.Laws.Representation.{Limited, started-is, busy-fewer}
 use Rattle.level_managers.proofs.Laws.Settle.{stamp-any}
 use Rattle.level_managers.proofs.Laws.Begin.{first-fork}
 use Rattle.level_managers.proofs.Laws.Advance.{live-limited}
@@ -42,24 +42,24 @@ unfolding forkAt forkOfRow
 message-any n k ws l i = refl
 
 -- whether a manager runs at a level, by what is counted
-module _ (n : ℕ) (w : Words) (l : ℕ) (m : Manager) (v : Level) (t : LevelTold n w l m v) where
-  pub told-rests : getD (w .tallies) (busyPlace l) 0 ≡ 0 → v .activity ≡ idle
-  told-rests z = by (v .activity) refl (t .activity)
+module _ (n : ℕ) (w : Words) (l : ℕ) (m : Manager) (v : Level) (t : LevelRepresents n w l m v) where
+  pub represents-quiescent : getD (w .tallies) (busyPlace l) 0 ≡ 0 → v .activity ≡ idle
+  represents-quiescent z = by (v .activity) refl (t .activity)
     where
       by : (a : Activity) → v .activity ≡ a → Runs n w l m (length (v .ended)) a → v .activity ≡ idle
       by idle e r = e
       by (busy x y) e r = absurd (omega (arith, z, r .0))
 
-  pub told-runs : (getD (w .tallies) (busyPlace l) 0 ≡ 0 → ⊥) → (x : Fork) × (v .activity ≡ busy x m)
-  told-runs z = by (v .activity) refl (t .activity)
+  pub represents-runs : (getD (w .tallies) (busyPlace l) 0 ≡ 0 → ⊥) → (x : Fork) × (v .activity ≡ busy x m)
+  represents-runs z = by (v .activity) refl (t .activity)
     where
       by : (a : Activity) → v .activity ≡ a → Runs n w l m (length (v .ended)) a → (x : Fork) × (v .activity ≡ busy x m)
       by idle e r = absurd (z r)
       by (busy x y) e r = (x, e ∙ ap (busy x) (sym (r .1 .0)))
 
   -- the fork of the manager that runs
-  pub told-fork : (x : Fork) (y : Manager) → v .activity ≡ busy x y → runningFork n (w .tallies) (w .queue) l ≡ x
-  told-fork x y e = ap (forkAt n (w .queue) l) (t .ended-count) ∙ by (v .activity) e (t .activity)
+  pub represents-fork : (x : Fork) (y : Manager) → v .activity ≡ busy x y → runningFork n (w .tallies) (w .queue) l ≡ x
+  represents-fork x y e = ap (forkAt n (w .queue) l) (t .ended-count) ∙ by (v .activity) e (t .activity)
     where
       by : (a : Activity) → a ≡ busy x y → Runs n w l m (length (v .ended)) a → forkAt n (w .queue) l (length (v .ended)) ≡ x
       by a e r = let z : Runs n w l m (length (v .ended)) (busy x y) = rw e at r in z .1 .1
@@ -88,12 +88,12 @@ waits-some v h e = by (v .waiting) refl
     by (x ∷ xs) q = (x, (xs, q))
 
 -- what is counted of level l, and the length of the queue, after an effect
-record Steady (a b : Parts) (l : ℕ) : Type 0 where
+record SameCounts (a b : Parts) (l : ℕ) : Type 0 where
   ended-count : getD (b .tallies) l 0 ≡ getD (a .tallies) l 0
   tallies-long : length (b .tallies) ≡ length (a .tallies)
   queue-long : length (b .queue) ≡ length (a .queue)
 
-effect-steady : (a b : Parts) (l stamp forks : ℕ) (e : Effect) → l < maxLevels → EffectDone a b l stamp forks e → Steady a b l
+effect-steady : (a b : Parts) (l stamp forks : ℕ) (e : Effect) → l < maxLevels → EffectDone a b l stamp forks e → SameCounts a b l
 effect-steady a b l stamp forks effect.Nothing h d =
     record { ended-count = ap (λ p. getD (p .tallies) l 0) d; tallies-long = ap (λ p. length (p .tallies)) d; queue-long = ap (λ p. length (p .queue)) d }
 effect-steady a b l stamp forks (effect.Write o k v) h d =
@@ -120,7 +120,7 @@ settle-after a b ended l stamp forks e d r =
       counted = rw (z .tallies-long) (r .counted);
     }
 
-module _ (s : List ℕ) (a : verdictOf s ≡ Accepted) (few : levelCount s ≤ maxLevels) (few-objects : objectCount s ≤ maxObjects) (w : Words) (ms : ℕ → Manager) (st : State) (t : Told s w ms st) (i : Live s st) (l : ℕ) (h : l < levelCount s) where
+module _ (s : List ℕ) (a : verdictOf s ≡ Accepted) (few : levelCount s ≤ maxLevels) (few-objects : objectCount s ≤ maxObjects) (w : Words) (ms : ℕ → Manager) (st : State) (t : Represents s w ms st) (i : ReachedState s st) (l : ℕ) (h : l < levelCount s) where
   abbrev v : Level
   v = levelAt st l
 
@@ -129,13 +129,13 @@ module _ (s : List ℕ) (a : verdictOf s ≡ Accepted) (few : levelCount s ≤ m
 
   -- a fork that waits can start
   pub start-ready : (index : List ℕ) → Indexed s index → v .activity ≡ idle → hasManager v ≡ true → StartReady s index (w .ended) (w .tallies) (w .queue) l
-  start-ready index indexed rests has = by (waits-some v has rests)
+  start-ready index indexed quiescent has = by (waits-some v has quiescent)
     where
       by : (x : Fork) × ((xs : List Fork) × (v .waiting ≡ x ∷ xs)) → StartReady s index (w .ended) (w .tallies) (w .queue) l
       by (x, (xs, e)) =
           record {
             indexed = indexed;
-            startable = rw (message-any 0 (levelCount s) (w .queue) l (getD (w .tallies) l 0), ap (forkAt (levelCount s) (w .queue) l) (t .level l h .ended-count), first-fork s w ms st t limits few l h x xs rests e m, t .level l h .next) (live-startable s a st i l h x xs e);
+            startable = rw (message-any 0 (levelCount s) (w .queue) l (getD (w .tallies) l 0), ap (forkAt (levelCount s) (w .queue) l) (t .level l h .ended-count), first-fork s w ms st t limits few l h x xs quiescent e m, t .level l h .next) (live-startable s a st i l h x xs e);
             waits = omega (arith, t .level l h .waiting-count, ap length e);
             settles = settle-ready (levelCount s) w l (ms l) v (t .level l h) (t .roomy) (omega (arith, h, few)) (omega (arith, limits l h .managers, ap length e));
           }
@@ -147,12 +147,12 @@ module _ (s : List ℕ) (a : verdictOf s ≡ Accepted) (few : levelCount s ≤ m
     running : runningFork 0 (w .tallies) (w .queue) l .stamp ≡ x .stamp
     running =
         stamp-any 0 (levelCount s) (w .queue) l (getD (w .tallies) l 0)
-        ∙ ap (λ y. y .stamp) (told-fork (levelCount s) w l (ms l) v (t .level l h) x m runs)
+        ∙ ap (λ y. y .stamp) (represents-fork (levelCount s) w l (ms l) v (t .level l h) x m runs)
 
     deep : runningFork 0 (w .tallies) (w .queue) l .depth ≡ x .depth
     deep =
         depth-any 0 (levelCount s) (w .queue) l (getD (w .tallies) l 0)
-        ∙ ap (λ y. y .depth) (told-fork (levelCount s) w l (ms l) v (t .level l h) x m runs)
+        ∙ ap (λ y. y .depth) (represents-fork (levelCount s) w l (ms l) v (t .level l h) x m runs)
 
     pub busy-settles : SettleReady (w .ended) (w .tallies) (w .queue) l
     busy-settles =

@@ -21,7 +21,7 @@ use Rattle.queues.specs.Queue.{forkAt}
 use Rattle.queues.proofs.Laws.Queue.{fork-apart}
 use Rattle.versions.specs.Log.{maxVersions, logStart, logOf}
 use Rattle.tallies.specs.Places.{waitingPlace, versionsPlace}
-use Rattle.level_managers.specs.Kept.{Words}
+use Rattle.level_managers.specs.Representation.{Words}
 use Rattle.level_managers.specs.Steps.{foundIn, Wrote, Forked}
 
 -- field k of object o is read at level j, another than that of the manager, l
@@ -32,14 +32,14 @@ module _ (s : List ℕ) (w : Words) (l : ℕ) (low : l < maxLevels) (o k : ℕ) 
   -- it depends on the manager's fork, the histories and the versions of level j
   abbrev readBy : Fork → ℕ → List Version → Value
   readBy x ended vs =
-      newestTo (cond (eqb (getD (x .seen) j 0) 0) (endBefore (x .stamp) (historiesAt (w .ended) j ended)) (getD (x .seen) j 0)) (fieldOf s o k) o k vs
+      newestTo (cond (eqb (getD (x .carried) j 0) 0) (endBefore (x .stamp) (historiesAt (w .ended) j ended)) (getD (x .carried) j 0)) (fieldOf s o k) o k vs
 
   -- where these are the same, so is what is read
   same : (x x' : Fork) (n n' : ℕ) (vs vs' : List Version) → x' ≡ x → n' ≡ n → vs' ≡ vs → readBy x' n' vs' ≡ readBy x n vs
   same x x' n n' vs vs' e1 e2 e3 = rw (e1, e2, e3) refl
 
-  pub write-recalls : (current' tallies' work' : List ℕ) (stamp object i : ℕ) (v : Value) → Wrote (w .current) current' (w .tallies) tallies' (w .work) work' l stamp object i v → getD (w .tallies) (versionsPlace j) 0 ≤ maxVersions → foundIn s (record { current = current'; ended = w .ended; tallies = tallies'; queue = w .queue; work = work' }) l o k ≡ foundIn s w l o k
-  write-recalls current' tallies' work' stamp object i v d few =
+  pub write-known-read : (current' tallies' work' : List ℕ) (stamp object i : ℕ) (v : Value) → Wrote (w .current) current' (w .tallies) tallies' (w .work) work' l stamp object i v → getD (w .tallies) (versionsPlace j) 0 ≤ maxVersions → foundIn s (record { current = current'; ended = w .ended; tallies = tallies'; queue = w .queue; work = work' }) l o k ≡ foundIn s w l o k
+  write-known-read current' tallies' work' stamp object i v d few =
       let other : (at : ℕ) → (at ≡ versionsPlace l → ⊥) → getD tallies' at 0 ≡ getD (w .tallies) at 0 = λ at z. ap (λ t. getD t at 0) (d .count) ∙ getD-set-other (w .tallies) (versionsPlace l) at _ 0 z in
       let count = other (versionsPlace j) (λ e. apart (omega (arith, e))) in
       same _ _ _ _ _ _
@@ -47,8 +47,8 @@ module _ (s : List ℕ) (w : Words) (l : ℕ) (low : l < maxLevels) (o k : ℕ) 
       (other j (λ e. omega (arith, e, low, placed)))
       (ap (logOf work' (logStart j)) count ∙ d .version .others j (getD (w .tallies) (versionsPlace j) 0) apart few)
 
-  pub fork-recalls : (tallies' queue' : List ℕ) (stamp forks u : ℕ) (message : Message) → Forked (w .tallies) tallies' (w .queue) queue' l stamp forks u message → u < maxLevels → (l ≡ u → ⊥) → getD (w .tallies) l 0 < maxManagers → foundIn s (record { current = w .current; ended = w .ended; tallies = tallies'; queue = queue'; work = w .work }) l o k ≡ foundIn s w l o k
-  fork-recalls tallies' queue' stamp forks u message d above upward few =
+  pub fork-known-read : (tallies' queue' : List ℕ) (stamp forks u : ℕ) (message : Message) → Forked (w .tallies) tallies' (w .queue) queue' l stamp forks u message → u < maxLevels → (l ≡ u → ⊥) → getD (w .tallies) l 0 < maxManagers → foundIn s (record { current = w .current; ended = w .ended; tallies = tallies'; queue = queue'; work = w .work }) l o k ≡ foundIn s w l o k
+  fork-known-read tallies' queue' stamp forks u message d above upward few =
       let other : (at : ℕ) → (at ≡ waitingPlace u → ⊥) → getD tallies' at 0 ≡ getD (w .tallies) at 0 = λ at z. ap (λ t. getD t at 0) (d .tallies-are) ∙ getD-set-other (w .tallies) (waitingPlace u) at _ 0 z in
       same _ _ _ _ _ _
       (ap (forkAt (levelCount s) queue' l) (other l (λ e. omega (arith, e, low)))

@@ -24,9 +24,9 @@ use Rattle.records.specs.Histories.{historiesAt, InOrder, historyOf}
 use Rattle.queues.specs.Queue.{forkOfRow, forkAt, forksAt}
 use Rattle.tallies.specs.Places.{nextPlace, waitingPlace, versionsPlace, busyPlace, tallyNumbers, tallied}
 use Rattle.tallies.proofs.Laws.Closed.{tallied-length, tallied-other, tallied-count, tallied-next}
-use Rattle.level_managers.specs.Kept.{Words, Runs, LevelTold, Told, placed}
+use Rattle.level_managers.specs.Representation.{Words, Runs, LevelRepresents, Represents, placed}
 use Rattle.level_managers.specs.Steps.{Closed, Settled}
-use Rattle.level_managers.proofs.Laws.Told.{Limited, SameAt, busy-fewer, field-kept, told-change}
+use Rattle.level_managers.proofs.Laws.Representation.{Limited, SameAt, busy-fewer, field-kept, represents-change}
 
 -- a fork's stamp, whatever the number of levels
 pub stamp-any : (n k : ℕ) (ws : List ℕ) (l i : ℕ) → forkAt n ws l i .stamp ≡ forkAt k ws l i .stamp
@@ -68,7 +68,7 @@ placed-own l m ms = rw (eq-eqb l l refl) refl
 pub placed-other : (l : ℕ) (m : Manager) (ms : ℕ → Manager) (k : ℕ) → (k ≡ l → ⊥) → placed l m ms k ≡ ms k
 placed-other l m ms k d = rw (ne-eqb k l d) refl
 
-module _ (s : List ℕ) (w : Words) (ms : ℕ → Manager) (st : State) (t : Told s w ms st) (b : (k : ℕ) → k < levelCount s → Limited (levelAt st k)) (few : levelCount s ≤ maxLevels) (l : ℕ) (h : l < levelCount s) (x : Fork) (y : Manager) (runs : levelAt st l .activity ≡ busy x y) (ended' tallies' : List ℕ) (m : Manager) where
+module _ (s : List ℕ) (w : Words) (ms : ℕ → Manager) (st : State) (t : Represents s w ms st) (b : (k : ℕ) → k < levelCount s → Limited (levelAt st k)) (few : levelCount s ≤ maxLevels) (l : ℕ) (h : l < levelCount s) (x : Fork) (y : Manager) (runs : levelAt st l .activity ≡ busy x y) (ended' tallies' : List ℕ) (m : Manager) where
   abbrev pub wordsSettled : Words
   wordsSettled =
       record { current = w .current; ended = ended'; tallies = tallies'; queue = w .queue; work = w .work }
@@ -114,7 +114,7 @@ module _ (s : List ℕ) (w : Words) (ms : ℕ → Manager) (st : State) (t : Tol
     waiting-at : forksAt n (w .queue) l (length (v .ended) + 1) (length (v .waiting)) ≡ v .waiting
     waiting-at = ap (λ k. forksAt n (w .queue) l k (length (v .waiting))) (sym started) ∙ t .level l h .waiting
 
-    own-running : LevelTold n wordsSettled l m (runningOn v x m)
+    own-running : LevelRepresents n wordsSettled l m (runningOn v x m)
     own-running =
         let q = t .level l h in
         record {
@@ -130,9 +130,9 @@ module _ (s : List ℕ) (w : Words) (ms : ℕ → Manager) (st : State) (t : Tol
           activity = (tally (busyPlace l) ∙ was-busy .0, (refl, was-busy .1));
         }
 
-    told-running : Told s wordsSettled (placed l m ms) (modify l settledLevel st)
-    told-running =
-        told-change s w wordsSettled ms (placed l m ms) st t b l h settledLevel
+    represents-running : Represents s wordsSettled (placed l m ms) (modify l settledLevel st)
+    represents-running =
+        represents-change s w wordsSettled ms (placed l m ms) st t b l h settledLevel
         (record {
           current = t .roomy .current;
           ended = rw same-ended (t .roomy .ended);
@@ -219,7 +219,7 @@ module _ (s : List ℕ) (w : Words) (ms : ℕ → Manager) (st : State) (t : Tol
     started-closed : startedCount (closed v x m) ≡ startedCount v
     started-closed = omega (arith, more, started)
 
-    own-closed : LevelTold n wordsSettled l m (closed v x m)
+    own-closed : LevelRepresents n wordsSettled l m (closed v x m)
     own-closed =
         let q = t .level l h in
         record {
@@ -241,9 +241,9 @@ module _ (s : List ℕ) (w : Words) (ms : ℕ → Manager) (st : State) (t : Tol
       | no z ↦ rw (tally-other j z (λ q. omega (arith, q, hj)) (λ q. omega (arith, q, hj))) (t .counts-few j hj)
     ]
 
-    told-closed : Told s wordsSettled (placed l m ms) (modify l settledLevel st)
-    told-closed =
-        told-change s w wordsSettled ms (placed l m ms) st t b l h settledLevel
+    represents-closed : Represents s wordsSettled (placed l m ms) (modify l settledLevel st)
+    represents-closed =
+        represents-change s w wordsSettled ms (placed l m ms) st t b l h settledLevel
         (record {
           current = t .roomy .current;
           ended = rw (c .added .outside .length-same) (t .roomy .ended);
@@ -258,8 +258,8 @@ module _ (s : List ℕ) (w : Words) (ms : ℕ → Manager) (st : State) (t : Tol
         (λ j d. placed-other l m ms j d)
 
   -- the words then say the level after the step
-  pub told-settle : Settled (w .ended) ended' (w .tallies) tallies' (w .queue) l m → Told s wordsSettled (placed l m ms) (modify l settledLevel st)
-  told-settle q = elim (truth (isRunning (m .ending))) [
-    | holds e ↦ told-running e (q .0 e .0) (q .0 e .1)
-    | fails e ↦ told-closed e (q .1 e)
+  pub represents-settle : Settled (w .ended) ended' (w .tallies) tallies' (w .queue) l m → Represents s wordsSettled (placed l m ms) (modify l settledLevel st)
+  represents-settle q = elim (truth (isRunning (m .ending))) [
+    | holds e ↦ represents-running e (q .0 e .0) (q .0 e .1)
+    | fails e ↦ represents-closed e (q .1 e)
   ]

@@ -1,4 +1,4 @@
--- A whole scheduler step: the words say the state after it. Assumes nothing.
+-- A whole scheduler step: the words represent the state after it. Assumes nothing.
 use Prim.Native.Nat.{ℕ, _+_, _-_, _≤_, _<_}
 use mathlib.Core.Path.{_≡_, refl, sym, _∙_, ap, ap₂}
 use mathlib.Core.List.{List, [], _∷_, _++_}
@@ -28,22 +28,22 @@ use Rattle.model.specs.Schedule.{readIn, stepRefusal}
 use Rattle.model.proofs.Laws.Lists.{modify-twice}
 use Rattle.model.proofs.Laws.Order.Accepted.{sound}
 use Rattle.model.proofs.Laws.Code.Direct.{step-start}
-use Rattle.model.proofs.Laws.Code.Live.{Live, present}
+use Rattle.model.proofs.Laws.Code.Reached.{ReachedState, present}
 use Rattle.model.proofs.Laws.Code.Needs.{live-fork}
 use Rattle.model.proofs.Laws.Code.Progress.{clear-stays, leads-more, leads-live}
 use Rattle.queues.specs.Queue.{forkAt}
 use Rattle.tallies.specs.Places.{nextPlace, waitingPlace, versionsPlace, busyPlace, clearPlace}
-use Rattle.level_managers.specs.Kept.{Words, Told, Says, placed}
+use Rattle.level_managers.specs.Representation.{Words, Represents, RunInvariant, placed}
 use Rattle.level_managers.specs.Steps.{Parts, EffectDone, Settled, begunTallies, Started}
-use Rattle.level_managers.proofs.Laws.Told.{Limited, at-own, at-other}
-use Rattle.level_managers.proofs.Laws.Settle.{placed-own, placed-other, told-settle}
-use Rattle.level_managers.proofs.Laws.Begin.{begunLevel, first-fork, told-begin}
-use Rattle.level_managers.proofs.Laws.Advance.{modify-fixed, live-limited, told-state, after-any, told-advance}
+use Rattle.level_managers.proofs.Laws.Representation.{Limited, at-own, at-other}
+use Rattle.level_managers.proofs.Laws.Settle.{placed-own, placed-other, represents-settle}
+use Rattle.level_managers.proofs.Laws.Begin.{begunLevel, first-fork, represents-begin}
+use Rattle.level_managers.proofs.Laws.Advance.{modify-fixed, live-limited, represents-state, after-any, represents-advance}
 use Rattle.level_managers.proofs.Laws.Ready.{message-any}
 
 -- the same managers, one by one
-pub told-held : (s : List ℕ) (w : Words) (ms ms' : ℕ → Manager) (st : State) → ((k : ℕ) → ms' k ≡ ms k) → Told s w ms st → Told s w ms' st
-told-held s w ms ms' st e t =
+pub represents-held : (s : List ℕ) (w : Words) (ms ms' : ℕ → Manager) (st : State) → ((k : ℕ) → ms' k ≡ ms k) → Represents s w ms st → Represents s w ms' st
+represents-held s w ms ms' st e t =
     record {
       roomy = t .roomy;
       counts-few = t .counts-few;
@@ -53,16 +53,16 @@ told-held s w ms ms' st e t =
     }
 
 -- a state that the words say is one that a run reaches
-pub says-live : (s : List ℕ) → verdictOf s ≡ Accepted → (w : Words) (ms : ℕ → Manager) (st : State) → Says s w ms st → Live s st
-says-live s a w ms st y = leads-live s a (y .reached .0) st (y .reached .1)
+pub invariant-live : (s : List ℕ) → verdictOf s ≡ Accepted → (w : Words) (ms : ℕ → Manager) (st : State) → RunInvariant s w ms st → ReachedState s st
+invariant-live s a w ms st y = leads-live s a (y .reached .0) st (y .reached .1)
 
--- the words say the state after an allowed step, where they say it of each level, and note no other answer of question 14
-pub says-step : (s : List ℕ) → verdictOf s ≡ Accepted → (w w' : Words) (ms ms' : ℕ → Manager) (st : State) (l : ℕ) → Says s w ms st → stepRefusal (programOf s) st l ≡ 0 → ((k : ℕ) → k < maxLevels → getD (w' .tallies) (clearPlace k) 0 ≡ getD (w .tallies) (clearPlace k) 0) → levelCount s ≤ maxLevels → Told s w' ms' (stepAt (programOf s) l st) → Says s w' ms' (stepAt (programOf s) l st)
-says-step s a w w' ms ms' st l y ok same few t =
+-- the words represent the state after an allowed step, where they say it of each level, and note no other answer of question 14
+pub invariant-step : (s : List ℕ) → verdictOf s ≡ Accepted → (w w' : Words) (ms ms' : ℕ → Manager) (st : State) (l : ℕ) → RunInvariant s w ms st → stepRefusal (programOf s) st l ≡ 0 → ((k : ℕ) → k < maxLevels → getD (w' .tallies) (clearPlace k) 0 ≡ getD (w .tallies) (clearPlace k) 0) → levelCount s ≤ maxLevels → Represents s w' ms' (stepAt (programOf s) l st) → RunInvariant s w' ms' (stepAt (programOf s) l st)
+invariant-step s a w w' ms ms' st l y ok same few t =
     record {
-      told = t;
+      represents = t;
       reached = (y .reached .0 ++ (l ∷ []), leads-more (programOf s) (readIn (programOf s) (rootOf s)) (y .reached .0) st l (y .reached .1) ok);
-      clear = λ k hk z. clear-stays (programOf s) (sound s a) st (says-live s a w ms st y .reachable .steady .orderly) l k (present s k hk) (y .clear k hk (λ q. z (same k (omega (arith, hk, few)) ∙ q))) ok;
+      clear = λ k hk z. clear-stays (programOf s) (sound s a) st (invariant-live s a w ms st y .reachable .steady .fork-invariant) l k (present s k hk) (y .clear k hk (λ q. z (same k (omega (arith, hk, few)) ∙ q))) ok;
     }
 
 -- what is noted of question 14 stands beside what the stages change
@@ -102,9 +102,9 @@ rest-effect a b l stamp forks effect.Nothing d = ap (λ p. drop workNumbers (p .
 rest-effect a b l stamp forks (effect.Write o i v) d = d .0 .version .rest
 rest-effect a b l stamp forks (effect.Fork u message) d = ap (drop workNumbers) (d .1 .1)
 
-module _ (s : List ℕ) (a : verdictOf s ≡ Accepted) (few : levelCount s ≤ maxLevels) (w : Words) (ms : ℕ → Manager) (st : State) (y : Says s w ms st) (l : ℕ) (h : l < levelCount s) (ok : stepRefusal (programOf s) st l ≡ 0) where
-  abbrev i : Live s st
-  i = says-live s a w ms st y
+module _ (s : List ℕ) (a : verdictOf s ≡ Accepted) (few : levelCount s ≤ maxLevels) (w : Words) (ms : ℕ → Manager) (st : State) (y : RunInvariant s w ms st) (l : ℕ) (h : l < levelCount s) (ok : stepRefusal (programOf s) st l ≡ 0) where
+  abbrev i : ReachedState s st
+  i = invariant-live s a w ms st y
 
   abbrev limits : (k : ℕ) → k < levelCount s → Limited (levelAt st k)
   limits = live-limited s a st i
@@ -113,7 +113,7 @@ module _ (s : List ℕ) (a : verdictOf s ≡ Accepted) (few : levelCount s ≤ m
   v = levelAt st l
 
   -- a step that starts a manager
-  module _ (x : Fork) (xs : List Fork) (rests : v .activity ≡ idle) (waits : v .waiting ≡ x ∷ xs) (ended' tallies' : List ℕ) (m : Manager) (d : Started s (w .ended) ended' (w .tallies) tallies' (w .queue) l m) where
+  module _ (x : Fork) (xs : List Fork) (quiescent : v .activity ≡ idle) (waits : v .waiting ≡ x ∷ xs) (ended' tallies' : List ℕ) (m : Manager) (d : Started s (w .ended) ended' (w .tallies) tallies' (w .queue) l m) where
     abbrev wordsStarted : Words
     wordsStarted =
         record { current = w .current; ended = ended'; tallies = tallies'; queue = w .queue; work = w .work }
@@ -129,19 +129,19 @@ module _ (s : List ℕ) (a : verdictOf s ≡ Accepted) (few : levelCount s ≤ m
     settled v = after v (v .waiting) (v .versions) x m
 
     at-l : levelAt (modify l begun st) l ≡ begun v
-    at-l = at-own s w w ms ms st (y .told) limits l h begun
+    at-l = at-own s w w ms ms st (y .represents) limits l h begun
 
     limits-begun : (k : ℕ) → k < levelCount s → Limited (levelAt (modify l begun st) k)
     limits-begun k hk = elim (ℕ-discrete k l) [
       | yes e ↦
           rw (e, at-l) (record { managers = omega (arith, limits l h .managers, ap length waits); versions = limits l h .versions })
-      | no z ↦ rw (at-other s w w ms ms st (y .told) limits l h begun k z) (limits k hk)
+      | no z ↦ rw (at-other s w w ms ms st (y .represents) limits l h begun k z) (limits k hk)
     ]
 
     manager-is : m ≡ started (programOf s) l (v .next) (x .message)
     manager-is =
         d .manager
-        ∙ ap₂ (started (programOf s) l) (y .told .level l h .next) (message-any 0 (levelCount s) (w .queue) l (getD (w .tallies) l 0) ∙ ap (λ k. forkAt (levelCount s) (w .queue) l k .message) (y .told .level l h .ended-count) ∙ ap (λ x. x .message) (first-fork s w ms st (y .told) limits few l h x xs rests waits m))
+        ∙ ap₂ (started (programOf s) l) (y .represents .level l h .next) (message-any 0 (levelCount s) (w .queue) l (getD (w .tallies) l 0) ∙ ap (λ k. forkAt (levelCount s) (w .queue) l k .message) (y .represents .level l h .ended-count) ∙ ap (λ x. x .message) (first-fork s w ms st (y .represents) limits few l h x xs quiescent waits m))
 
     step-is : modify l settled (modify l begun st) ≡ stepAt (programOf s) l st
     step-is =
@@ -149,7 +149,7 @@ module _ (s : List ℕ) (a : verdictOf s ≡ Accepted) (few : levelCount s ≤ m
         ∙ modify-fixed newLevel l (λ v. settled (begun v)) st
         ∙ ap (λ u. modify l (λ _. u) st) (after-any v (begun v) xs (v .versions) x m refl refl)
         ∙ ap (λ m. modify l (λ _. after v xs (v .versions) x m) st) manager-is
-        ∙ sym (step-start (programOf s) (sound s a) st (i .reachable .steady .orderly) (i .reachable .contained) l (present s l h) x xs rests waits)
+        ∙ sym (step-start (programOf s) (sound s a) st (i .reachable .steady .fork-invariant) (i .reachable .contained) l (present s l h) x xs quiescent waits)
 
     held : (k : ℕ) → placed l m ms k ≡ placed l m (placed l m ms) k
     held k = elim (ℕ-discrete k l) [
@@ -157,13 +157,13 @@ module _ (s : List ℕ) (a : verdictOf s ≡ Accepted) (few : levelCount s ≤ m
       | no e ↦ placed-other l m ms k e ∙ sym (placed-other l m (placed l m ms) k e ∙ placed-other l m ms k e)
     ]
 
-    pub says-start : Says s wordsStarted (placed l m ms) (stepAt (programOf s) l st)
-    says-start =
-        says-step s a w wordsStarted ms (placed l m ms) st l y ok
+    pub invariant-start : RunInvariant s wordsStarted (placed l m ms) (stepAt (programOf s) l st)
+    invariant-start =
+        invariant-step s a w wordsStarted ms (placed l m ms) st l y ok
         (λ k hk. noted-settled (w .ended) ended' (begunTallies (w .tallies) l) tallies' (w .queue) l m k (omega (arith, h, few)) hk (d .settled) ∙ noted-begun (w .tallies) l k (omega (arith, h, few)) hk)
         few
-        (told-state step-is (told-held s wordsStarted (placed l m (placed l m ms)) (placed l m ms) _ held
-        (told-settle s middle (placed l m ms) (modify l begun st) (told-begin s w ms st (y .told) limits few l h x xs rests waits m) limits-begun few l h x m (ap (λ v. v .activity) at-l) ended' tallies' m (d .settled))))
+        (represents-state step-is (represents-held s wordsStarted (placed l m (placed l m ms)) (placed l m ms) _ held
+        (represents-settle s middle (placed l m ms) (modify l begun st) (represents-begin s w ms st (y .represents) limits few l h x xs quiescent waits m) limits-begun few l h x m (ap (λ v. v .activity) at-l) ended' tallies' m (d .settled))))
 
   -- a step that makes a script step
   module _ (x : Fork) (m : Manager) (runs : v .activity ≡ busy x m) (n : Stepped) (made : stepped (programOf s) (readAt (programOf s) st l x) m ≡ n) (q : Parts) (ended' tallies' : List ℕ) where
@@ -178,9 +178,9 @@ module _ (s : List ℕ) (a : verdictOf s ≡ Accepted) (few : levelCount s ≤ m
     small-fork u message is =
         omega (arith, few, live-fork s a st i l h x m runs (readAt (programOf s) st l x) u message (ap (λ n. n .effect) made ∙ is) .0)
 
-    pub says-advance : EffectDone before q l (m .stamp) (m .forks) (n .effect) → Settled (w .ended) ended' (q .tallies) tallies' (q .queue) l (n .manager) → Says s wordsAdvanced (placed l (n .manager) ms) (stepAt (programOf s) l st)
-    says-advance d z =
-        says-step s a w wordsAdvanced ms (placed l (n .manager) ms) st l y ok
+    pub invariant-advance : EffectDone before q l (m .stamp) (m .forks) (n .effect) → Settled (w .ended) ended' (q .tallies) tallies' (q .queue) l (n .manager) → RunInvariant s wordsAdvanced (placed l (n .manager) ms) (stepAt (programOf s) l st)
+    invariant-advance d z =
+        invariant-step s a w wordsAdvanced ms (placed l (n .manager) ms) st l y ok
         (λ k hk. noted-settled (w .ended) ended' (q .tallies) tallies' (q .queue) l (n .manager) k (omega (arith, h, few)) hk z ∙ noted-effect before q l (m .stamp) (m .forks) (n .effect) k (omega (arith, h, few)) hk small-fork d)
         few
-        (told-advance s a few w ms st (y .told) i l h x m runs n made q ended' tallies' d z)
+        (represents-advance s a few w ms st (y .represents) i l h x m runs n made q ended' tallies' d z)

@@ -18,9 +18,9 @@ use Rattle.model.specs.Level.{Version, Activity, idle, busy, Level, newest}
 use Rattle.model.specs.Step.{State, levelAt}
 use Rattle.versions.specs.Log.{logStart, logOf}
 use Rattle.tallies.specs.Places.{nextPlace, waitingPlace, versionsPlace, busyPlace}
-use Rattle.level_managers.specs.Kept.{Words, Runs, LevelTold, Told}
+use Rattle.level_managers.specs.Representation.{Words, Runs, LevelRepresents, Represents}
 use Rattle.level_managers.specs.Steps.{Wrote}
-use Rattle.level_managers.proofs.Laws.Told.{Limited, SameAt, at-own, at-other, told-change}
+use Rattle.level_managers.proofs.Laws.Representation.{Limited, SameAt, at-own, at-other, represents-change}
 
 -- a level with other versions
 abbrev pub withVersions : List Version → Level → Level
@@ -39,7 +39,7 @@ newest-other i o k o' k' stamp v vs n = elim (ℕ-discrete o o') [
   | yes a ↦ rw (eq-eqb o o' a, ne-eqb k k' (λ b. n (sym a) (sym b))) refl
 ]
 
-module _ (s : List ℕ) (w : Words) (ms : ℕ → Manager) (st : State) (t : Told s w ms st) (b : (k : ℕ) → k < levelCount s → Limited (levelAt st k)) (few : levelCount s ≤ maxLevels) (l : ℕ) (h : l < levelCount s) (current' tallies' work' : List ℕ) (stamp o k : ℕ) (v : Value) (wrote : Wrote (w .current) current' (w .tallies) tallies' (w .work) work' l stamp o k v) where
+module _ (s : List ℕ) (w : Words) (ms : ℕ → Manager) (st : State) (t : Represents s w ms st) (b : (k : ℕ) → k < levelCount s → Limited (levelAt st k)) (few : levelCount s ≤ maxLevels) (l : ℕ) (h : l < levelCount s) (current' tallies' work' : List ℕ) (stamp o k : ℕ) (v : Value) (wrote : Wrote (w .current) current' (w .tallies) tallies' (w .work) work' l stamp o k v) where
   abbrev pub wordsWritten : Words
   wordsWritten =
       record { current = current'; ended = w .ended; tallies = tallies'; queue = w .queue; work = work' }
@@ -82,7 +82,7 @@ module _ (s : List ℕ) (w : Words) (ms : ℕ → Manager) (st : State) (t : Tol
   own-runs i idle r = tally-other (busyPlace l) (λ e. omega (arith, e, h, few)) ∙ r
   own-runs i (busy x y) r = (tally-other (busyPlace l) (λ e. omega (arith, e, h, few)) ∙ r .0, r .1)
 
-  own : LevelTold (levelCount s) wordsWritten l (ms l) (written own-level)
+  own : LevelRepresents (levelCount s) wordsWritten l (ms l) (written own-level)
   own =
       let q = t .level l h in
       record {
@@ -133,9 +133,9 @@ module _ (s : List ℕ) (w : Words) (ms : ℕ → Manager) (st : State) (t : Tol
       by (yes x) (no y) = other o' k' ho hk (λ _ z. y z)
 
   -- the words then say that the level has one more version
-  pub told-write : programOf s .level o ≡ l → Told s wordsWritten ms (modify l written st)
-  told-write lies =
-      told-change s w wordsWritten ms ms st t b l h written
+  pub represents-write : programOf s .level o ≡ l → Represents s wordsWritten ms (modify l written st)
+  represents-write lies =
+      represents-change s w wordsWritten ms ms st t b l h written
       (record {
         current = rw (wrote .field .outside .length-same) (t .roomy .current);
         ended = t .roomy .ended;

@@ -18,11 +18,11 @@ use Rattle.scripts.specs.Ending.{isRunning}
 use Rattle.scripts.specs.Effect as effect
 use Rattle.scripts.specs.State as defined
 use Rattle.scripts.specs.Manager.{isEnd, nextStep}
-use Rattle.words.specs.Reads.{shownIn, Sees}
+use Rattle.words.specs.Reads.{shownIn, Agrees}
 use Rattle.managers.specs.Frames.{frameOf, asideOf, noWaiting, asideFrom, below, Placed, Waits}
 use Rattle.managers.specs.Core.{bare, standing, stackOf, managerOf, effectOf, settledOf, comesTo, isOver, isAsking, isNothing, isDone, Tall, Present, Sits}
 use Rattle.managers.specs.Moves.{causing, endingAs, restacked, Operable, Asks, Operated, Pushed, Popped}
-use Rattle.managers.specs.Steps.{Leads, quiet, Quietly, waitingFrames, Advanceable, shutBy, isShut}
+use Rattle.managers.specs.Steps.{Leads, internal, InternalSteps, waitingFrames, Advanceable, pausesOn, isPaused}
 use Rattle.managers.specs.declared.Core.{Core}
 use Rattle.managers.specs.declared.Manager.{Manager}
 use Rattle.managers.specs.declared.frames.Waiting.{Waiting}
@@ -30,7 +30,7 @@ use Rattle.managers.specs.declared.Effect.{Effect}
 use Rattle.managers.specs.declared.Effect.the-variants.{Nothing, End, Write, Read, Fork, Call, Pop}
 use Rattle.managers.proofs.Laws.Frames.{not-end}
 use Rattle.managers.proofs.Laws.Leads.{leads-alike}
-use Rattle.managers.proofs.Laws.Turns.{below-length, below-pushed, below-popped, comes-alike, quiet-comes, no-pops, push-comes, pop-comes, turn-leads}
+use Rattle.managers.proofs.Laws.Turns.{below-length, below-pushed, below-popped, comes-alike, internal-comes, no-pops, push-comes, pop-comes, turn-leads}
 
 -- a stack of some frames has its top
 pub stack-some : (h : ℕ) (f : defined.Frame) (gs : List defined.Frame) → 0 < h → stackOf h f gs ≡ f ∷ gs
@@ -38,18 +38,18 @@ stack-some zero f gs some = absurd (omega arith)
 stack-some (suc h) f gs some = refl
 
 -- what holds each time round: script steps led here from the manager with core c₀ and the frames ws₀
-pub record Turning (s masks index current seen : List ℕ) (all : Bool) (limit : ℕ) (c₀ : Core) (ws₀ : List Waiting) (c : Core) (ws : List Waiting) : Type 0 where
-  pub able : Advanceable s masks index current seen (record { core = c₀; waiting = ws₀ })
+pub record Turning (s masks index current cache : List ℕ) (all : Bool) (limit : ℕ) (c₀ : Core) (ws₀ : List Waiting) (c : Core) (ws : List Waiting) : Type 0 where
+  pub able : Advanceable s masks index current cache (record { core = c₀; waiting = ws₀ })
   pub limited : (c₀ .steps < limit) × (limit ≤ maxScriptSteps)
-  pub leads : (read : ℕ → ℕ → Value) → Sees s current seen all (c₀ .level) read → Leads (programOf s) read (managerOf (record { core = c₀; waiting = ws₀ })) (comesTo (programOf s) c (below ws (c .height - 1)))
+  pub leads : (read : ℕ → ℕ → Value) → Agrees s current cache all (c₀ .level) read → Leads (programOf s) read (managerOf (record { core = c₀; waiting = ws₀ })) (comesTo (programOf s) c (below ws (c .height - 1)))
   pub sits : Sits s c
   pub present : Present s (c .effect)
   pub room : length ws ≡ waitingFrames
   pub each : (k : ℕ) → k + 1 < c .height → Waits s (asideOf (getD ws k noWaiting))
-  pub asks : (o k : ℕ) → c .effect ≡ Read o k → (c .steps < limit) × Asks s seen all c o k
+  pub asks : (o k : ℕ) → c .effect ≡ Read o k → (c .steps < limit) × Asks s cache all c o k
   pub few : c .steps ≤ limit
   pub grown : c₀ .steps ≤ c .steps
-  pub early : c .steps ≡ c₀ .steps → isShut s seen all c₀ ≡ false → (c .effect ≡ Nothing) × (frameOf (c .top) ≡ frameOf (c₀ .top))
+  pub early : c .steps ≡ c₀ .steps → isPaused s cache all c₀ ≡ false → (c .effect ≡ Nothing) × (frameOf (c .top) ≡ frameOf (c₀ .top))
 
 -- each time round makes this less: a step more, a frame less, or something left to do
 abbrev pub turnsLeft : Core → ℕ
@@ -61,9 +61,9 @@ nothing-over e q = rw q refl
 read-not-nothing : (o k : ℕ) (e : Effect) → e ≡ Nothing → e ≡ Read o k → ⊥
 read-not-nothing o k e q r = not-both (isAsking e) (ap isAsking r) (ap isAsking q)
 
-start-quiet : (p : Program) (read : ℕ → ℕ → Value) (c : Core) (ws : List Waiting) → 0 < c .height → Quietly p read 0 (managerOf (record { core = c; waiting = ws })) (standing c (below ws (c .height - 1)))
-unfolding Quietly managerOf
-start-quiet p read c ws some =
+start-internal : (p : Program) (read : ℕ → ℕ → Value) (c : Core) (ws : List Waiting) → 0 < c .height → InternalSteps p read 0 (managerOf (record { core = c; waiting = ws })) (standing c (below ws (c .height - 1)))
+unfolding InternalSteps managerOf
+start-internal p read c ws some =
     ap (bare c) (stack-some (c .height) (frameOf (c .top)) (below ws (c .height - 1)) some)
 
 -- what an ended core comes to is told by its stack
@@ -113,22 +113,22 @@ isCall (Fork level object name parameter) = false
 isCall (Call object name answer parameter) = true
 isCall (Pop reply) = false
 
-asks-caused : (s seen : List ℕ) (all : Bool) (c : Core) (e : Effect) (o k : ℕ) → Asks s seen all c o k → Asks s seen all (causing c e) o k
-asks-caused s seen all c e o k a = record { register = a .register; step = a .step; object = a .object; shut = a .shut }
+asks-caused : (s cache : List ℕ) (all : Bool) (c : Core) (e : Effect) (o k : ℕ) → Asks s cache all c o k → Asks s cache all (causing c e) o k
+asks-caused s cache all c e o k a = record { register = a .register; step = a .step; object = a .object; shut = a .shut }
 
-asks-shut : (s seen : List ℕ) (all : Bool) (c : Core) (o k : ℕ) → Asks s seen all c o k → isShut s seen all c ≡ true
-asks-shut s seen all c o k a = rw (a .step, a .object, a .shut) refl
+asks-shut : (s cache : List ℕ) (all : Bool) (c : Core) (o k : ℕ) → Asks s cache all c o k → isPaused s cache all c ≡ true
+asks-shut s cache all c o k a = rw (a .step, a .object, a .shut) refl
 
-shut-same : (s seen : List ℕ) (all : Bool) (c d : Core) → c .level ≡ d .level → frameOf (c .top) ≡ frameOf (d .top) → isShut s seen all c ≡ isShut s seen all d
-shut-same s seen all c d l f =
-    ap (λ i. shutBy s seen all i (frameOf (c .top) .object) (nextStep (programOf s) (frameOf (c .top)))) l
-    ∙ ap (λ g. shutBy s seen all (d .level) (g .object) (nextStep (programOf s) g)) f
+shut-same : (s cache : List ℕ) (all : Bool) (c d : Core) → c .level ≡ d .level → frameOf (c .top) ≡ frameOf (d .top) → isPaused s cache all c ≡ isPaused s cache all d
+shut-same s cache all c d l f =
+    ap (λ i. pausesOn s cache all i (frameOf (c .top) .object) (nextStep (programOf s) (frameOf (c .top)))) l
+    ∙ ap (λ g. pausesOn s cache all (d .level) (g .object) (nextStep (programOf s) g)) f
 
 -- how an operation turns out: a script step is made, the script's end is met, or a READ is asked for
-data Turned (s seen : List ℕ) (all : Bool) (c r : Core) : Type 0 where
-  stepped-on : r .steps ≡ c .steps + 1 → Turned s seen all c r
-  ended : isEnd (nextStep (programOf s) (frameOf (c .top))) ≡ true → r ≡ endingAs c → Turned s seen all c r
-  asked : (o k : ℕ) → r ≡ causing c (Read o k) → Asks s seen all c o k → Turned s seen all c r
+data Turned (s cache : List ℕ) (all : Bool) (c r : Core) : Type 0 where
+  stepped-on : r .steps ≡ c .steps + 1 → Turned s cache all c r
+  ended : isEnd (nextStep (programOf s) (frameOf (c .top))) ≡ true → r ≡ endingAs c → Turned s cache all c r
+  asked : (o k : ℕ) → r ≡ causing c (Read o k) → Asks s cache all c o k → Turned s cache all c r
 
 ending-steps : (c : Core) → endingAs c .steps ≡ c .steps
 ending-steps c = elim (truth (eqb (c .height) 1)) [
@@ -136,12 +136,12 @@ ending-steps c = elim (truth (eqb (c .height) 1)) [
   | fails e ↦ rw e refl
 ]
 
-turned-grows : (s seen : List ℕ) (all : Bool) (c r : Core) → Turned s seen all c r → (c .steps ≤ r .steps) × (r .steps ≤ c .steps + 1)
-turned-grows s seen all c r (stepped-on n) = (omega (arith, n), omega (arith, n))
-turned-grows s seen all c r (ended x e) =
+turned-grows : (s cache : List ℕ) (all : Bool) (c r : Core) → Turned s cache all c r → (c .steps ≤ r .steps) × (r .steps ≤ c .steps + 1)
+turned-grows s cache all c r (stepped-on n) = (omega (arith, n), omega (arith, n))
+turned-grows s cache all c r (ended x e) =
     let n = ap (λ z. z .steps) e ∙ ending-steps c in
     (omega (arith, n), omega (arith, n))
-turned-grows s seen all c r (asked o k e a) =
+turned-grows s cache all c r (asked o k e a) =
     let n = ap (λ z. z .steps) e in
     (omega (arith, n), omega (arith, n))
 
@@ -168,52 +168,52 @@ one-or-none : (b : Bool) → cond b 1 0 ≤ 1
 one-or-none true = omega arith
 one-or-none false = omega arith
 
-less-done : (s seen : List ℕ) (all : Bool) (c r : Core) → c .steps < maxScriptSteps → 0 < c .height → r .height ≤ c .height → isDone (r .effect) ≡ true → Turned s seen all c r → turnsLeft r < 2 * (maxScriptSteps - c .steps) + c .height + 1
-less-done s seen all c r few some lower d (stepped-on n) =
+less-done : (s cache : List ℕ) (all : Bool) (c r : Core) → c .steps < maxScriptSteps → 0 < c .height → r .height ≤ c .height → isDone (r .effect) ≡ true → Turned s cache all c r → turnsLeft r < 2 * (maxScriptSteps - c .steps) + c .height + 1
+less-done s cache all c r few some lower d (stepped-on n) =
     omega (arith, few, lower, n, one-or-none (isNothing (r .effect)))
-less-done s seen all c r few some lower d (ended x e) = elim (truth (eqb (c .height) 1)) [
+less-done s cache all c r few some lower d (ended x e) = elim (truth (eqb (c .height) 1)) [
   | holds one ↦ rw (e, one) (omega (arith, some))
   | fails more ↦ absurd (not-both (isDone (r .effect)) d (rw (e, more) refl))
 ]
-less-done s seen all c r few some lower d (asked o k e a) = rw e (omega arith)
+less-done s cache all c r few some lower d (asked o k e a) = rw e (omega arith)
 
-less-pushed : (s seen : List ℕ) (all : Bool) (c r : Core) → c .steps < maxScriptSteps → isCall (r .effect) ≡ true → r .height ≡ c .height → Turned s seen all c r → (left : ℕ) → left ≡ 2 * (maxScriptSteps - r .steps) + (r .height + 1) + 1 → left < 2 * (maxScriptSteps - c .steps) + c .height + 1
-less-pushed s seen all c r few d still (stepped-on n) left is = omega (arith, few, still, n, is)
-less-pushed s seen all c r few d still (ended x e) left is = elim (truth (eqb (c .height) 1)) [
+less-pushed : (s cache : List ℕ) (all : Bool) (c r : Core) → c .steps < maxScriptSteps → isCall (r .effect) ≡ true → r .height ≡ c .height → Turned s cache all c r → (left : ℕ) → left ≡ 2 * (maxScriptSteps - r .steps) + (r .height + 1) + 1 → left < 2 * (maxScriptSteps - c .steps) + c .height + 1
+less-pushed s cache all c r few d still (stepped-on n) left is = omega (arith, few, still, n, is)
+less-pushed s cache all c r few d still (ended x e) left is = elim (truth (eqb (c .height) 1)) [
   | holds one ↦ absurd (not-both (isCall (r .effect)) d (rw (e, one) refl))
   | fails more ↦ absurd (not-both (isCall (r .effect)) d (rw (e, more) refl))
 ]
-less-pushed s seen all c r few d still (asked o k e a) left is =
+less-pushed s cache all c r few d still (asked o k e a) left is =
     absurd (not-both (isCall (r .effect)) d (rw e refl))
 
-less-popped : (s seen : List ℕ) (all : Bool) (c r : Core) → c .steps < maxScriptSteps → 1 < r .height → r .height ≡ c .height → Turned s seen all c r → (left : ℕ) → left ≡ 2 * (maxScriptSteps - r .steps) + (r .height - 1) + 1 → left < 2 * (maxScriptSteps - c .steps) + c .height + 1
-less-popped s seen all c r few two still (stepped-on n) left is = omega (arith, few, two, still, n, is)
-less-popped s seen all c r few two still (ended x e) left is =
+less-popped : (s cache : List ℕ) (all : Bool) (c r : Core) → c .steps < maxScriptSteps → 1 < r .height → r .height ≡ c .height → Turned s cache all c r → (left : ℕ) → left ≡ 2 * (maxScriptSteps - r .steps) + (r .height - 1) + 1 → left < 2 * (maxScriptSteps - c .steps) + c .height + 1
+less-popped s cache all c r few two still (stepped-on n) left is = omega (arith, few, two, still, n, is)
+less-popped s cache all c r few two still (ended x e) left is =
     let n = ap (λ z. z .steps) e ∙ ending-steps c in
     omega (arith, few, two, still, n, is)
-less-popped s seen all c r few two still (asked o k e a) left is =
+less-popped s cache all c r few two still (asked o k e a) left is =
     let n = ap (λ z. z .steps) e in
     omega (arith, few, two, still, n, is)
 
-module _ (s masks index current seen : List ℕ) (all : Bool) (limit : ℕ) (c₀ : Core) (ws₀ : List Waiting) where
+module _ (s masks index current cache : List ℕ) (all : Bool) (limit : ℕ) (c₀ : Core) (ws₀ : List Waiting) where
   abbrev p : Program
   p = programOf s
 
   abbrev m₀ : Manager
   m₀ = record { core = c₀; waiting = ws₀ }
 
-  pub turning-start : Advanceable s masks index current seen m₀ → (c₀ .steps < limit) × (limit ≤ maxScriptSteps) → c₀ .effect ≡ Nothing → Turning s masks index current seen all limit c₀ ws₀ c₀ ws₀
+  pub turning-start : Advanceable s masks index current cache m₀ → (c₀ .steps < limit) × (limit ≤ maxScriptSteps) → c₀ .effect ≡ Nothing → Turning s masks index current cache all limit c₀ ws₀ c₀ ws₀
   turning-start a l q =
       let gs = below ws₀ (c₀ .height - 1) in
       let h = a .held in
       let run = a .running in
       let here : comesTo p c₀ gs ≡ record { manager = standing c₀ gs; effect = effect.Nothing } =
-      quiet-comes p c₀ gs q
-      ∙ ap (λ n. record { manager = n; effect = effect.Nothing }) (no-pops p c₀ gs run (h .few run) (not-end s (a .indexed .accepted) (c₀ .top) (h .top) (h .goes run))) in
+      internal-comes p c₀ gs q
+      ∙ ap (λ n. record { manager = n; effect = effect.Nothing }) (no-pops p c₀ gs run (h .few run) (not-end s (a .indexed .accepted) (c₀ .top) (h .top) (h .unfinished run))) in
       record {
         able = a;
         limited = l;
-        leads = λ read see. subst (Leads p read (managerOf m₀)) (sym here) (quiet 0 (start-quiet p read c₀ ws₀ (h .live run)) refl);
+        leads = λ read see. subst (Leads p read (managerOf m₀)) (sym here) (internal 0 (start-internal p read c₀ ws₀ (h .live run)) refl);
         sits = record {
           level = h .level;
           low = h .low;
@@ -236,15 +236,15 @@ module _ (s masks index current seen : List ℕ) (all : Bool) (limit : ℕ) (c�
         early = λ _ _. (q, refl);
       }
 
-  module _ (c : Core) (ws : List Waiting) (t : Turning s masks index current seen all limit c₀ ws₀ c ws) where
+  module _ (c : Core) (ws : List Waiting) (t : Turning s masks index current cache all limit c₀ ws₀ c ws) where
     -- what the words at hand say is a way to read
-    at-hand : Sees s current seen all (c₀ .level) (shownIn s current seen all (c₀ .level))
+    at-hand : Agrees s current cache all (c₀ .level) (shownIn s current cache all (c₀ .level))
     at-hand o k ho hk e = refl
 
     alike : (c .level ≡ c₀ .level) × (c .first ≡ c₀ .first)
     unfolding managerOf
     alike =
-        let a = leads-alike p (shownIn s current seen all (c₀ .level)) (managerOf m₀) (comesTo p c (below ws (c .height - 1))) (t .leads (shownIn s current seen all (c₀ .level)) at-hand) in
+        let a = leads-alike p (shownIn s current cache all (c₀ .level)) (managerOf m₀) (comesTo p c (below ws (c .height - 1))) (t .leads (shownIn s current cache all (c₀ .level)) at-hand) in
         let b = comes-alike p c (below ws (c .height - 1)) in
         (sym (b .0) ∙ a .0, sym (b .1) ∙ a .1)
 
@@ -254,14 +254,14 @@ module _ (s masks index current seen : List ℕ) (all : Bool) (limit : ℕ) (c�
     pub turning-first : c .first ≡ c₀ .first
     turning-first = alike .1
 
-    pub turning-operable : c .effect ≡ Nothing → c .steps < limit → Operable s masks current seen c
+    pub turning-operable : c .effect ≡ Nothing → c .steps < limit → Operable s masks current cache c
     turning-operable q l =
         record {
           leveled = t .able .leveled;
           fields-there = t .able .fields-there;
-          seen-there = t .able .seen-there;
+          cache-there = t .able .cache-there;
           sits = t .sits;
-          quiet = q;
+          internal = q;
           few = omega (arith, l, t .limited .1);
         }
 
@@ -272,13 +272,13 @@ module _ (s masks index current seen : List ℕ) (all : Bool) (limit : ℕ) (c�
     enough q = omega (arith, below-length ws (c .height - 1), some q)
 
     -- an operation was made
-    module _ (q : c .effect ≡ Nothing) (l : c .steps < limit) (r : Core) (o : Operated s current seen all c r) where
+    module _ (q : c .effect ≡ Nothing) (l : c .steps < limit) (r : Core) (o : Operated s current cache all c r) where
       run : isRunning (c .ending) ≡ true
       run = t .sits .runs (nothing-over (c .effect) q)
 
-      made-here : (read : ℕ → ℕ → Value) → Sees s current seen all (c₀ .level) read → Leads p read (managerOf m₀) (comesTo p r (below ws (c .height - 1)))
+      made-here : (read : ℕ → ℕ → Value) → Agrees s current cache all (c₀ .level) read → Leads p read (managerOf m₀) (comesTo p r (below ws (c .height - 1)))
       made-here read see =
-          turn-leads s masks current seen all c r (turning-operable q l) o read (subst (λ i. Sees s current seen all i read) (sym turning-level) see) (below ws (c .height - 1)) (enough q) (managerOf m₀) (t .leads read see)
+          turn-leads s masks current cache all c r (turning-operable q l) o read (subst (λ i. Agrees s current cache all i read) (sym turning-level) see) (below ws (c .height - 1)) (enough q) (managerOf m₀) (t .leads read see)
 
       stands-here : comesTo p r (below ws (c .height - 1)) ≡ comesTo p r (below ws (r .height - 1))
       stands-here = elim (ℕ-discrete (r .height) 0) [
@@ -290,7 +290,7 @@ module _ (s masks index current seen : List ℕ) (all : Bool) (limit : ℕ) (c�
       ]
 
       -- it made a script step, or met the script's end, or asks
-      turned : Turned s seen all c r
+      turned : Turned s cache all c r
       turned = elim (truth (isEnd (nextStep p (frameOf (c .top))))) [
         | holds e ↦ ended e (o .ends e)
         | fails e ↦ elim (truth (isAsking (r .effect))) [
@@ -300,32 +300,32 @@ module _ (s masks index current seen : List ℕ) (all : Bool) (limit : ℕ) (c�
       ]
 
       grows : (c .steps ≤ r .steps) × (r .steps ≤ c .steps + 1)
-      grows = turned-grows s seen all c r turned
+      grows = turned-grows s cache all c r turned
 
-      asks-here : (x k : ℕ) → r .effect ≡ Read x k → (r .steps < limit) × Asks s seen all r x k
+      asks-here : (x k : ℕ) → r .effect ≡ Read x k → (r .steps < limit) × Asks s cache all r x k
       asks-here x k e =
           let y = o .asks (ap isAsking e) in
           let same = ap (λ z. z .effect) (y .1 .1 .0) in
           let ex : y .0 ≡ x = ap (askedObject 0) (sym same ∙ e) in
           let ek : y .1 .0 ≡ k = ap (askedField 0) (sym same ∙ e) in
-          let there : Asks s seen all r (y .0) (y .1 .0) = subst (λ z. Asks s seen all z (y .0) (y .1 .0)) (sym (y .1 .1 .0)) (asks-caused s seen all c (Read (y .0) (y .1 .0)) (y .0) (y .1 .0) (y .1 .1 .1)) in
-          (omega (arith, l, ap (λ z. z .steps) (y .1 .1 .0)), subst (λ z. Asks s seen all r z k) ex (subst (λ z. Asks s seen all r (y .0) z) ek there))
+          let there : Asks s cache all r (y .0) (y .1 .0) = subst (λ z. Asks s cache all z (y .0) (y .1 .0)) (sym (y .1 .1 .0)) (asks-caused s cache all c (Read (y .0) (y .1 .0)) (y .0) (y .1 .0) (y .1 .1 .1)) in
+          (omega (arith, l, ap (λ z. z .steps) (y .1 .1 .0)), subst (λ z. Asks s cache all r z k) ex (subst (λ z. Asks s cache all r (y .0) z) ek there))
 
       -- no step is made only where the first asks
-      no-early : r .steps ≡ c₀ .steps → isShut s seen all c₀ ≡ false → ⊥
+      no-early : r .steps ≡ c₀ .steps → isPaused s cache all c₀ ≡ false → ⊥
       no-early e shut =
           let back : c .steps ≡ c₀ .steps = omega (arith, e, grows .0, t .grown) in
           let first = t .early back shut .1 in
-          let goes : isEnd (nextStep p (frameOf (c .top))) ≡ false = rw first (not-end s (t .able .indexed .accepted) (c₀ .top) (t .able .held .top) (t .able .held .goes (t .able .running))) in
-          by turned back first goes
+          let unfinished : isEnd (nextStep p (frameOf (c .top))) ≡ false = rw first (not-end s (t .able .indexed .accepted) (c₀ .top) (t .able .held .top) (t .able .held .unfinished (t .able .running))) in
+          by turned back first unfinished
         where
-          by : Turned s seen all c r → c .steps ≡ c₀ .steps → frameOf (c .top) ≡ frameOf (c₀ .top) → isEnd (nextStep (programOf s) (frameOf (c .top))) ≡ false → ⊥
-          by (stepped-on n) back first goes = omega (arith, e, n, t .grown)
-          by (ended x y) back first goes = not-both (isEnd (nextStep (programOf s) (frameOf (c .top)))) x goes
-          by (asked x k y z) back first goes =
-              not-both (isShut s seen all c) (asks-shut s seen all c x k z) (shut-same s seen all c c₀ turning-level first ∙ shut)
+          by : Turned s cache all c r → c .steps ≡ c₀ .steps → frameOf (c .top) ≡ frameOf (c₀ .top) → isEnd (nextStep (programOf s) (frameOf (c .top))) ≡ false → ⊥
+          by (stepped-on n) back first unfinished = omega (arith, e, n, t .grown)
+          by (ended x y) back first unfinished = not-both (isEnd (nextStep (programOf s) (frameOf (c .top)))) x unfinished
+          by (asked x k y z) back first unfinished =
+              not-both (isPaused s cache all c) (asks-shut s cache all c x k z) (shut-same s cache all c c₀ turning-level first ∙ shut)
 
-      pub turning-made : Turning s masks index current seen all limit c₀ ws₀ r ws
+      pub turning-made : Turning s masks index current cache all limit c₀ ws₀ r ws
       turning-made =
           record {
             able = t .able;
@@ -343,7 +343,7 @@ module _ (s masks index current seen : List ℕ) (all : Bool) (limit : ℕ) (c�
 
       -- each turn makes less
       pub turning-less : isDone (r .effect) ≡ true → turnsLeft r < turnsLeft c
-      turning-less d = rw q (less-done s seen all c r (turning-operable q l .few) (some q) (o .lower) d turned)
+      turning-less d = rw q (less-done s cache all c r (turning-operable q l .few) (some q) (o .lower) d turned)
 
       -- a frame made above the top
       module _ (x n i : ℕ) (v : Value) (is : r .effect ≡ Call x n i v) (w : Waiting) (aside : (w ≡ asideFrom (r .top)) × Waits s (asideOf w)) (r' : Core) (h : Pushed s r x n i v r') where
@@ -353,7 +353,7 @@ module _ (s masks index current seen : List ℕ) (all : Bool) (limit : ℕ) (c�
         room-here : r .height < maxFrames
         room-here = subst (λ e. Tall e (r .height)) is (o .sits .tall)
 
-        pub turning-pushed : Turning s masks index current seen all limit c₀ ws₀ r' (set ws (r .height - 1) w)
+        pub turning-pushed : Turning s masks index current cache all limit c₀ ws₀ r' (set ws (r .height - 1) w)
         turning-pushed =
             let tr = turning-made in
             let height : r' .height ≡ r .height + 1 = ap (λ z. z .height) (h .core-is) in
@@ -389,14 +389,14 @@ module _ (s masks index current seen : List ℕ) (all : Bool) (limit : ℕ) (c�
 
         pub pushed-less : turnsLeft r' < turnsLeft c
         pushed-less =
-            rw q (less-pushed s seen all c r (turning-operable q l .few) (rw is refl) still turned (turnsLeft r') (rw (h .core-is) (omega arith)))
+            rw q (less-pushed s cache all c r (turning-operable q l .few) (rw is refl) still turned (turnsLeft r') (rw (h .core-is) (omega arith)))
 
       -- the top popped
       module _ (v : Value) (is : r .effect ≡ Pop v) (r' : Core) (h : Popped s r (getD ws (r .height - 2) noWaiting) v r') where
         two-here : 1 < r .height
         two-here = subst (λ e. Tall e (r .height)) is (o .sits .tall)
 
-        pub turning-popped : Turning s masks index current seen all limit c₀ ws₀ r' ws
+        pub turning-popped : Turning s masks index current cache all limit c₀ ws₀ r' ws
         turning-popped =
             let tr = turning-made in
             let height : r' .height ≡ r .height - 1 = ap (λ z. z .height) (h .core-is) in
@@ -424,7 +424,7 @@ module _ (s masks index current seen : List ℕ) (all : Bool) (limit : ℕ) (c�
 
         pub popped-less : turnsLeft r' < turnsLeft c
         popped-less =
-            rw q (less-popped s seen all c r (turning-operable q l .few) two-here (o .tall (rw is refl)) turned (turnsLeft r') (rw (h .core-is) (omega arith)))
+            rw q (less-popped s cache all c r (turning-operable q l .few) two-here (o .tall (rw is refl)) turned (turnsLeft r') (rw (h .core-is) (omega arith)))
 
 -- a core that goes on has nothing left to do, and steps below the limit
 nothing-at : (e : Effect) → isNothing e ≡ true → e ≡ Nothing
@@ -436,7 +436,7 @@ nothing-at (Fork level object name parameter) n = absurd (not-both false n refl)
 nothing-at (Call object name answer parameter) n = absurd (not-both false n refl)
 nothing-at (Pop reply) n = absurd (not-both false n refl)
 
-pub goes-quiet : (c : Core) (limit : ℕ) (b : Bool) → b ≡ (isNothing (c .effect) && ltb (c .steps) limit) → b ≡ true → (c .effect ≡ Nothing) × (c .steps < limit)
-goes-quiet c limit b e t =
+pub unfinished-internal : (c : Core) (limit : ℕ) (b : Bool) → b ≡ (isNothing (c .effect) && ltb (c .steps) limit) → b ≡ true → (c .effect ≡ Nothing) × (c .steps < limit)
+unfinished-internal c limit b e t =
     let h = sym e ∙ t in
     (nothing-at (c .effect) (and-left (isNothing (c .effect)) (ltb (c .steps) limit) h), ltb-true (c .steps) limit (and-right (isNothing (c .effect)) (ltb (c .steps) limit) h))

@@ -25,13 +25,13 @@ use Rattle.scripts.proofs.Laws.Settle.{concluded-pop, concluded-last, concluded
 use Rattle.managers.specs.Frames.{intoOf, returnsOf, frameOf, asideOf, noWaiting, below, Waits}
 use Rattle.managers.specs.Core.{bare, standing, stackOf, managerOf, effectOf, steppedOf, settledOf, comesTo, isOver, isAsking, isDone, Tall, Sits}
 use Rattle.managers.specs.Moves.{causing, restacked, Popped, stoodAs, closedAs}
-use Rattle.managers.specs.Steps.{waitingFrames, Held}
+use Rattle.managers.specs.Steps.{waitingFrames, WellFormed}
 use Rattle.managers.specs.declared.Core.{Core}
 use Rattle.managers.specs.declared.Manager.{Manager}
 use Rattle.managers.specs.declared.frames.Waiting.{Waiting}
 use Rattle.managers.specs.declared.Effect.{Effect}
 use Rattle.managers.specs.declared.Effect.the-variants.{Nothing, End, Write, Read, Fork, Call, Pop}
-use Rattle.managers.proofs.Laws.Frames.{at-end, not-end, goes-there, closed-over as over-closed, closed-last, closed-goes, closed-out}
+use Rattle.managers.proofs.Laws.Frames.{at-end, not-end, unfinished-there, closed-over as over-closed, closed-last, closed-unfinished, closed-out}
 use Rattle.managers.proofs.Laws.Turns.{below-popped, no-pops}
 use Rattle.managers.proofs.Laws.Advance.{Turning, stack-some}
 
@@ -109,10 +109,10 @@ pub record Lowering (s index : List ℕ) (ws : List Waiting) (c₀ c : Core) : T
   pub first-is : c .first ≡ c₀ .first
   -- nothing pops before a READ
   pub asks : isAsking (c .effect) ≡ true → c ≡ c₀
-  pub goes : isAsking (c .effect) ≡ true → (c .top .next < c .top .count) × (c .steps < maxScriptSteps)
+  pub unfinished : isAsking (c .effect) ≡ true → (c .top .next < c .top .count) × (c .steps < maxScriptSteps)
 
-pub lowering-start : (s masks index current seen : List ℕ) (all : Bool) (limit : ℕ) (c₀ : Core) (ws₀ : List Waiting) (c : Core) (ws : List Waiting) → Turning s masks index current seen all limit c₀ ws₀ c ws → isDone (c .effect) ≡ true → Lowering s index ws c c
-lowering-start s masks index current seen all limit c₀ ws₀ c ws t d =
+pub lowering-start : (s masks index current cache : List ℕ) (all : Bool) (limit : ℕ) (c₀ : Core) (ws₀ : List Waiting) (c : Core) (ws : List Waiting) → Turning s masks index current cache all limit c₀ ws₀ c ws → isDone (c .effect) ≡ true → Lowering s index ws c c
+lowering-start s masks index current cache all limit c₀ ws₀ c ws t d =
     record {
       indexed = t .able .indexed;
       same = refl;
@@ -125,10 +125,10 @@ lowering-start s masks index current seen all limit c₀ ws₀ c ws t d =
       level-is = refl;
       first-is = refl;
       asks = λ _. refl;
-      goes = λ a.
+      unfinished = λ a.
           let e = asking-is (c .effect) a in
           let x = t .asks (e .0) (e .1 .0) (e .1 .1) in
-          (goes-there s (t .able .indexed .accepted) (c .top) (t .sits .top) (rw (x .1 .step) refl), omega (arith, x .0, t .limited .1));
+          (unfinished-there s (t .able .indexed .accepted) (c .top) (t .sits .top) (rw (x .1 .step) refl), omega (arith, x .0, t .limited .1));
     }
 
 module _ (s index : List ℕ) (ws : List Waiting) (c₀ c : Core) (t : Lowering s index ws c₀ c) where
@@ -161,7 +161,7 @@ module _ (s index : List ℕ) (ws : List Waiting) (c₀ c : Core) (t : Lowering 
 
     not-asking : isAsking (c .effect) ≡ false
     not-asking = elim (truth (isAsking (c .effect))) [
-      | holds a ↦ absurd (omega (arith, t .goes a .0, leb-true (c .top .count) (c .top .next) there))
+      | holds a ↦ absurd (omega (arith, t .unfinished a .0, leb-true (c .top .count) (c .top .next) there))
       | fails a ↦ a
     ]
 
@@ -203,7 +203,7 @@ module _ (s index : List ℕ) (ws : List Waiting) (c₀ c : Core) (t : Lowering 
           level-is = ap (λ z. z .level) e ∙ t .level-is;
           first-is = ap (λ z. z .first) e ∙ t .first-is;
           asks = λ a. absurd (not-both (isAsking (r' .effect)) a asking');
-          goes = λ a. absurd (not-both (isAsking (r' .effect)) a asking');
+          unfinished = λ a. absurd (not-both (isAsking (r' .effect)) a asking');
         }
 
     pub lowering-less : (r : Core) → Popped s c (getD ws (c .height - 2) noWaiting) Nil r → (r' : Core) → r' ≡ causing r (c .effect) → r' .height < c .height
@@ -237,7 +237,7 @@ module _ (s index : List ℕ) (ws : List Waiting) (c₀ c : Core) (t : Lowering 
         | fails h ↦ elim (truth (ltb (c .steps) maxScriptSteps)) [
           | holds k ↦
               let few = ltb-true (c .steps) maxScriptSteps k in
-              runs-on r (leb-false (c .top .count) (c .top .next) h) few (closed-goes c r h few)
+              runs-on r (leb-false (c .top .count) (c .top .next) h) few (closed-unfinished c r h few)
           | fails k ↦
               let most = ltb-false (c .steps) maxScriptSteps k in
               spent r (leb-false (c .top .count) (c .top .next) h) most (closed-out c r h most)
@@ -256,12 +256,12 @@ module _ (s index : List ℕ) (ws : List Waiting) (c₀ c : Core) (t : Lowering 
       | fails o ↦ absurd (not-both (isRunning (c .ending)) (t .sits .runs o) r)
     ]
     settled-is (finishes r one h e) = elim (truth (isAsking (c .effect))) [
-      | holds a ↦ absurd (not-both (isEnd (nextStep p (frameOf (c .top)))) h (not-end s (t .indexed .accepted) (c .top) (t .sits .top) (t .goes a .0)))
+      | holds a ↦ absurd (not-both (isEnd (nextStep p (frameOf (c .top)))) h (not-end s (t .indexed .accepted) (c .top) (t .sits .top) (t .unfinished a .0)))
       | fails a ↦
           ap (λ z. managerOf (put z)) e
           ∙ sym (plain-settled p c gs (c .effect) (t .done) (not-over r) a ∙ ap (λ n. concluded p (standing c (below ws (n - 1)))) one ∙ concluded-last p (standing c []) (frameOf (c .top)) h)
     ]
-    settled-is (runs-on r goes few e) = elim (truth (isAsking (c .effect))) [
+    settled-is (runs-on r unfinished few e) = elim (truth (isAsking (c .effect))) [
       | holds a ↦
           ap (λ z. managerOf (put z)) e
           ∙ ap (bare c) (stack-some (c .height) (frameOf (c .top)) gs (has-frame r))
@@ -269,14 +269,14 @@ module _ (s index : List ℕ) (ws : List Waiting) (c₀ c : Core) (t : Lowering 
       | fails a ↦
           ap (λ z. managerOf (put z)) e
           ∙ ap (bare c) (stack-some (c .height) (frameOf (c .top)) gs (has-frame r))
-          ∙ sym (plain-settled p c gs (c .effect) (t .done) (not-over r) a ∙ no-pops p c gs r few (not-end s (t .indexed .accepted) (c .top) (t .sits .top) goes))
+          ∙ sym (plain-settled p c gs (c .effect) (t .done) (not-over r) a ∙ no-pops p c gs r few (not-end s (t .indexed .accepted) (c .top) (t .sits .top) unfinished))
     ]
-    settled-is (spent r goes most e) = elim (truth (isAsking (c .effect))) [
-      | holds a ↦ absurd (omega (arith, most, t .goes a .1))
+    settled-is (spent r unfinished most e) = elim (truth (isAsking (c .effect))) [
+      | holds a ↦ absurd (omega (arith, most, t .unfinished a .1))
       | fails a ↦
           ap (λ z. managerOf (put z)) e
           ∙ ap (λ fs. bare (stoodAs c (c .height) OutOfSteps (c .reply)) fs) (stack-some (c .height) (frameOf (c .top)) gs (has-frame r))
-          ∙ sym (plain-settled p c gs (c .effect) (t .done) (not-over r) a ∙ concluded-out p (standing c gs) (frameOf (c .top)) gs most (not-end s (t .indexed .accepted) (c .top) (t .sits .top) goes))
+          ∙ sym (plain-settled p c gs (c .effect) (t .done) (not-over r) a ∙ concluded-out p (standing c gs) (frameOf (c .top)) gs most (not-end s (t .indexed .accepted) (c .top) (t .sits .top) unfinished))
     ]
 
     -- what closing leaves as it was
@@ -315,9 +315,9 @@ module _ (s index : List ℕ) (ws : List Waiting) (c₀ c : Core) (t : Lowering 
         left-as r (c .height) (c .ending) (c .reply) (sym is ∙ e) (omega arith) (λ y. absurd (not-both (isRunning (c .ending)) y had)) (λ _. refl)
     left-by r (finishes run one h e) is =
         left-as r 0 Finished Nil (sym is ∙ e) (omega arith) (λ y. absurd (not-both false y refl)) (λ y. absurd (not-both false y refl))
-    left-by r (runs-on run goes few e) is =
-        left-as r (c .height) (c .ending) (c .reply) (sym is ∙ e) (omega arith) (λ _. (has-frame run, (goes, few))) (λ _. refl)
-    left-by r (spent run goes most e) is =
+    left-by r (runs-on run unfinished few e) is =
+        left-as r (c .height) (c .ending) (c .reply) (sym is ∙ e) (omega arith) (λ _. (has-frame run, (unfinished, few))) (λ _. refl)
+    left-by r (spent run unfinished most e) is =
         left-as r (c .height) OutOfSteps (c .reply) (sym is ∙ e) (omega arith) (λ y. absurd (not-both false y refl)) (λ y. absurd (not-both false y refl))
 
     module _ (r : Core) (is : r ≡ closedAs c) where
@@ -329,7 +329,7 @@ module _ (s index : List ℕ) (ws : List Waiting) (c₀ c : Core) (t : Lowering 
       closed-comes =
           ap₂ (λ m x. record { manager = m; effect = effectOf x }) (ap (λ z. managerOf (put z)) is ∙ settled-is close) (left .effect)
 
-      pub closed-held : Held s (put r)
+      pub closed-held : WellFormed s (put r)
       closed-held =
           let x = left in
           record {
@@ -344,7 +344,7 @@ module _ (s index : List ℕ) (ws : List Waiting) (c₀ c : Core) (t : Lowering 
             each = λ k hk. t .each k (omega (arith, hk, x .lower));
             live = λ y. x .runs y .0;
             few = λ y. x .runs y .1 .1;
-            goes = λ y. x .runs y .1 .0;
+            unfinished = λ y. x .runs y .1 .0;
           }
 
       -- one that asks runs on as it was
@@ -352,8 +352,8 @@ module _ (s index : List ℕ) (ws : List Waiting) (c₀ c : Core) (t : Lowering 
       closed-asks a =
           let over : isOver (c .effect) ≡ false = let e = asking-is (c .effect) a in rw (e .1 .1) refl in
           let run = t .sits .runs over in
-          let g = t .goes a in
-          is ∙ closed-goes c run (lt-leb (c .top .count) (c .top .next) (g .0)) (g .1)
+          let g = t .unfinished a in
+          is ∙ closed-unfinished c run (lt-leb (c .top .count) (c .top .next) (g .0)) (g .1)
 
       -- and one that had ended is as it was
       pub closed-over : isRunning (c .ending) ≡ false → r ≡ c

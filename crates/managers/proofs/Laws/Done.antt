@@ -13,11 +13,11 @@ use Rattle.session.proofs.Laws.Lists.{holds, fails, truth}
 use Rattle.scripts.specs.Ending.{isRunning}
 use Rattle.scripts.specs.Effect as effect
 use Rattle.scripts.specs.Manager.{topOf, top, nextStep}
-use Rattle.words.specs.Reads.{isOpen, shownIn}
+use Rattle.words.specs.Reads.{isAvailable, shownIn}
 use Rattle.managers.specs.Frames.{frameOf, below}
 use Rattle.managers.specs.Core.{managerOf, effectOf, steppedOf, isOver, isAsking, isNothing, isDone, Present}
 use Rattle.managers.specs.Moves.{causing, Asks, closedAs}
-use Rattle.managers.specs.Steps.{Leads, Held, Advanceable, Advanced, Stepped, isShut}
+use Rattle.managers.specs.Steps.{Leads, WellFormed, Advanceable, Advanced, Stepped, isPaused}
 use Rattle.managers.specs.declared.Core.{Core}
 use Rattle.managers.specs.declared.Manager.{Manager}
 use Rattle.managers.specs.declared.frames.Waiting.{Waiting}
@@ -39,7 +39,7 @@ isIdle (effect.Fork u message) = false
 not-nothing : (e : Effect) → effectOf e ≡ effect.Nothing → isIdle (effectOf e) ≡ false → ⊥
 not-nothing e x y = not-both (isIdle (effectOf e)) (ap isIdle x) y
 
-module _ (s masks index current seen : List ℕ) (all : Bool) (limit : ℕ) (c₀ : Core) (ws₀ : List Waiting) (c : Core) (ws : List Waiting) (t : Turning s masks index current seen all limit c₀ ws₀ c ws) (out : (isNothing (c .effect) && ltb (c .steps) limit) ≡ false) (d : Core) (low : Lowering s index ws c d) (q : (isRunning (d .ending) && (leb (d .top .count) (d .top .next) && ltb 1 (d .height))) ≡ false) (r : Core) (is : r ≡ closedAs d) where
+module _ (s masks index current cache : List ℕ) (all : Bool) (limit : ℕ) (c₀ : Core) (ws₀ : List Waiting) (c : Core) (ws : List Waiting) (t : Turning s masks index current cache all limit c₀ ws₀ c ws) (out : (isNothing (c .effect) && ltb (c .steps) limit) ≡ false) (d : Core) (low : Lowering s index ws c d) (q : (isRunning (d .ending) && (leb (d .top .count) (d .top .next) && ltb 1 (d .height))) ≡ false) (r : Core) (is : r ≡ closedAs d) where
   abbrev p : Program
   p = programOf s
 
@@ -63,12 +63,12 @@ module _ (s masks index current seen : List ℕ) (all : Bool) (limit : ℕ) (c�
       let b : isAsking (d .effect) ≡ true = ap isAsking (low .effect-is) ∙ a in
       closed-asks s index ws c d low q r is b ∙ low .asks b
 
-  asks-here : (o k : ℕ) → r .effect ≡ Read o k → (isRunning (r .ending) ≡ true) × Asks s seen all r o k
+  asks-here : (o k : ℕ) → r .effect ≡ Read o k → (isRunning (r .ending) ≡ true) × Asks s cache all r o k
   asks-here o k e =
       let f : c .effect ≡ Read o k = sym effect-is ∙ e in
       let same = stays (ap isAsking f) in
       let over : isOver (c .effect) ≡ false = ap isOver f in
-      (ap (λ z. isRunning (z .ending)) same ∙ t .sits .runs over, subst (λ z. Asks s seen all z o k) (sym same) (t .asks o k f .1))
+      (ap (λ z. isRunning (z .ending)) same ∙ t .sits .runs over, subst (λ z. Asks s cache all z o k) (sym same) (t .asks o k f .1))
 
   over-here : r .effect ≡ End → isRunning (r .ending) ≡ false
   over-here e =
@@ -76,24 +76,24 @@ module _ (s masks index current seen : List ℕ) (all : Bool) (limit : ℕ) (c�
       let no-more = low .sits .over (ap isOver x) in
       ap (λ z. isRunning (z .ending)) (closed-over s index ws c d low q r is no-more) ∙ no-more
 
-  early-here : r .steps ≡ c₀ .steps → isShut s seen all c₀ ≡ true
-  early-here e = elim (truth (isShut s seen all c₀)) [
+  early-here : r .steps ≡ c₀ .steps → isPaused s cache all c₀ ≡ true
+  early-here e = elim (truth (isPaused s cache all c₀)) [
     | holds h ↦ h
     | fails h ↦
         let back : c .steps ≡ c₀ .steps = sym steps-are ∙ e in
-        let quiet = t .early back h .0 in
-        absurd (omega (arith, at-limit (nothing-is (c .effect) quiet), back, t .limited .0))
+        let internal = t .early back h .0 in
+        absurd (omega (arith, at-limit (nothing-is (c .effect) internal), back, t .limited .0))
   ]
 
-  pub advance-done : Advanced s current seen all limit m₀ m
+  pub advance-done : Advanced s current cache all limit m₀ m
   advance-done =
       let x = left s index ws c d low q r is in
       record {
         leads = λ read see.
             subst (Leads p read (managerOf m₀)) (sym (closed-comes s index ws c d low q r is ∙ low .same)) (t .leads read see);
         held = closed-held s index ws c d low q r is;
-        level-is = x .level ∙ low .level-is ∙ turning-level s masks index current seen all limit c₀ ws₀ c ws t;
-        first-is = x .first ∙ low .first-is ∙ turning-first s masks index current seen all limit c₀ ws₀ c ws t;
+        level-is = x .level ∙ low .level-is ∙ turning-level s masks index current cache all limit c₀ ws₀ c ws t;
+        first-is = x .first ∙ low .first-is ∙ turning-first s masks index current cache all limit c₀ ws₀ c ws t;
         present = subst (Present s) (sym effect-is) (t .present);
         done = ap isDone (x .effect) ∙ low .done;
         asks = asks-here;
@@ -103,15 +103,15 @@ module _ (s masks index current seen : List ℕ) (all : Bool) (limit : ℕ) (c�
             omega (arith, steps-are, t .asks (e .0) (e .1 .0) (e .1 .1) .0);
         over = over-here;
         few = omega (arith, steps-are, t .few);
-        rests = λ n _. omega (arith, at-limit (ap isNothing (sym effect-is) ∙ n), t .few, steps-are);
+        at-limit = λ n _. omega (arith, at-limit (ap isNothing (sym effect-is) ∙ n), t .few, steps-are);
         early = early-here;
       }
 
 -- what the manager's last step did before does not matter
-pub advanced-self : (s current seen : List ℕ) (all : Bool) (limit : ℕ) (m r : Manager) (c₀ : Core) → c₀ ≡ causing (m .core) Nothing → Advanced s current seen all limit (record { core = c₀; waiting = m .waiting }) r → Advanced s current seen all limit m r
+pub advanced-self : (s current cache : List ℕ) (all : Bool) (limit : ℕ) (m r : Manager) (c₀ : Core) → c₀ ≡ causing (m .core) Nothing → Advanced s current cache all limit (record { core = c₀; waiting = m .waiting }) r → Advanced s current cache all limit m r
 unfolding managerOf
-advanced-self s current seen all limit m r c₀ e a =
-    let b : Advanced s current seen all limit (record { core = causing (m .core) Nothing; waiting = m .waiting }) r = subst (λ z. Advanced s current seen all limit (record { core = z; waiting = m .waiting }) r) e a in
+advanced-self s current cache all limit m r c₀ e a =
+    let b : Advanced s current cache all limit (record { core = causing (m .core) Nothing; waiting = m .waiting }) r = subst (λ z. Advanced s current cache all limit (record { core = z; waiting = m .waiting }) r) e a in
     record {
       leads = b .leads;
       held = b .held;
@@ -123,18 +123,18 @@ advanced-self s current seen all limit m r c₀ e a =
       waits = b .waits;
       over = b .over;
       few = b .few;
-      rests = b .rests;
+      at-limit = b .at-limit;
       early = b .early;
     }
 
-pub self-able : (s masks index current seen : List ℕ) (m : Manager) (c₀ : Core) → c₀ ≡ causing (m .core) Nothing → Advanceable s masks index current seen m → Advanceable s masks index current seen (record { core = c₀; waiting = m .waiting })
-self-able s masks index current seen m c₀ e a =
-    subst (λ z. Advanceable s masks index current seen (record { core = z; waiting = m .waiting })) (sym e)
+pub self-able : (s masks index current cache : List ℕ) (m : Manager) (c₀ : Core) → c₀ ≡ causing (m .core) Nothing → Advanceable s masks index current cache m → Advanceable s masks index current cache (record { core = c₀; waiting = m .waiting })
+self-able s masks index current cache m c₀ e a =
+    subst (λ z. Advanceable s masks index current cache (record { core = z; waiting = m .waiting })) (sym e)
     (record {
       indexed = a .indexed;
       leveled = a .leveled;
       fields-there = a .fields-there;
-      seen-there = a .seen-there;
+      cache-there = a .cache-there;
       held = record {
         level = a .held .level;
         low = a .held .low;
@@ -147,7 +147,7 @@ self-able s masks index current seen m c₀ e a =
         each = a .held .each;
         live = a .held .live;
         few = a .held .few;
-        goes = a .held .goes;
+        unfinished = a .held .unfinished;
       };
       running = a .running;
     })
@@ -159,7 +159,7 @@ held-top m high =
     ap topOf (stack-some (m .core .height) (frameOf (m .core .top)) (below (m .waiting) (m .core .height - 1)) high)
 
 -- a limit of one more makes one step
-module _ (s current seen : List ℕ) (m r : Manager) (h : Held s m) (run : isRunning (m .core .ending) ≡ true) (a : Advanced s current seen false (m .core .steps + 1) m r) where
+module _ (s current cache : List ℕ) (m r : Manager) (h : WellFormed s m) (run : isRunning (m .core .ending) ≡ true) (a : Advanced s current cache false (m .core .steps + 1) m r) where
   abbrev program : Program
   program = programOf s
 
@@ -169,7 +169,7 @@ module _ (s current seen : List ℕ) (m r : Manager) (h : Held s m) (run : isRun
   made asks read l = by (leads-steps program read (managerOf m) (steppedOf r) l)
     where
       still : (e : Effect) → r .core .effect ≡ e → isRunning (r .core .ending) ≡ true → effectOf e ≡ effect.Nothing → r .core .steps ≡ m .core .steps + 1
-      still Nothing e on x = a .rests (ap isNothing e) on
+      still Nothing e on x = a .at-limit (ap isNothing e) on
       still End e on x = absurd (not-both (isRunning (r .core .ending)) on (a .over e))
       still (Write object field value) e on x = absurd (not-nothing (Write object field value) x refl)
       still (Read object field) e on x = absurd (not-both (isAsking (r .core .effect)) (ap isAsking e) asks)
@@ -188,13 +188,13 @@ module _ (s current seen : List ℕ) (m r : Manager) (h : Held s m) (run : isRun
   unchanged asks = by (leads-steps program at-hand (managerOf m) (steppedOf r) (a .leads at-hand (λ o k ho hk e. refl)))
     where
       at-hand : ℕ → ℕ → Value
-      at-hand = shownIn s current seen false (m .core .level)
+      at-hand = shownIn s current cache false (m .core .level)
 
       by : Steps (managerOf m) (steppedOf r) → managerOf r ≡ managerOf m
       by (none e) = ap (λ d. d .manager) e
       by (some e) = absurd (omega (arith, e, a .waits asks))
 
-  asked : (o k : ℕ) → r .core .effect ≡ Read o k → (managerOf r ≡ managerOf m) × Asks s seen false (m .core) o k
+  asked : (o k : ℕ) → r .core .effect ≡ Read o k → (managerOf r ≡ managerOf m) × Asks s cache false (m .core) o k
   asked o k e =
       let same = unchanged (ap isAsking e) in
       let x = a .asks o k e in
@@ -204,11 +204,11 @@ module _ (s current seen : List ℕ) (m r : Manager) (h : Held s m) (run : isRun
           register = x .1 .register;
           step = ap (nextStep program) (sym top-is) ∙ x .1 .step;
           object = ap (λ f. f .object) (sym top-is) ∙ x .1 .object;
-          shut = ap (λ l. isOpen s seen false l o k) (sym (a .level-is)) ∙ x .1 .shut;
+          shut = ap (λ l. isAvailable s cache false l o k) (sym (a .level-is)) ∙ x .1 .shut;
         },
       )
 
-  pub step-done : Stepped s current seen m r
+  pub step-done : Stepped s current cache m r
   unfolding managerOf
   step-done =
       record {

@@ -69,8 +69,8 @@ module _ (s : List ℕ) (a : verdictOf s ≡ Accepted) (f : Frame) (p : Placed s
   pub not-end : f .next < f .count → isEnd (nextStep (programOf s) (frameOf f)) ≡ false
   not-end h = inside-not-end s a (frameOf f) (omega (arith, h, p .at .count-is))
 
-  pub goes-there : isEnd (nextStep (programOf s) (frameOf f)) ≡ false → f .next < f .count
-  goes-there e = elim (decLt (f .next) (f .count)) [
+  pub unfinished-there : isEnd (nextStep (programOf s) (frameOf f)) ≡ false → f .next < f .count
+  unfinished-there e = elim (decLt (f .next) (f .count)) [
     | yes h ↦ h
     | no h ↦ absurd (not-both _ (outside-end s a (frameOf f) (omega (arith, h, p .at .count-is))) e)
   ]
@@ -85,8 +85,8 @@ module _ (c : Core) where
   closed-last e q = rw (e, q) refl
 
   -- its top going on, with steps left
-  pub closed-goes : isRunning (c .ending) ≡ true → leb (c .top .count) (c .top .next) ≡ false → c .steps < maxScriptSteps → closedAs c ≡ c
-  closed-goes e q h = rw (e, q, lt-ltb (c .steps) maxScriptSteps h) refl
+  pub closed-unfinished : isRunning (c .ending) ≡ true → leb (c .top .count) (c .top .next) ≡ false → c .steps < maxScriptSteps → closedAs c ≡ c
+  closed-unfinished e q h = rw (e, q, lt-ltb (c .steps) maxScriptSteps h) refl
 
   -- and with none
   pub closed-out : isRunning (c .ending) ≡ true → leb (c .top .count) (c .top .next) ≡ false → maxScriptSteps ≤ c .steps → closedAs c ≡ stoodAs c (c .height) OutOfSteps (c .reply)

@@ -41,7 +41,7 @@ moves-to c r t f e b near =
 -- the top that passes its step is within its method still, whatever a register of it then holds
 pub moves-past : (c r : Core) (t : Frame) → Able c → r ≡ nextTop c t → Becomes (c .top) t (pastOf c) → Moves c r (pastOf c)
 moves-past c r t able e b =
-    moves-to c r t (pastOf c) e b (omega (arith, able .goes, ap (λ x. x .next) (b .frame), b .same .count))
+    moves-to c r t (pastOf c) e b (omega (arith, able .unfinished, ap (λ x. x .next) (b .frame), b .same .count))
 
 pub moves-put : (c r : Core) (t u : Frame) (k : ℕ) (v : Value) → Able c → r ≡ nextTop c u → Becomes (c .top) t (pastOf c) → Becomes t u (withRegister (frameOf t) k v) → Moves c r (withRegister (pastOf c) k v)
 moves-put c r t u k v able e past put =
@@ -54,7 +54,7 @@ moves-put c r t u k v able e past put =
       answer = put .same .answer ∙ past .same .answer;
     } in
     moves-to c r u (withRegister (pastOf c) k v) e (record { frame = frame; same = same })
-    (omega (arith, able .goes, ap (λ x. x .next) frame, register-next (pastOf c) k v, same .count))
+    (omega (arith, able .unfinished, ap (λ x. x .next) frame, register-next (pastOf c) k v, same .count))
 
 -- a JUMP to a step of its method, if the register is NIL or 0
 abbrev jumpedTo : Frame → ℕ → Frame
@@ -130,7 +130,7 @@ sits-going s c f w k x able same near lasts h sits =
       top = becomes-placed s (c .top) f same near (sits .top);
       over = λ q. absurd (not-both (isOver x) q lasts);
       runs = λ _. able .runs;
-      some = λ _. sits .some (rw (able .quiet));
+      some = λ _. sits .some (rw (able .internal));
       tall = h .1 .1;
     }
 
@@ -185,7 +185,7 @@ pub makes-moved : (P : List ℕ → Type 0) (c r : Core) (f : defined.Frame) (d 
 unfolding comesTo
 makes-moved P c r f d able m e =
     makes-going P c r (r .top) (c .writes) (c .forks) Nothing d able
-    (m .core-is ∙ ap (going c (r .top) (c .writes) (c .forks)) (able .quiet)) (m .top-is .same) (m .near) refl refl
+    (m .core-is ∙ ap (going c (r .top) (c .writes) (c .forks)) (able .internal)) (m .top-is .same) (m .near) refl refl
     (λ s sits. (sits .wrote, (sits .forked, tt)))
     (λ s _. tt)
     (λ p gs tall.

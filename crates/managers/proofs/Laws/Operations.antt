@@ -31,14 +31,14 @@ use Rattle.scripts.specs.Valid.{Leveled}
 use Rattle.scripts.proofs.Laws.Accepted.{next-fits}
 use Rattle.scripts.proofs.Laws.Send.{send-by}
 use Rattle.words.specs.Fields.{fieldAt, knownAt}
-use Rattle.words.specs.Reads.{shownIn, isOpen}
+use Rattle.words.specs.Reads.{shownIn, isAvailable}
 use Rattle.managers.specs.Frames.{frameOf, Method}
 use Rattle.managers.specs.Core.{standing, isOver, isAsking, Tall, Present, Sits}
 use Rattle.managers.specs.Moves.{Able, Operable, Moves, Makes, passed, pastOf, causing, finishedAs, endingAs, ownWritten, counting, OperationMade, ReadMade, Operated}
 use Rattle.managers.specs.declared.Core.{Core}
 use Rattle.managers.specs.declared.Effect.{Effect}
 use Rattle.managers.specs.declared.Effect.the-variants.{Nothing, Read, Pop}
-use Rattle.managers.proofs.Laws.Frames.{goes-there}
+use Rattle.managers.proofs.Laws.Frames.{unfinished-there}
 use Rattle.managers.proofs.Laws.Makes.{makes-moved}
 
 -- an operation that was made, where it is one of document 01's
@@ -87,7 +87,7 @@ module _ (s masks : List ℕ) (lent : Leveled s masks) (c r : Core) (a b o x y :
 
 -- a core that waits for nothing, with another effect
 sits-causing : (s : List ℕ) (c : Core) (x : Effect) → c .effect ≡ Nothing → isOver x ≡ false → Tall x (c .height) → Sits s c → Sits s (causing c x)
-sits-causing s c x quiet lasts tall sits =
+sits-causing s c x internal lasts tall sits =
     record {
       level = sits .level;
       low = sits .low;
@@ -97,8 +97,8 @@ sits-causing s c x quiet lasts tall sits =
       fits = sits .fits;
       top = sits .top;
       over = λ q. absurd (not-both (isOver x) q lasts);
-      runs = λ _. sits .runs (rw quiet);
-      some = λ _. sits .some (rw quiet);
+      runs = λ _. sits .runs (rw internal);
+      some = λ _. sits .some (rw internal);
       tall = tall;
     }
 
@@ -111,42 +111,42 @@ at-hand false x y (inr e) = eq-eqb x y e
 afar : (all : Bool) (x y : ℕ) → all ≡ false → (x ≡ y → ⊥) → (all || eqb x y) ≡ false
 afar all x y e q = rw (e, ne-eqb x y q)
 
-module _ (s current seen : List ℕ) (all : Bool) (a b : ℕ) (c r : Core) (able : Able c) (sits : Sits s c) (field : b < fields) where
+module _ (s current cache : List ℕ) (all : Bool) (a b : ℕ) (c r : Core) (able : Able c) (sits : Sits s c) (field : b < fields) where
   -- a READ is made with what the words say
-  read-made : (v : Value) → Moves c r (withRegister (pastOf c) a v) → isOpen s seen all (c .level) (c .top .object) b ≡ true → v ≡ shownIn s current seen all (c .level) (c .top .object) b → ReadMade s current seen all a b c r
+  read-made : (v : Value) → Moves c r (withRegister (pastOf c) a v) → isAvailable s cache all (c .level) (c .top .object) b ≡ true → v ≡ shownIn s current cache all (c .level) (c .top .object) b → ReadMade s current cache all a b c r
   unfolding operated
   read-made v m known shown =
-      let quiet : r .effect ≡ Nothing = ap (λ x. x .effect) (m .core-is) ∙ able .quiet in
+      let internal : r .effect ≡ Nothing = ap (λ x. x .effect) (m .core-is) ∙ able .internal in
       let made = makes-moved (λ _. Unit) c r (withRegister (pastOf c) a v) (λ n. record { manager = withTop n (withRegister (pastOf c) a v); effect = effect.Nothing }) able m (λ gs tall. refl) in
       record {
-        is = λ _ read sees gs tall.
+        is = λ _ read agrees gs tall.
             made .is (programOf s) gs tall
             ∙ ap (λ w. counting (programOf s) (record { manager = withTop (standing c gs) (withRegister (pastOf c) a w); effect = effect.Nothing }))
-            (shown ∙ sym (sees (c .top .object) b (sits .top .method .0) field known));
+            (shown ∙ sym (agrees (c .top .object) b (sits .top .method .0) field known));
         level-is = made .level-is;
         first-is = made .first-is;
         steps-are = λ _. made .steps-are;
         asks = λ q. absurd (not-both (isAsking (r .effect)) q (made .asks));
         tall = ap (λ x. x .height) (m .core-is);
-        over = ap isOver quiet;
+        over = ap isOver internal;
         sits = made .sits s sits;
         present = made .present s tt;
       }
 
   -- of an object at hand, what its field holds
-  pub read-current : (v : Value) → Moves c r (withRegister (pastOf c) a v) → (all ≡ true) ⊎ (levelOf s (c .top .object) ≡ c .level) → v ≡ fieldAt current (c .top .object) b → ReadMade s current seen all a b c r
+  pub read-current : (v : Value) → Moves c r (withRegister (pastOf c) a v) → (all ≡ true) ⊎ (levelOf s (c .top .object) ≡ c .level) → v ≡ fieldAt current (c .top .object) b → ReadMade s current cache all a b c r
   read-current v m h e =
       let here = at-hand all (levelOf s (c .top .object)) (c .level) h in
       read-made v m (rw here) (rw here e)
 
   -- of another, what was read before
-  pub read-known : (v : Value) → Moves c r (withRegister (pastOf c) a v) → all ≡ false → (levelOf s (c .top .object) ≡ c .level → ⊥) → knownAt seen (c .top .object) b ≡ true → v ≡ fieldAt seen (c .top .object) b → ReadMade s current seen all a b c r
+  pub read-known : (v : Value) → Moves c r (withRegister (pastOf c) a v) → all ≡ false → (levelOf s (c .top .object) ≡ c .level → ⊥) → knownAt cache (c .top .object) b ≡ true → v ≡ fieldAt cache (c .top .object) b → ReadMade s current cache all a b c r
   read-known v m none apart known e =
       let there = afar all (levelOf s (c .top .object)) (c .level) none apart in
       read-made v m (rw (there, known)) (rw there e)
 
   -- or it is asked for
-  pub read-asked : r ≡ causing c (Read (c .top .object) b) → all ≡ false → (levelOf s (c .top .object) ≡ c .level → ⊥) → knownAt seen (c .top .object) b ≡ false → ReadMade s current seen all a b c r
+  pub read-asked : r ≡ causing c (Read (c .top .object) b) → all ≡ false → (levelOf s (c .top .object) ≡ c .level → ⊥) → knownAt cache (c .top .object) b ≡ false → ReadMade s current cache all a b c r
   read-asked e none apart unknown =
       let asks : isAsking (r .effect) ≡ true = ap (λ x. isAsking (x .effect)) e in
       record {
@@ -157,22 +157,22 @@ module _ (s current seen : List ℕ) (all : Bool) (a b : ℕ) (c r : Core) (able
         asks = λ _. (e, rw (afar all (levelOf s (c .top .object)) (c .level) none apart, unknown));
         tall = ap (λ x. x .height) e;
         over = ap (λ x. isOver (x .effect)) e;
-        sits = subst (Sits s) (sym e) (sits-causing s c (Read (c .top .object) b) (able .quiet) refl tt sits);
+        sits = subst (Sits s) (sym e) (sits-causing s c (Read (c .top .object) b) (able .internal) refl tt sits);
         present = subst (λ x. Present s (x .effect)) (sym e) (sits .top .method .0, field);
       }
 
 -- the next step of a core, once it is known which
-module _ (s current seen : List ℕ) (all : Bool) (c r : Core) where
-  pub operated-made : (i : Step) → OperationMade s i c r → nextStep (programOf s) (frameOf (c .top)) ≡ i → isEnd i ≡ false → Operated s current seen all c r
+module _ (s current cache : List ℕ) (all : Bool) (c r : Core) where
+  pub operated-made : (i : Step) → OperationMade s i c r → nextStep (programOf s) (frameOf (c .top)) ≡ i → isEnd i ≡ false → Operated s current cache all c r
   unfolding stepped
-  operated-made i o e goes =
+  operated-made i o e unfinished =
       let p = programOf s in
       record {
         steps = λ _ _. record {
           is = λ read _ gs tall. o .is read gs tall ∙ ap (λ x. counting p (operated p read (standing c gs) (passed (standing c gs)) x)) (sym e);
           steps-are = o .steps-are;
         };
-        ends = λ q. absurd (not-both _ q (ap isEnd e ∙ goes));
+        ends = λ q. absurd (not-both _ q (ap isEnd e ∙ unfinished));
         asks = λ q. absurd (not-both (isAsking (r .effect)) q (o .asks));
         level-is = o .level-is;
         first-is = o .first-is;
@@ -183,13 +183,13 @@ module _ (s current seen : List ℕ) (all : Bool) (c r : Core) where
         present = o .present;
       }
 
-  pub operated-read : (a b : ℕ) → ReadMade s current seen all a b c r → nextStep (programOf s) (frameOf (c .top)) ≡ op.Read a b → Operated s current seen all c r
+  pub operated-read : (a b : ℕ) → ReadMade s current cache all a b c r → nextStep (programOf s) (frameOf (c .top)) ≡ op.Read a b → Operated s current cache all c r
   unfolding stepped
   operated-read a b o e =
       let p = programOf s in
       record {
         steps = λ _ q. record {
-          is = λ read sees gs tall. o .is q read sees gs tall ∙ ap (λ x. counting p (operated p read (standing c gs) (passed (standing c gs)) x)) (sym e);
+          is = λ read agrees gs tall. o .is q read agrees gs tall ∙ ap (λ x. counting p (operated p read (standing c gs) (passed (standing c gs)) x)) (sym e);
           steps-are = o .steps-are q;
         };
         ends = λ q. absurd (not-both _ q (ap isEnd e));
@@ -220,8 +220,8 @@ sits-finished s c v sits =
       tall = tt;
     }
 
-module _ (s current seen : List ℕ) (all : Bool) (c r : Core) (sits : Sits s c) (quiet : c .effect ≡ Nothing) (step : nextStep (programOf s) (frameOf (c .top)) ≡ op.End) (is : r ≡ endingAs c) where
-  end-finished : r ≡ finishedAs c Nil → Operated s current seen all c r
+module _ (s current cache : List ℕ) (all : Bool) (c r : Core) (sits : Sits s c) (internal : c .effect ≡ Nothing) (step : nextStep (programOf s) (frameOf (c .top)) ≡ op.End) (is : r ≡ endingAs c) where
+  end-finished : r ≡ finishedAs c Nil → Operated s current cache all c r
   end-finished e =
       record {
         steps = λ q. absurd (not-both _ (ap isEnd step) q);
@@ -236,10 +236,10 @@ module _ (s current seen : List ℕ) (all : Bool) (c r : Core) (sits : Sits s c)
         present = subst (λ x. Present s (x .effect)) (sym e) tt;
       }
 
-  end-popped : (c .height ≡ 1 → ⊥) → r ≡ causing c (Pop Nil) → Operated s current seen all c r
+  end-popped : (c .height ≡ 1 → ⊥) → r ≡ causing c (Pop Nil) → Operated s current cache all c r
   end-popped more e =
       let tall : r .height ≡ c .height = ap (λ x. x .height) e in
-      let some : 0 < c .height = sits .some (rw quiet) in
+      let some : 0 < c .height = sits .some (rw internal) in
       record {
         steps = λ q. absurd (not-both _ (ap isEnd step) q);
         ends = λ _. is;
@@ -249,29 +249,29 @@ module _ (s current seen : List ℕ) (all : Bool) (c r : Core) (sits : Sits s c)
         tall = λ _. tall;
         lower = omega arith;
         flat = λ _. tall;
-        sits = subst (Sits s) (sym e) (sits-causing s c (Pop Nil) quiet refl (omega (arith, more)) sits);
+        sits = subst (Sits s) (sym e) (sits-causing s c (Pop Nil) internal refl (omega (arith, more)) sits);
         present = subst (λ x. Present s (x .effect)) (sym e) tt;
       }
 
-  pub operated-end : Operated s current seen all c r
+  pub operated-end : Operated s current cache all c r
   operated-end = elim (truth (eqb (c .height) 1)) [
     | holds q ↦ end-finished (rw q at is)
     | fails q ↦ end-popped (eqb-false (c .height) 1 q) (rw q at is)
   ]
 
 -- a core whose next step is no end makes it, and its operands fit
-module _ (s masks current seen : List ℕ) (c : Core) (o : Operable s masks current seen c) where
+module _ (s masks current cache : List ℕ) (c : Core) (o : Operable s masks current cache c) where
   pub able-next : (i : Step) → nextStep (programOf s) (frameOf (c .top)) ≡ i → isEnd i ≡ false → Able c
-  able-next i e goes =
+  able-next i e unfinished =
       record {
         few = o .few;
-        goes = goes-there s (o .leveled .accepted) (c .top) (o .sits .top) (ap isEnd e ∙ goes);
-        quiet = o .quiet;
-        runs = o .sits .runs (rw (o .quiet));
+        unfinished = unfinished-there s (o .leveled .accepted) (c .top) (o .sits .top) (ap isEnd e ∙ unfinished);
+        internal = o .internal;
+        runs = o .sits .runs (rw (o .internal));
       }
 
   fits-next : (i : Step) → nextStep (programOf s) (frameOf (c .top)) ≡ i → isEnd i ≡ false → operandsFit (objectCount s) (length (methodOf s (c .top .object) (c .top .name))) i ≡ true
-  fits-next i e goes = rw e at (next-fits s (o .leveled .accepted) (frameOf (c .top)) (ap isEnd e ∙ goes))
+  fits-next i e unfinished = rw e at (next-fits s (o .leveled .accepted) (frameOf (c .top)) (ap isEnd e ∙ unfinished))
 
   pub jump-near : (a b : ℕ) → nextStep (programOf s) (frameOf (c .top)) ≡ op.Jump a b → b ≤ c .top .count
   unfolding operandsFit

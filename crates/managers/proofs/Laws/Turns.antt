@@ -19,7 +19,7 @@ use Rattle.scripts.specs.Frame.{frameFor, withRegister}
 use Rattle.scripts.specs.Manager.{isEnd, nextStep, popped, concluded}
 use Rattle.scripts.proofs.Laws.Counts.{concluded-counts, popped-counts}
 use Rattle.scripts.proofs.Laws.Settle.{popped-to, concluded-pop, concluded-last, concluded-not, running-is}
-use Rattle.words.specs.Reads.{Sees}
+use Rattle.words.specs.Reads.{Agrees}
 use Rattle.managers.specs.Frames.{intoOf, returnsOf, frameOf, asideOf, noWaiting, below}
 use Rattle.managers.specs.Core.{bare, standing, comesTo, settledOf, isOver, isAsking}
 use Rattle.managers.specs.Moves.{causing, endingAs, Operable, Operated, Pushed, Popped}
@@ -79,9 +79,9 @@ abbrev idle : defined.Manager → defined.Stepped
 idle m = record { manager = m; effect = effect.Nothing }
 
 -- a core with nothing left to do
-pub quiet-comes : (p : Program) (c : Core) (gs : List defined.Frame) → c .effect ≡ Nothing → comesTo p c gs ≡ record { manager = concluded p (standing c gs); effect = effect.Nothing }
+pub internal-comes : (p : Program) (c : Core) (gs : List defined.Frame) → c .effect ≡ Nothing → comesTo p c gs ≡ record { manager = concluded p (standing c gs); effect = effect.Nothing }
 unfolding comesTo
-quiet-comes p c gs q = rw q refl
+internal-comes p c gs q = rw q refl
 
 -- one whose top is not at its script's end has no pops to come
 pub no-pops : (p : Program) (c : Core) (gs : List defined.Frame) → isRunning (c .ending) ≡ true → c .steps < maxScriptSteps → isEnd (nextStep p (frameOf (c .top))) ≡ false → concluded p (standing c gs) ≡ standing c gs
@@ -126,12 +126,12 @@ unfolding comesTo
 asking-comes p c gs o k = refl
 
 -- an operation leads on
-pub turn-leads : (s masks current seen : List ℕ) (all : Bool) (c r : Core) → Operable s masks current seen c → Operated s current seen all c r → (read : ℕ → ℕ → Value) → Sees s current seen all (c .level) read → (gs : List defined.Frame) → suc (length gs) ≡ c .height → (m : defined.Manager) → Leads (programOf s) read m (comesTo (programOf s) c gs) → Leads (programOf s) read m (comesTo (programOf s) r gs)
-turn-leads s masks current seen all c r able o read see gs h m l =
+pub turn-leads : (s masks current cache : List ℕ) (all : Bool) (c r : Core) → Operable s masks current cache c → Operated s current cache all c r → (read : ℕ → ℕ → Value) → Agrees s current cache all (c .level) read → (gs : List defined.Frame) → suc (length gs) ≡ c .height → (m : defined.Manager) → Leads (programOf s) read m (comesTo (programOf s) c gs) → Leads (programOf s) read m (comesTo (programOf s) r gs)
+turn-leads s masks current cache all c r able o read see gs h m l =
     let p = programOf s in
-    let over : isOver (c .effect) ≡ false = rw (able .quiet) refl in
+    let over : isOver (c .effect) ≡ false = rw (able .internal) refl in
     let run = able .sits .runs over in
-    let here = quiet-comes p c gs (able .quiet) in
+    let here = internal-comes p c gs (able .internal) in
     elim (truth (isEnd (nextStep p (frameOf (c .top))))) [
       | holds e ↦
           let same : comesTo p r gs ≡ comesTo p c gs = ap (λ x. comesTo p x gs) (o .ends e) ∙ end-comes s c gs h run e ∙ sym here in

@@ -3,6 +3,6 @@ pub mod Direct
 pub mod DepthFirst
 pub mod Bounds
 pub mod Reachable
-pub mod Live
+pub mod Reached
 pub mod Needs
 pub mod Progress

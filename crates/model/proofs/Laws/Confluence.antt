@@ -17,7 +17,7 @@ Allowed act May (l ∷ ls) s = May s l × Allowed act May ls (act l s)
 
 -- two steps that are both allowed in a state with the invariant commute, and each stays allowed after the other
 pub record Commuting (S : Type 0) (act : ℕ → S → S) (May : S → ℕ → Type 0) (Inv : S → Type 0) : Type 0 where
-  pub keeps : (s : S) (l : ℕ) → Inv s → May s l → Inv (act l s)
+  pub preserves : (s : S) (l : ℕ) → Inv s → May s l → Inv (act l s)
   pub stays : (s : S) (l k : ℕ) → (l ≡ k → ⊥) → Inv s → May s l → May s k → May (act k s) l
   pub commute : (s : S) (l k : ℕ) → (l ≡ k → ⊥) → Inv s → May s l → May s k → act l (act k s) ≡ act k (act l s)
 
@@ -30,7 +30,7 @@ module _ (S : Type 0) (act : ℕ → S → S) (May : S → ℕ → Type 0) (Inv 
   pub kept : (ls : List ℕ) (s : S) → Inv s → Allowed act May ls s → Inv (ran act ls s)
   unfolding ran Allowed
   kept [] s i a = i
-  kept (l ∷ ls) s i a = kept ls (act l s) (c .keeps s l i (a .0)) (a .1)
+  kept (l ∷ ls) s i a = kept ls (act l s) (c .preserves s l i (a .0)) (a .1)
 
   -- what is left of a list that finishes when one of its steps is made first
   abbrev pub Rest : ℕ → List ℕ → S → Type 0
@@ -48,7 +48,7 @@ module _ (S : Type 0) (act : ℕ → S → S) (May : S → ℕ → Type 0) (Inv 
   unfolding ran Allowed
   first-made l [] s i m a o = absurd (o l m)
   first-made l (k ∷ ks) s i m a o =
-      let later : (l ≡ k → ⊥) → Rest l ks (act k s) = λ n. first-made l ks (act k s) (c .keeps s k i (a .0)) (c .stays s l k n i m (a .0)) (a .1) o in
+      let later : (l ≡ k → ⊥) → Rest l ks (act k s) = λ n. first-made l ks (act k s) (c .preserves s k i (a .0)) (c .stays s l k n i m (a .0)) (a .1) o in
       made l k ks s i m a later (ℕ-discrete l k)
     where
       made : (l k : ℕ) (ks : List ℕ) (s : S) → Inv s → May s l → Allowed act May (k ∷ ks) s → ((l ≡ k → ⊥) → Rest l ks (act k s)) → Dec (l ≡ k) → Rest l (k ∷ ks) s
@@ -62,4 +62,4 @@ module _ (S : Type 0) (act : ℕ → S → S) (May : S → ℕ → Type 0) (Inv 
   confluent [] (k ∷ ks) s i a o b q = absurd (o k (b .0))
   confluent (l ∷ ls) ks s i a o b q =
       let (ks', (b', e)) = first-made l ks s i (a .0) b q in
-      confluent ls ks' (act l s) (c .keeps s l i (a .0)) (a .1) o b' (rw e q) ∙ e
+      confluent ls ks' (act l s) (c .preserves s l i (a .0)) (a .1) o b' (rw e q) ∙ e

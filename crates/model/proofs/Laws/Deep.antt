@@ -1,5 +1,5 @@
 -- The depth-first run as a list of safe steps.
-pub mod Resting
+pub mod Quiescent
 pub mod Working
 pub mod Ready
 pub mod DeepStep

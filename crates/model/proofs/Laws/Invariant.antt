@@ -5,11 +5,11 @@ pub mod Tree
 pub mod Forest
 pub mod Entries
 pub mod Change
-pub mod Orderly
-pub mod Keeps
+pub mod Forks
+pub mod Preserved
 pub mod Measure
-pub mod Tame
+pub mod Bounded
 pub mod WriteStamps
 pub mod Became
-pub mod Stamped
+pub mod State
 pub mod Versions

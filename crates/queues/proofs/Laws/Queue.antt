@@ -57,7 +57,7 @@ module _ (n : ℕ) (ws : List ℕ) (l i : ℕ) where
   unfolding forkAt forkOfRow rowAt tab
   stamp-is = rw (add-zero (forkPlace l i)) refl
 
-  pub carried-is : (j : ℕ) → j < n → j < maxLevels → getD (forkAt n ws l i .seen) j 0 ≡ getD ws (forkPlace l i + carriedPlace + j) 0 % 2 ^ 16
+  pub carried-is : (j : ℕ) → j < n → j < maxLevels → getD (forkAt n ws l i .carried) j 0 ≡ getD ws (forkPlace l i + carriedPlace + j) 0 % 2 ^ 16
   unfolding forkAt forkOfRow
   carried-is j h m =
       getD-tab 0 n (λ k. getD (rowAt ws (forkPlace l i) forkWords) (carriedPlace + k) 0 % 2 ^ 16) j h

@@ -39,7 +39,7 @@ pub record Fits (depth : ℕ) (message : Message) : Type 0 where
 -- a row of a stamp, a depth, a message and what is carried: the fork in it, and one carried write stamp more
 module _ (stamp depth : ℕ) (message : Message) where
   row-fork : Fits depth message → (carried : List ℕ) (n : ℕ)
-      → forkOfRow n (rowWith stamp depth message carried) ≡ record { stamp = stamp; depth = depth; seen = tab n (λ j. getD carried j 0 % 2 ^ 16); message = message }
+      → forkOfRow n (rowWith stamp depth message carried) ≡ record { stamp = stamp; depth = depth; carried = tab n (λ j. getD carried j 0 % 2 ^ 16); message = message }
   unfolding forkOfRow
   row-fork fits carried n =
       let row = rowWith stamp depth message carried in
@@ -47,7 +47,7 @@ module _ (stamp depth : ℕ) (message : Message) where
       let b : message .object % 2 ^ 8 ≡ message .object = mod-eq-of-lt (fits .object) in
       let c : message .name % 2 ^ 8 ≡ message .name = mod-eq-of-lt (fits .name) in
       rw (a, b, c, value-back (message .parameter))
-      (ap (λ seen. record { stamp = stamp; depth = depth; seen = seen; message = message })
+      (ap (λ seen. record { stamp = stamp; depth = depth; carried = seen; message = message })
       (tab-ext n (λ j. getD row (carriedPlace + j) 0 % 2 ^ 16) (λ j. getD carried j 0 % 2 ^ 16) (λ j l. ap (λ w. w % 2 ^ 16) (sym (getD-drop carriedPlace row j 0)))))
 
   pub set-carried : (carried : List ℕ) (j v : ℕ) → set (rowWith stamp depth message carried) (carriedPlace + j) v ≡ rowWith stamp depth message (set carried j v)
@@ -59,7 +59,7 @@ module _ (stamp depth : ℕ) (message : Message) where
 pub root-row : (message : Message) → Fits 0 message → RootRow message (rowOf 0 0 message)
 root-row message fits n h =
     row-fork 0 0 message fits (replicate maxLevels 0) n
-    ∙ ap (λ seen. record { stamp = 0; depth = 0; seen = seen; message = message })
+    ∙ ap (λ seen. record { stamp = 0; depth = 0; carried = seen; message = message })
     (tab-same n 0 (λ j. getD (replicate maxLevels 0) j 0 % 2 ^ 16) (λ j l. ap (λ w. w % 2 ^ 16) (getD-replicate maxLevels j 0 0 (omega arith))))
 
 -- the row of a fork of the manager of fork i of level l, whose words start at a place: with the first j of those that it carries
@@ -92,7 +92,7 @@ child-row ws l i stamp depth carried message h fits small n g m =
     let own = tab maxLevels f in
     let old = rowAt ws (forkPlace l i) forkWords in
     row-fork stamp depth message fits (set own l carried) n
-    ∙ ap (λ seen. record { stamp = stamp; depth = depth; seen = seen; message = message })
+    ∙ ap (λ seen. record { stamp = stamp; depth = depth; carried = seen; message = message })
     (tab-set n l carried (λ j. getD (set own l carried) j 0 % 2 ^ 16) (λ j. getD old (carriedPlace + j) 0 % 2 ^ 16)
     (ap (λ w. w % 2 ^ 16) (getD-set-same own l carried 0 (omega (arith, length-tab maxLevels f))) ∙ mod-eq-of-lt small)
     (λ j b d.

@@ -97,13 +97,13 @@ module _ (ws ws' ws'' : List ℕ) (base count place : ℕ) (row : List ℕ) (wid
       ∙ s .moved (base + w * i + j) (omega (arith, mul-le-mul-left w l)) (omega (arith, row-within w i count m))))
 
 -- rows decoded by something that keeps the key
-module _ {A : Type 0} (f : List ℕ → A) (key : A → ℕ) (keeps : (row : List ℕ) → key (f row) ≡ keyOf row) where
+module _ {A : Type 0} (f : List ℕ → A) (key : A → ℕ) (preserves : (row : List ℕ) → key (f row) ≡ keyOf row) where
   pub decoded : (ws ws' : List ℕ) (base count cap : ℕ) (row : List ℕ) (n : ℕ) → Inserted ws ws' base count cap row n
       → map f (rowsAt ws' base (length row) n) ≡ take cap (inserted key (f row) (map f (rowsAt ws base (length row) count)))
   decoded ws ws' base count cap row n h =
       ap (map f) (h .rows)
       ∙ take-map f cap (inserted keyOf row (rowsAt ws base (length row) count))
-      ∙ ap (take cap) (inserted-map keyOf key f keeps row (rowsAt ws base (length row) count))
+      ∙ ap (take cap) (inserted-map keyOf key f preserves row (rowsAt ws base (length row) count))
 
   pub decoded-rises : (rows : List (List ℕ)) → risingFrom key 0 (map f rows) ≡ risingFrom keyOf 0 rows
-  decoded-rises rows = rising-map f key 0 rows ∙ ap (λ k. risingFrom k 0 rows) (fun-ext keeps)
+  decoded-rises rows = rising-map f key 0 rows ∙ ap (λ k. risingFrom k 0 rows) (fun-ext preserves)

@@ -32,7 +32,7 @@ use Rattle.records.proofs.Laws.Written.{bytes-fit}
 use Rattle.entries.specs.declared.Answer.{Answer}
 use Rattle.entries.specs.Opening.{Refused, LentRefusal}
 use Rattle.versions.proofs.Laws.Cleared.{cleared-rest}
-use Rattle.level_managers.specs.Kept.{Words, Told}
+use Rattle.level_managers.specs.Representation.{Words, Represents}
 use Rattle.scheduler.specs.Runs.{SameRest, Ends, Done, Shows, RunReady, ListDone}
 use Rattle.scheduler.specs.declared.Outcome as code
 use Rattle.scheduler.specs.declared.Outcome.the-variants as outcome
@@ -47,7 +47,7 @@ module _ (s : List ℕ) (a : verdictOf s ≡ Accepted) where
   objects-are : programOf s .objects ≡ objectCount s
   objects-are = unfold programOf in refl
 
-  module _ (w : Words) (ms : ℕ → Manager) (st : State) (t : Told s w ms st) where
+  module _ (w : Words) (ms : ℕ → Manager) (st : State) (t : Represents s w ms st) where
     -- the words from which the records are written are there
     pub write-ready : (masks : List ℕ) (level : ℕ) (buffer : List ℕ) → Leveled s masks → level ≡ levelOf s (rootObject s) → resultBytes ≤ length buffer → Ready s masks (w .current) (w .ended) (w .tallies) level buffer
     write-ready masks level buffer leveled e room =

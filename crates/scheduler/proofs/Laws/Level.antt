@@ -15,29 +15,29 @@ use Rattle.model.specs.Level.{idle, Level, hasManager}
 use Rattle.model.specs.Step.{State, levelAt, stepAt}
 use Rattle.model.specs.Schedule.{stepRefusal}
 use Rattle.model.proofs.Laws.Order.Accepted.{sound}
-use Rattle.model.proofs.Laws.Code.Live.{Live, present}
+use Rattle.model.proofs.Laws.Code.Reached.{ReachedState, present}
 use Rattle.model.proofs.Laws.Code.Progress.{allowed, refusal-none, unmanaged-idle, activity-stays, clear-stays, leads-none, leads-more}
-use Rattle.level_managers.specs.Kept.{Words, LevelTold, Says, placed}
+use Rattle.level_managers.specs.Representation.{Words, LevelRepresents, RunInvariant, placed}
 use Rattle.tallies.specs.Permits.{managed}
-use Rattle.scheduler.specs.Runs.{Rests, SameRest, LevelReady, LevelRun, LevelDone}
+use Rattle.scheduler.specs.Runs.{Quiescent, SameRest, LevelReady, LevelRun, LevelDone}
 use Rattle.scheduler.specs.Running.{Draining}
-use Rattle.level_managers.proofs.Laws.Told.{told-idle}
+use Rattle.level_managers.proofs.Laws.Representation.{represents-idle}
 use Rattle.level_managers.proofs.Laws.Settle.{placed-own, placed-other}
-use Rattle.level_managers.proofs.Laws.Step.{says-live}
-use Rattle.level_managers.proofs.Laws.Asked.{told-managed}
-use Rattle.scheduler.proofs.Laws.Listed.{says-held}
+use Rattle.level_managers.proofs.Laws.Step.{invariant-live}
+use Rattle.level_managers.proofs.Laws.Asked.{represents-managed}
+use Rattle.scheduler.proofs.Laws.Listed.{invariant-held}
 
-told-placed : (n : ℕ) (w : Words) (l : ℕ) (m m' : Manager) (v : Level) → m' ≡ m → LevelTold n w l m' v → LevelTold n w l m v
-told-placed n w l m m' v e t = rw (sym e) t
+represents-placed : (n : ℕ) (w : Words) (l : ℕ) (m m' : Manager) (v : Level) → m' ≡ m → LevelRepresents n w l m' v → LevelRepresents n w l m v
+represents-placed n w l m m' v e t = rw (sym e) t
 
 module _ (s : List ℕ) (a : verdictOf s ≡ Accepted) (l : ℕ) (h : l < levelCount s) where
-  pub drain-start : (from : State) (w : Words) (m : Manager) → Rests s w from → stepRefusal (programOf s) from l ≡ 0 → Draining s from w l m
+  pub drain-start : (from : State) (w : Words) (m : Manager) → Quiescent s w from → stepRefusal (programOf s) from l ≡ 0 → Draining s from w l m
   drain-start from w m r ok =
       record {
         state = from;
         list = [];
         leads = leads-none (programOf s) from;
-        says = λ ms. r .says (placed l m ms);
+        invariant = λ ms. r .invariant (placed l m ms);
         others = λ k hk d. r .idle-all k hk;
         clear = allowed (programOf s) from l ok .1 .1;
       }
@@ -46,15 +46,15 @@ module _ (s : List ℕ) (a : verdictOf s ≡ Accepted) (l : ℕ) (h : l < levelC
     abbrev st : State
     st = g .state
 
-    pub drain-told : LevelTold (levelCount s) w l m (levelAt st l)
-    drain-told =
-        told-placed (levelCount s) w l m (placed l m (λ _. m) l) (levelAt st l) (placed-own l m (λ _. m)) (g .says (λ _. m) .told .level l h)
+    pub drain-represents : LevelRepresents (levelCount s) w l m (levelAt st l)
+    drain-represents =
+        represents-placed (levelCount s) w l m (placed l m (λ _. m) l) (levelAt st l) (placed-own l m (λ _. m)) (g .invariant (λ _. m) .represents .level l h)
 
     pub drain-has : managed (w .tallies) l ≡ hasManager (levelAt st l)
-    drain-has = told-managed (levelCount s) w l m (levelAt st l) drain-told
+    drain-has = represents-managed (levelCount s) w l m (levelAt st l) drain-represents
 
-    pub drain-live : Live s st
-    drain-live = says-live s a w (placed l m (λ _. m)) st (g .says (λ _. m))
+    pub drain-live : ReachedState s st
+    drain-live = invariant-live s a w (placed l m (λ _. m)) st (g .invariant (λ _. m))
 
     -- there is a manager: the level may step
     module _ (e : managed (w .tallies) l ≡ true) where
@@ -69,20 +69,20 @@ module _ (s : List ℕ) (a : verdictOf s ≡ Accepted) (l : ℕ) (h : l < levelC
       ]
 
       -- a step of the level, whose words say the state after it
-      pub drain-on : (w' : Words) (r : Manager) → ((ms : ℕ → Manager) → Says s w' (placed l r (placed l m ms)) (stepAt (programOf s) l st)) → Draining s from w' l r
-      drain-on w' r says =
+      pub drain-on : (w' : Words) (r : Manager) → ((ms : ℕ → Manager) → RunInvariant s w' (placed l r (placed l m ms)) (stepAt (programOf s) l st)) → Draining s from w' l r
+      drain-on w' r invariant =
           record {
             state = stepAt (programOf s) l st;
             list = g .list ++ (l ∷ []);
             leads = leads-more (programOf s) from (g .list) st l (g .leads) drain-allowed;
-            says = λ ms. says-held s w' (placed l r (placed l m ms)) (placed l r ms) (stepAt (programOf s) l st) (twice r ms) (says ms);
-            others = λ k hk z. activity-stays (programOf s) (sound s a) st (drain-live .reachable .steady .orderly) l k (present s l h) z ∙ g .others k hk z;
-            clear = clear-stays (programOf s) (sound s a) st (drain-live .reachable .steady .orderly) l l (present s l h) (g .clear) drain-allowed;
+            invariant = λ ms. invariant-held s w' (placed l r (placed l m ms)) (placed l r ms) (stepAt (programOf s) l st) (twice r ms) (invariant ms);
+            others = λ k hk z. activity-stays (programOf s) (sound s a) st (drain-live .reachable .steady .fork-invariant) l k (present s l h) z ∙ g .others k hk z;
+            clear = clear-stays (programOf s) (sound s a) st (drain-live .reachable .steady .fork-invariant) l l (present s l h) (g .clear) drain-allowed;
           }
 
-      pub drain-on-state : (w' : Words) (r : Manager) (says : (ms : ℕ → Manager) → Says s w' (placed l r (placed l m ms)) (stepAt (programOf s) l st)) → drain-on w' r says .state ≡ stepAt (programOf s) l st
+      pub drain-on-state : (w' : Words) (r : Manager) (invariant : (ms : ℕ → Manager) → RunInvariant s w' (placed l r (placed l m ms)) (stepAt (programOf s) l st)) → drain-on w' r invariant .state ≡ stepAt (programOf s) l st
       unfolding drain-on
-      drain-on-state w' r says = refl
+      drain-on-state w' r invariant = refl
 
     -- there is none any more
     pub drain-end : managed (w .tallies) l ≡ false → LevelRun s w l from
@@ -91,40 +91,40 @@ module _ (s : List ℕ) (a : verdictOf s ≡ Accepted) (l : ℕ) (h : l < levelC
           state = st;
           list = g .list;
           leads = g .leads;
-          rests = record { says = says; idle-all = idle-all };
-          dry = none;
+          quiescent = record { invariant = invariant; idle-all = idle-all };
+          no-manager = none;
         }
       where
         none : hasManager (levelAt st l) ≡ false
         none = sym drain-has ∙ e
 
-        rests-own : levelAt st l .activity ≡ idle
-        rests-own = unmanaged-idle (levelAt st l) none
+        quiescent-own : levelAt st l .activity ≡ idle
+        quiescent-own = unmanaged-idle (levelAt st l) none
 
         idle-all : (k : ℕ) → k < levelCount s → levelAt st k .activity ≡ idle
         idle-all k hk = elim (ℕ-discrete k l) [
-          | yes q ↦ rw q rests-own
+          | yes q ↦ rw q quiescent-own
           | no q ↦ g .others k hk q
         ]
 
-        says : (ms : ℕ → Manager) → Says s w ms st
-        says ms =
-            let y = g .says ms in
+        invariant : (ms : ℕ → Manager) → RunInvariant s w ms st
+        invariant ms =
+            let y = g .invariant ms in
             record {
-              told = record {
-                roomy = y .told .roomy;
-                counts-few = y .told .counts-few;
-                levels = y .told .levels;
-                field = y .told .field;
-                level = λ k hk. told-idle (levelCount s) w k (placed l m ms k) (ms k) (levelAt st k) (idle-all k hk) (y .told .level k hk);
+              represents = record {
+                roomy = y .represents .roomy;
+                counts-few = y .represents .counts-few;
+                levels = y .represents .levels;
+                field = y .represents .field;
+                level = λ k hk. represents-idle (levelCount s) w k (placed l m ms k) (ms k) (levelAt st k) (idle-all k hk) (y .represents .level k hk);
               };
               reached = y .reached;
               clear = y .clear;
             }
 
--- the loop of a level: what it leads to from every state that the words said at its start
+-- the loop of a level: what it leads to from every state that the words represented at its start
 pub record LevelLoop (s : List ℕ) (w₀ w : Words) (l : ℕ) (m : Manager) : Type 0 where
-  pub drains : (st : State) → Rests s w₀ st → stepRefusal (programOf s) st l ≡ 0 → Draining s st w l m
+  pub drains : (st : State) → Quiescent s w₀ st → stepRefusal (programOf s) st l ≡ 0 → Draining s st w l m
   pub rest : SameRest (w₀ .work) (w .work)
   pub current-long : length (w .current) ≡ length (w₀ .current)
   pub ended-long : length (w .ended) ≡ length (w₀ .ended)

@@ -21,7 +21,7 @@ use Rattle.scripts.specs.State.{Manager}
 use Rattle.scripts.proofs.Laws.Counts.{started-counts}
 use Rattle.words.specs.Limits.{fieldWords}
 use Rattle.managers.specs.Core.{managerOf, effectOf, isAsking}
-use Rattle.managers.specs.Steps.{Held, Advanced}
+use Rattle.managers.specs.Steps.{WellFormed, Advanced}
 use Rattle.managers.specs.declared.Effect.the-variants as outside
 use Rattle.managers.specs.declared.Manager as code
 use Rattle.model.specs.Limits.{maxManagers}
@@ -29,17 +29,17 @@ use Rattle.model.specs.Level.{idle, hasManager}
 use Rattle.model.specs.Step.{State, levelAt}
 use Rattle.model.proofs.Laws.Code.Progress.{allowed}
 use Rattle.tallies.specs.Places.{nextPlace, waitingPlace, busyPlace, tallyNumbers}
-use Rattle.level_managers.specs.Kept.{Words, Roomy, Runs, placed}
+use Rattle.level_managers.specs.Representation.{Words, Roomy, Runs, placed}
 use Rattle.tallies.specs.Permits.{managed}
-use Rattle.level_managers.specs.Steps.{Read, IsBusy, TellReady, Answered, Parts, PerformReady, SettleReady, Closed, Settled, CoreSettled, StepDone, begunTallies, StartReady, Started}
+use Rattle.level_managers.specs.Steps.{Read, IsBusy, ReadReady, Answered, Parts, PerformReady, SettleReady, Closed, Settled, CoreSettled, StepDone, begunTallies, StartReady, Started}
 use Rattle.scheduler.specs.Runs.{SameRest, LevelReady, LevelDone}
-use Rattle.scheduler.specs.Running.{Draining, Recalls, NextReady, NextDone}
-use Rattle.level_managers.proofs.Laws.Ready.{told-rests, waits-some, start-ready}
-use Rattle.level_managers.proofs.Laws.Step.{says-start}
+use Rattle.scheduler.specs.Running.{Draining, KnownIsRead, NextReady, NextDone}
+use Rattle.level_managers.proofs.Laws.Ready.{represents-quiescent, waits-some, start-ready}
+use Rattle.level_managers.proofs.Laws.Step.{invariant-start}
 use Rattle.level_managers.proofs.Laws.Made.{settled-of}
 use Rattle.scheduler.proofs.Laws.Listed.{anyManager, blank-zeros}
-use Rattle.scheduler.proofs.Laws.Level.{LevelLoop, drain-told, drain-has, drain-live, drain-allowed, drain-on, level-start, level-done}
-use Rattle.scheduler.proofs.Laws.Going.{Goes, stepsLeft, OutsideDone, told-outside, performed-outside, outside-performs, outside-tells, outside-settles, outside-counted, outside-drains, outside-recalls, outside-count, outside-busy, outside-rest, steps-less}
+use Rattle.scheduler.proofs.Laws.Level.{LevelLoop, drain-represents, drain-has, drain-live, drain-allowed, drain-on, level-start, level-done}
+use Rattle.scheduler.proofs.Laws.Running.{RunningManager, stepsLeft, OutsideDone, represents-outside, performed-outside, outside-performs, outside-reads, outside-settles, outside-counted, outside-drains, outside-known-read, outside-count, outside-busy, outside-rest, steps-less}
 
 -- a manager has ended: none runs at its level then, and one more has ended there
 closed-counts : (ended ended' tallies tallies' queue : List ℕ) (l : ℕ) (m : Manager) → l < maxLevels → tallyNumbers ≤ length tallies → Closed ended ended' tallies tallies' queue l m → (getD tallies' (busyPlace l) 0 ≡ 0) × (getD tallies' l 0 ≡ getD tallies l 0 + 1)
@@ -61,13 +61,13 @@ abbrev bit : code.Manager → ℕ
 bit m = cond (isRunning (m .core .ending)) 1 0
 
 -- what holds each time round while the manager of level l runs, and after, from its start on
-pub record NextLoop (s : List ℕ) (w₁ w : Words) (l : ℕ) (m₁ m : code.Manager) (seen : List ℕ) : Type 0 where
+pub record NextLoop (s : List ℕ) (w₁ w : Words) (l : ℕ) (m₁ m : code.Manager) (cache : List ℕ) : Type 0 where
   pub drains : (from : State) → Draining s from w₁ l (managerOf m₁) → Draining s from w l (managerOf m)
-  pub goes : isRunning (m .core .ending) ≡ true → Goes s w l m seen
+  pub runs-on : isRunning (m .core .ending) ≡ true → RunningManager s w l m cache
   pub busy : getD (w .tallies) (busyPlace l) 0 ≡ bit m
   pub count : getD (w .tallies) l 0 + bit m ≡ getD (w₁ .tallies) l 0 + bit m₁
   pub rest : SameRest (w₁ .work) (w .work)
-  pub seen-long : length seen ≡ fieldWords
+  pub cache-long : length cache ≡ fieldWords
   pub current-long : length (w .current) ≡ length (w₁ .current)
   pub ended-long : length (w .ended) ≡ length (w₁ .ended)
   pub tallies-long : length (w .tallies) ≡ length (w₁ .tallies)
@@ -86,7 +86,7 @@ settled-counts {ended} {ended'} {tallies} {tallies'} {queue} {l} m small room bu
       rw over (c .0, omega (arith, c .1))
 ]
 
-module _ {s masks index : List ℕ} (rd : Read s masks index) {w₀ : Words} {l : ℕ} (z : NextReady s w₀ l) where
+module _ {s masks index : List ℕ} (rd : Tables s masks index) {w₀ : Words} {l : ℕ} (z : NextReady s w₀ l) where
   abbrev a : verdictOf s ≡ Accepted
   a = rd .indexed .accepted
 
@@ -97,16 +97,16 @@ module _ {s masks index : List ℕ} (rd : Read s masks index) {w₀ : Words} {l 
   small = omega (arith, z .placed-there, few)
 
   waits : managed (w₀ .tallies) l ≡ true
-  waits = rw (z .rests, lt-ltb 0 (getD (w₀ .tallies) (waitingPlace l) 0) (z .waits)) refl
+  waits = rw (z .quiescent, lt-ltb 0 (getD (w₀ .tallies) (waitingPlace l) 0) (z .waits)) refl
 
   pub roomy : Roomy w₀
-  roomy = z .drains .says (λ _. z .held) .told .roomy
+  roomy = z .drains .invariant (λ _. z .held) .represents .roomy
 
   -- in any state that the words say a fork waits there, and no manager runs
   module _ {from : State} {held : Manager} (g : Draining s from w₀ l held) where
-    rests : levelAt (g .state) l .activity ≡ idle
-    rests =
-        told-rests (levelCount s) w₀ l held (levelAt (g .state) l) (drain-told s a l (z .placed-there) from w₀ held g) (z .rests)
+    quiescent : levelAt (g .state) l .activity ≡ idle
+    quiescent =
+        represents-quiescent (levelCount s) w₀ l held (levelAt (g .state) l) (drain-represents s a l (z .placed-there) from w₀ held g) (z .quiescent)
 
     has : hasManager (levelAt (g .state) l) ≡ true
     has = sym (drain-has s a l (z .placed-there) from w₀ held g) ∙ waits
@@ -114,14 +114,14 @@ module _ {s masks index : List ℕ} (rd : Read s masks index) {w₀ : Words} {l 
     -- it starts
     began : (ended' tallies' : List ℕ) (m : Manager) → Started s (w₀ .ended) ended' (w₀ .tallies) tallies' (w₀ .queue) l m → Draining s from (record { current = w₀ .current; ended = ended'; tallies = tallies'; queue = w₀ .queue; work = w₀ .work }) l m
     began ended' tallies' m d =
-        let (x, (xs, e)) = waits-some (levelAt (g .state) l) has rests in
+        let (x, (xs, e)) = waits-some (levelAt (g .state) l) has quiescent in
         drain-on s a l (z .placed-there) from w₀ held g waits (record { current = w₀ .current; ended = ended'; tallies = tallies'; queue = w₀ .queue; work = w₀ .work }) m
-        (λ ms. says-start s a few w₀ (placed l held ms) (g .state) (g .says ms) l (z .placed-there) (drain-allowed s a l (z .placed-there) from w₀ held g waits) x xs rests e ended' tallies' m d)
+        (λ ms. invariant-start s a few w₀ (placed l held ms) (g .state) (g .invariant ms) l (z .placed-there) (drain-allowed s a l (z .placed-there) from w₀ held g waits) x xs quiescent e ended' tallies' m d)
 
   pub starts : StartReady s index (w₀ .ended) (w₀ .tallies) (w₀ .queue) l
   starts =
       let g = z .drains in
-      start-ready s a few (object-limit s a) w₀ (placed l (z .held) (λ _. z .held)) (g .state) (g .says (λ _. z .held) .told) (drain-live s a l (z .placed-there) (z .from) w₀ (z .held) g) l (z .placed-there) index (rd .indexed) (rests g) (has g)
+      start-ready s a few (object-limit s a) w₀ (placed l (z .held) (λ _. z .held)) (g .state) (g .invariant (λ _. z .held) .represents) (drain-live s a l (z .placed-there) (z .from) w₀ (z .held) g) l (z .placed-there) index (rd .indexed) (quiescent g) (has g)
 
   -- what is counted once it has started
   begun-busy : getD (begunTallies (w₀ .tallies) l) (busyPlace l) 0 ≡ 1
@@ -143,7 +143,7 @@ module _ {s masks index : List ℕ} (rd : Read s masks index) {w₀ : Words} {l 
       let less = getD t (waitingPlace l) 0 - 1 in
       length-set (set t (waitingPlace l) less) (busyPlace l) 1 ∙ length-set t (waitingPlace l) less
 
-  module _ {ended' tallies' : List ℕ} {m : code.Manager} (d : Started s (w₀ .ended) ended' (w₀ .tallies) tallies' (w₀ .queue) l (managerOf m)) (held : Held s m) where
+  module _ {ended' tallies' : List ℕ} {m : code.Manager} (d : Started s (w₀ .ended) ended' (w₀ .tallies) tallies' (w₀ .queue) l (managerOf m)) (held : WellFormed s m) where
     abbrev begunWords : Words
     begunWords =
         record { current = w₀ .current; ended = ended'; tallies = tallies'; queue = w₀ .queue; work = w₀ .work }
@@ -152,7 +152,7 @@ module _ {s masks index : List ℕ} (rd : Read s masks index) {w₀ : Words} {l 
     unfolding managerOf
     level-is = ap (λ n. n .level) (d .manager) ∙ ap (λ c. c .level) (started-counts (programOf s) l _ _)
 
-    nothing-known : Recalls s begunWords l (replicate fieldWords 0)
+    nothing-known : KnownIsRead s begunWords l (replicate fieldWords 0)
     nothing-known o k ho hk apart known = absurd (not-both _ known (blank-zeros fieldWords o k hk))
 
     begun-counts : (getD tallies' (busyPlace l) 0 ≡ bit m) × (getD tallies' l 0 + bit m ≡ getD (begunTallies (w₀ .tallies) l) l 0 + 1)
@@ -162,19 +162,19 @@ module _ {s masks index : List ℕ} (rd : Read s masks index) {w₀ : Words} {l 
     next-start =
         record {
           drains = λ from g. g;
-          goes = λ run. record {
+          runs-on = λ run. record {
             held = held;
             running = run;
             level = level-is;
             busy-there = begun-counts .0 ∙ rw run refl;
-            recalls = nothing-known;
+            known-read = nothing-known;
             fields-there = roomy .current;
-            seen-there = rw (length-replicate {A = ℕ} fieldWords 0) (omega arith);
+            cache-there = rw (length-replicate {A = ℕ} fieldWords 0) (omega arith);
           };
           busy = begun-counts .0;
           count = refl;
           rest = refl;
-          seen-long = length-replicate {A = ℕ} fieldWords 0;
+          cache-long = length-replicate {A = ℕ} fieldWords 0;
           current-long = refl;
           ended-long = refl;
           tallies-long = refl;
@@ -182,7 +182,7 @@ module _ {s masks index : List ℕ} (rd : Read s masks index) {w₀ : Words} {l 
           work-long = refl;
         }
 
-    module _ {w : Words} {m' : code.Manager} {seen : List ℕ} (i : NextLoop s begunWords w l m m' seen) where
+    module _ {w : Words} {m' : code.Manager} {cache : List ℕ} (i : NextLoop s begunWords w l m m' cache) where
       -- at the end
       pub next-done : isRunning (m' .core .ending) ≡ false → NextDone s w₀ w l
       next-done over =
@@ -191,7 +191,7 @@ module _ {s masks index : List ℕ} (rd : Read s masks index) {w₀ : Words} {l 
           record {
             last = managerOf m';
             drains = λ from held g. i .drains from (began g ended' tallies' (managerOf m) d);
-            rests = busy;
+            quiescent = busy;
             count = omega (arith, count, begun-counts .1, begun-count);
             rest = i .rest;
           }
@@ -200,17 +200,17 @@ module _ {s masks index : List ℕ} (rd : Read s masks index) {w₀ : Words} {l 
       next-drains = i .drains (z .from) (began (z .drains) ended' tallies' (managerOf m) d)
 
       -- it runs on
-      module _ (run : isRunning (m' .core .ending) ≡ true) {r : code.Manager} (ad : Advanced s (w .current) seen false maxScriptSteps m' r) where
-        pub next-tells : {o k : ℕ} → r .core .effect ≡ outside.Read o k → IsBusy s w l × TellReady s seen o k
-        next-tells {o} {k} = outside-tells rd (i .goes run) ad next-drains o k
+      module _ (run : isRunning (m' .core .ending) ≡ true) {r : code.Manager} (ad : Advanced s (w .current) cache false maxScriptSteps m' r) where
+        pub next-reads : {o k : ℕ} → r .core .effect ≡ outside.Read o k → IsBusy s w l × ReadReady s cache o k
+        next-reads {o} {k} = outside-reads rd (i .runs-on run) ad next-drains o k
 
         pub next-performs : PerformReady (w .current) (w .tallies) (w .queue) (w .work) l (r .core .first) (r .core .forks) (effectOf (r .core .effect)) × SettleReady (w .ended) (w .tallies) (w .queue) l
         next-performs =
-            (outside-performs rd (i .goes run) ad next-drains, outside-settles rd (i .goes run) ad next-drains)
+            (outside-performs rd (i .runs-on run) ad next-drains, outside-settles rd (i .runs-on run) ad next-drains)
 
-        module _ {q : Parts} {seen' : List ℕ} (out : OutsideDone s w q seen seen' l (r .core)) where
-          next-less : stepsLeft s seen' r < stepsLeft s seen m'
-          next-less = steps-less rd (i .goes run) ad out
+        module _ {q : Parts} {cache' : List ℕ} (out : OutsideDone s w q cache cache' l (r .core)) where
+          next-less : stepsLeft s cache' r < stepsLeft s cache m'
+          next-less = steps-less rd (i .runs-on run) ad out
 
           module _ {ended'' tallies'' : List ℕ} (e : CoreSettled (w .ended) ended'' (q .tallies) tallies'' (q .queue) l (r .core)) where
             abbrev then : Words
@@ -219,32 +219,32 @@ module _ {s masks index : List ℕ} (rd : Read s masks index) {w₀ : Words} {l 
 
             counts-then : (getD tallies'' (busyPlace l) 0 ≡ bit r) × (getD tallies'' l 0 + bit r ≡ getD (q .tallies) l 0 + 1)
             counts-then =
-                settled-counts r small (outside-counted rd (i .goes run) ad next-drains out) (outside-busy rd (i .goes run) ad next-drains out) (settled-of r e)
+                settled-counts r small (outside-counted rd (i .runs-on run) ad next-drains out) (outside-busy rd (i .runs-on run) ad next-drains out) (settled-of r e)
 
-            recalls-then : isRunning (r .core .ending) ≡ true → Recalls s then l seen'
-            recalls-then on =
+            known-read-then : isRunning (r .core .ending) ≡ true → KnownIsRead s then l cache'
+            known-read-then on =
                 let same = e [] .0 on in
-                rw (same .0, same .1) (outside-recalls rd (i .goes run) ad next-drains out)
+                rw (same .0, same .1) (outside-known-read rd (i .runs-on run) ad next-drains out)
 
-            next-again : length seen' ≡ length seen → length (q .current) ≡ length (w .current) → length ended'' ≡ length (w .ended) → length tallies'' ≡ length (w .tallies) → length (q .queue) ≡ length (w .queue) → length (q .work) ≡ length (w .work) → NextLoop s begunWords then l m r seen'
+            next-again : length cache' ≡ length cache → length (q .current) ≡ length (w .current) → length ended'' ≡ length (w .ended) → length tallies'' ≡ length (w .tallies) → length (q .queue) ≡ length (w .queue) → length (q .work) ≡ length (w .work) → NextLoop s begunWords then l m r cache'
             next-again c0 c1 c2 c3 c4 c5 =
-                let go = i .goes run in
+                let go = i .runs-on run in
                 let before : getD (w .tallies) l 0 + 1 ≡ getD tallies' l 0 + bit m = rw run at (i .count) in
                 record {
                   drains = λ from g. outside-drains rd go ad (i .drains from g) out ended'' tallies'' (settled-of r e);
-                  goes = λ on. record {
+                  runs-on = λ on. record {
                     held = ad .held;
                     running = on;
                     level = ad .level-is ∙ go .level;
                     busy-there = counts-then .0 ∙ rw on refl;
-                    recalls = recalls-then on;
+                    known-read = known-read-then on;
                     fields-there = rw c1 (go .fields-there);
-                    seen-there = rw c0 (go .seen-there);
+                    cache-there = rw c0 (go .cache-there);
                   };
                   busy = counts-then .0;
                   count = counts-then .1 ∙ ap (λ n. n + 1) (outside-count rd go ad next-drains out) ∙ before;
                   rest = outside-rest rd go ad next-drains out ∙ i .rest;
-                  seen-long = c0 ∙ i .seen-long;
+                  cache-long = c0 ∙ i .cache-long;
                   current-long = c1 ∙ i .current-long;
                   ended-long = c2 ∙ i .ended-long;
                   tallies-long = c3 ∙ i .tallies-long;
@@ -253,27 +253,27 @@ module _ {s masks index : List ℕ} (rd : Read s masks index) {w₀ : Words} {l 
                 }
 
         -- what its next step asks for was read: the manager stands before that step, and runs
-        module _ {o k : ℕ} (e : r .core .effect ≡ outside.Read o k) {seen' : List ℕ} (told : Answered s w seen seen' l o k) where
-          pub told-less : stepsLeft s seen' r < stepsLeft s seen m'
-          told-less = next-less (told-outside e told)
+        module _ {o k : ℕ} (e : r .core .effect ≡ outside.Read o k) {cache' : List ℕ} (represents : Answered s w cache cache' l o k) where
+          pub represents-less : stepsLeft s cache' r < stepsLeft s cache m'
+          represents-less = next-less (represents-outside e represents)
 
-          pub told-again : length seen' ≡ length seen → NextLoop s begunWords w l m r seen'
-          told-again c0 =
-              next-again (told-outside e told) (λ fs. (λ _. (refl, refl), λ over. absurd (not-both (isRunning (r .core .ending)) (ad .asks o k e .0) over))) c0 refl refl refl refl refl
+          pub represents-again : length cache' ≡ length cache → NextLoop s begunWords w l m r cache'
+          represents-again c0 =
+              next-again (represents-outside e represents) (λ fs. (λ _. (refl, refl), λ over. absurd (not-both (isRunning (r .core .ending)) (ad .asks o k e .0) over))) c0 refl refl refl refl refl
 
         -- what its last step did outside it is done, and its history kept where it has ended
         module _ (no' : isAsking (r .core .effect) ≡ false) {w' : Words} (x : StepDone w w' l (r .core)) where
-          pub done-less : stepsLeft s seen r < stepsLeft s seen m'
+          pub done-less : stepsLeft s cache r < stepsLeft s cache m'
           done-less = next-less (performed-outside no' (x .performed))
 
-          pub done-again : length (w' .current) ≡ length (w .current) → length (w' .ended) ≡ length (w .ended) → length (w' .tallies) ≡ length (w .tallies) → length (w' .queue) ≡ length (w .queue) → length (w' .work) ≡ length (w .work) → NextLoop s begunWords w' l m r seen
+          pub done-again : length (w' .current) ≡ length (w .current) → length (w' .ended) ≡ length (w .ended) → length (w' .tallies) ≡ length (w .tallies) → length (w' .queue) ≡ length (w .queue) → length (w' .work) ≡ length (w .work) → NextLoop s begunWords w' l m r cache
           done-again = next-again (performed-outside no' (x .performed)) (x .settled) refl
 
 -- the managers in turn
 pub record Turns (s : List ℕ) (w₀ w : Words) (l : ℕ) : Type 0 where
   pub held : Manager
   pub loop : LevelLoop s w₀ w l held
-  pub rests : getD (w .tallies) (busyPlace l) 0 ≡ 0
+  pub quiescent : getD (w .tallies) (busyPlace l) 0 ≡ 0
 
 module _ (s : List ℕ) (a : verdictOf s ≡ Accepted) (w₀ : Words) (l : ℕ) (q : LevelReady s w₀ l) where
   there : l < levelCount s
@@ -285,26 +285,26 @@ module _ (s : List ℕ) (a : verdictOf s ≡ Accepted) (w₀ : Words) (l : ℕ) 
 
   resting : getD (w₀ .tallies) (busyPlace l) 0 ≡ 0
   resting =
-      subst (Runs (levelCount s) w₀ l anyManager (length (levelAt (q .0) l .ended))) (q .1 .0 .idle-all l there) (q .1 .0 .says (λ _. anyManager) .told .level l there .activity)
+      subst (Runs (levelCount s) w₀ l anyManager (length (levelAt (q .0) l .ended))) (q .1 .0 .idle-all l there) (q .1 .0 .invariant (λ _. anyManager) .represents .level l there .activity)
 
   pub turns-start : Turns s w₀ w₀ l
-  turns-start = record { held = anyManager; loop = level-start s a w₀ l q anyManager; rests = resting }
+  turns-start = record { held = anyManager; loop = level-start s a w₀ l q anyManager; quiescent = resting }
 
   module _ (w : Words) (i : Turns s w₀ w l) where
     drains : Draining s (q .0) w l (i .held)
     drains = i .loop .drains (q .0) (q .1 .0) (q .1 .1)
 
     pub turns-counted : waitingPlace l < length (w .tallies)
-    turns-counted = omega (arith, turns-small, drains .says (λ _. anyManager) .told .roomy .tallies)
+    turns-counted = omega (arith, turns-small, drains .invariant (λ _. anyManager) .represents .roomy .tallies)
 
     pub turns-next : 0 < getD (w .tallies) (waitingPlace l) 0 → NextReady s w l
     turns-next waits =
-        record { from = q .0; held = i .held; drains = drains; placed-there = there; waits = waits; rests = i .rests }
+        record { from = q .0; held = i .held; drains = drains; placed-there = there; waits = waits; quiescent = i .quiescent }
 
     module _ (w' : Words) (d : NextDone s w w' l) where
       pub turns-less : maxManagers - getD (w' .tallies) l 0 < maxManagers - getD (w .tallies) l 0
       turns-less =
-          let few = d .drains (q .0) (i .held) drains .says (λ _. anyManager) .told .counts-few l turns-small in
+          let few = d .drains (q .0) (i .held) drains .invariant (λ _. anyManager) .represents .counts-few l turns-small in
           omega (arith, d .count, few)
 
       pub turns-again : length (w' .current) ≡ length (w .current) → length (w' .ended) ≡ length (w .ended) → length (w' .tallies) ≡ length (w .tallies) → length (w' .queue) ≡ length (w .queue) → length (w' .work) ≡ length (w .work) → Turns s w₀ w' l
@@ -320,9 +320,9 @@ module _ (s : List ℕ) (a : verdictOf s ≡ Accepted) (w₀ : Words) (l : ℕ) 
               queue-long = c4 ∙ i .loop .queue-long;
               work-long = c5 ∙ i .loop .work-long;
             };
-            rests = d .rests;
+            quiescent = d .quiescent;
           }
 
     pub turns-done : getD (w .tallies) (waitingPlace l) 0 ≤ 0 → LevelDone s w₀ w l
-    turns-done dry =
-        level-done s a w₀ l q w (i .held) (i .loop) (rw (i .rests, le-ltb 0 (getD (w .tallies) (waitingPlace l) 0) dry) refl)
+    turns-done no-manager =
+        level-done s a w₀ l q w (i .held) (i .loop) (rw (i .quiescent, le-ltb 0 (getD (w .tallies) (waitingPlace l) 0) no-manager) refl)

@@ -22,17 +22,17 @@ use Rattle.model.specs.Step.{State, levelAt, stepAt}
 use Rattle.model.specs.Schedule.{finished, question15, stepRefusal, runOf, Leads}
 use Rattle.model.proofs.Laws.Order.Accepted.{sound}
 use Rattle.model.proofs.Laws.Invariant.Measure.{left, cost}
-use Rattle.model.proofs.Laws.Invariant.Tame.{total, step-less}
-use Rattle.model.proofs.Laws.Code.Live.{Live, live-step}
+use Rattle.model.proofs.Laws.Invariant.Bounded.{total, step-less}
+use Rattle.model.proofs.Laws.Code.Reached.{ReachedState, live-step}
 use Rattle.model.proofs.Laws.Code.Progress.{allowed, all-ended, leads-none, leads-run}
 use Rattle.tallies.specs.Places.{clearPlace}
-use Rattle.level_managers.specs.Kept.{Words, Says}
+use Rattle.level_managers.specs.Representation.{Words, RunInvariant}
 use Rattle.tallies.specs.Permits.{numberOfPermit, permitOf, noted, Countable, isGiven}
-use Rattle.scheduler.specs.Runs.{startOf, Rests, SameRest, LevelReady, LevelDone, Done}
+use Rattle.scheduler.specs.Runs.{initialState, Quiescent, SameRest, LevelReady, LevelDone, Done}
 use Rattle.tallies.specs.declared.Permit.{Permit}
 use Rattle.tallies.specs.declared.Permit.the-variants.{Given, Absent, Idle, Blocked}
-use Rattle.level_managers.proofs.Laws.Step.{says-live}
-use Rattle.level_managers.proofs.Laws.Asked.{asked-is, wordsNoted, noted-says}
+use Rattle.level_managers.proofs.Laws.Step.{invariant-live}
+use Rattle.level_managers.proofs.Laws.Asked.{asked-is, wordsNoted, noted-invariant}
 use Rattle.scheduler.proofs.Laws.Listed.{anyManager}
 
 -- the managers that the levels from i on, k of them, have room for still
@@ -78,14 +78,14 @@ leads-then p (l ∷ ls) ks st t u a b =
     pair z x y = unfold Leads in (x, y)
 
 module _ (s : List ℕ) (a : verdictOf s ≡ Accepted) where
-  less : (st : State) → Live s st → (l : ℕ) → stepRefusal (programOf s) st l ≡ 0 → (total (stepAt (programOf s) l st) < total st) × Live s (stepAt (programOf s) l st)
+  less : (st : State) → ReachedState s st → (l : ℕ) → stepRefusal (programOf s) st l ≡ 0 → (total (stepAt (programOf s) l st) < total st) × ReachedState s (stepAt (programOf s) l st)
   less st i l ok =
       let yes = allowed (programOf s) st l ok in (
-        step-less (programOf s) (sound s a) st (i .reachable .steady .orderly) (i .reachable .steady .tame) l (yes .0) (yes .1 .0),
+        step-less (programOf s) (sound s a) st (i .reachable .steady .fork-invariant) (i .reachable .steady .bounded) l (yes .0) (yes .1 .0),
         live-step s a st i l (unfold programOf in yes .0) (yes .1 .0),
       )
 
-  no-more : (ls : List ℕ) (st t : State) → Live s st → Leads (programOf s) st ls t → total t ≤ total st
+  no-more : (ls : List ℕ) (st t : State) → ReachedState s st → Leads (programOf s) st ls t → total t ≤ total st
   no-more [] st t i z =
       let e : st ≡ t = unfold Leads in z in
       same e
@@ -98,7 +98,7 @@ module _ (s : List ℕ) (a : verdictOf s ≡ Accepted) where
       omega (arith, f .0, no-more ls (stepAt (programOf s) l st) t (f .1) (q .1))
 
   -- a level that has lost its managers has made a step
-  fewer : (ls : List ℕ) (st t : State) (l : ℕ) → Live s st → Leads (programOf s) st ls t → hasManager (levelAt st l) ≡ true → hasManager (levelAt t l) ≡ false → total t < total st
+  fewer : (ls : List ℕ) (st t : State) (l : ℕ) → ReachedState s st → Leads (programOf s) st ls t → hasManager (levelAt st l) ≡ true → hasManager (levelAt t l) ≡ false → total t < total st
   fewer [] st t l i z h d =
       let e : st ≡ t = unfold Leads in z in
       absurd (none e h d)
@@ -114,17 +114,17 @@ module _ (s : List ℕ) (a : verdictOf s ≡ Accepted) where
 pub record Ran (s : List ℕ) (w : Words) (level : ℕ) : Type 0 where
   pub state : State
   pub list : List ℕ
-  pub leads : Leads (programOf s) (startOf s) list state
-  pub rests : Rests s w state
+  pub leads : Leads (programOf s) (initialState s) list state
+  pub quiescent : Quiescent s w state
   pub lower : (j : ℕ) → j < level → stepRefusal (programOf s) state j ≡ 0 → ⊥
 
-pub ran-start : (s : List ℕ) (w : Words) → Rests s w (startOf s) → Ran s w 0
+pub ran-start : (s : List ℕ) (w : Words) → Quiescent s w (initialState s) → Ran s w 0
 ran-start s w r =
     record {
-      state = startOf s;
+      state = initialState s;
       list = [];
-      leads = leads-none (programOf s) (startOf s);
-      rests = r;
+      leads = leads-none (programOf s) (initialState s);
+      quiescent = r;
       lower = λ j h _. absurd (omega (arith, h));
     }
 
@@ -132,16 +132,16 @@ module _ (s masks : List ℕ) (a : verdictOf s ≡ Accepted) (few : levelCount s
   abbrev st : State
   st = g .state
 
-  abbrev said : Says s w (λ _. anyManager) st
-  said = g .rests .says (λ _. anyManager)
+  abbrev represented : RunInvariant s w (λ _. anyManager) st
+  represented = g .quiescent .invariant (λ _. anyManager)
 
   refusal-is : (p : Permit) → p ≡ permitOf masks (w .tallies) level → numberOfPermit p ≡ stepRefusal (programOf s) st level
-  refusal-is p e = ap numberOfPermit e ∙ asked-is s masks table long w (λ _. anyManager) st said level
+  refusal-is p e = ap numberOfPermit e ∙ asked-is s masks table long w (λ _. anyManager) st represented level
 
   -- a level that may not step is passed
   pub ran-skip : (p : Permit) → p ≡ permitOf masks (w .tallies) level → isGiven p ≡ false → Ran s w (level + 1)
   ran-skip p e z =
-      record { state = st; list = g .list; leads = g .leads; rests = g .rests; lower = lower }
+      record { state = st; list = g .list; leads = g .leads; quiescent = g .quiescent; lower = lower }
     where
       none : (p : Permit) → isGiven p ≡ false → numberOfPermit p ≡ 0 → ⊥
       none Given z q = not-both true refl z
@@ -169,27 +169,27 @@ module _ (s masks : List ℕ) (a : verdictOf s ≡ Accepted) (few : levelCount s
     pub ran-allowed : stepRefusal (programOf s) st level ≡ 0
     ran-allowed = sym (refusal-is p e) ∙ given p z
 
-    pub ran-rests : Rests s (wordsNoted w level) st
-    ran-rests =
-        record { says = λ ms. noted-says s w ms st level few (g .rests .says ms) ran-allowed; idle-all = g .rests .idle-all }
+    pub ran-quiescent : Quiescent s (wordsNoted w level) st
+    ran-quiescent =
+        record { invariant = λ ms. noted-invariant s w ms st level few (g .quiescent .invariant ms) ran-allowed; idle-all = g .quiescent .idle-all }
 
     pub ran-ready : LevelReady s (wordsNoted w level) level
-    ran-ready = (st, (ran-rests, ran-allowed))
+    ran-ready = (st, (ran-quiescent, ran-allowed))
 
     pub ran-level : (w' : Words) → LevelDone s (wordsNoted w level) w' level → Ran s w' 0
     ran-level w' d =
-        let r = d .ran st ran-rests ran-allowed in
+        let r = d .ran st ran-quiescent ran-allowed in
         record {
           state = r .state;
           list = g .list ++ r .list;
-          leads = leads-then (programOf s) (g .list) (r .list) (startOf s) st (r .state) (g .leads) (r .leads);
-          rests = r .rests;
+          leads = leads-then (programOf s) (g .list) (r .list) (initialState s) st (r .state) (g .leads) (r .leads);
+          quiescent = r .quiescent;
           lower = λ j h _. absurd (omega (arith, h));
         }
 
-    counted : (w : Words) (st : State) → Rests s w st → (1 + maxScriptSteps) * roomFrom (w .tallies) 0 (length masks) ≡ total st
+    counted : (w : Words) (st : State) → Quiescent s w st → (1 + maxScriptSteps) * roomFrom (w .tallies) 0 (length masks) ≡ total st
     counted w st r =
-        let y = r .says (λ _. anyManager) .told in
+        let y = r .invariant (λ _. anyManager) .represents in
         ap (λ n. (1 + maxScriptSteps) * roomFrom (w .tallies) 0 n) (long ∙ sym (y .levels))
         ∙ room-is (w .tallies) st 0 (λ j h. let hj : j < levelCount s = rw (sym (y .levels)) h in (ap (λ k. getD (w .tallies) k 0) (zero-less j) ∙ y .level j hj .ended-count, r .idle-all j hj))
       where
@@ -199,14 +199,14 @@ module _ (s masks : List ℕ) (a : verdictOf s ≡ Accepted) (few : levelCount s
     -- and then there is room for fewer managers
     pub ran-less : (w' : Words) → LevelDone s (wordsNoted w level) w' level → roomFrom (w' .tallies) 0 (length masks) < roomFrom (w .tallies) 0 (length masks)
     ran-less w' d =
-        let r = d .ran st ran-rests ran-allowed in
-        let live = says-live s a w (λ _. anyManager) st said in
-        let f = fewer s a (r .list) st (r .state) level live (r .leads) (allowed (programOf s) st level ran-allowed .1 .0) (r .dry) in
-        omega (arith, f, counted w st (g .rests), counted w' (r .state) (r .rests))
+        let r = d .ran st ran-quiescent ran-allowed in
+        let live = invariant-live s a w (λ _. anyManager) st represented in
+        let f = fewer s a (r .list) st (r .state) level live (r .leads) (allowed (programOf s) st level ran-allowed .1 .0) (r .no-manager) in
+        omega (arith, f, counted w st (g .quiescent), counted w' (r .state) (r .quiescent))
 
   -- where none may step all managers have ended
   pub ran-end : length masks ≤ level → Done s w
-  ran-end h = (g .list, ((λ _. anyManager), (st, (over, said .told))))
+  ran-end h = (g .list, ((λ _. anyManager), (st, (over, represented .represents))))
     where
       ended : question15 (programOf s) st ≡ true
       ended =
@@ -216,7 +216,7 @@ module _ (s masks : List ℕ) (a : verdictOf s ≡ Accepted) (few : levelCount s
           count l hl = unfold programOf in hl
 
       over : runOf (programOf s) (rootOf s) (g .list) ≡ finished st
-      over = unfold runOf in leads-run 0 (programOf s) (startOf s) (g .list) st (g .leads) ended
+      over = unfold runOf in leads-run 0 (programOf s) (initialState s) (g .list) st (g .leads) ended
 
 -- what is noted of question 14, by the permit
 noted-given : (p : Permit) (l : ℕ) (t : List ℕ) → isGiven p ≡ true → noted p l t ≡ set t (clearPlace l) 1
@@ -251,7 +251,7 @@ pub record PlainLoop (s masks : List ℕ) (w₀ w : Words) (level : ℕ) : Type 
 abbrev pub plainLeft : List ℕ → List ℕ → ℕ → ℕ
 plainLeft masks tallies level = 9 * roomFrom tallies 0 (length masks) + (length masks - level)
 
-pub plain-start : {s masks : List ℕ} {w : Words} → Rests s w (startOf s) → PlainLoop s masks w w 0
+pub plain-start : {s masks : List ℕ} {w : Words} → Quiescent s w (initialState s) → PlainLoop s masks w w 0
 plain-start {s} {masks} {w} r =
     record {
       ran = ran-start s w r;
@@ -276,7 +276,7 @@ module _ {s masks : List ℕ} (y : Leveled s masks) {w₀ w : Words} {level : �
 
   pub plain-counted : Countable masks (w .tallies)
   plain-counted =
-      record { few = omega (arith, long, few); room = i .ran .rests .says (λ _. anyManager) .told .roomy .tallies }
+      record { few = omega (arith, long, few); room = i .ran .quiescent .invariant (λ _. anyManager) .represents .roomy .tallies }
 
   pub plain-done : length masks ≤ level → Done s w
   plain-done h = ran-end s masks a few (y .masks-are) long w level (i .ran) h

@@ -32,12 +32,12 @@ use Rattle.queues.proofs.Laws.Queue.{forks-none, rises-none}
 use Rattle.versions.specs.Log.{logStart}
 use Rattle.versions.proofs.Laws.Log.{log-none}
 use Rattle.tallies.specs.Places.{nextPlace, waitingPlace, versionsPlace, busyPlace, clearPlace, startTallies}
-use Rattle.level_managers.specs.Kept.{Words, LevelTold, Roomy, Told}
-use Rattle.scheduler.specs.Runs.{startOf, Rests, Fresh, ReadIn}
+use Rattle.level_managers.specs.Representation.{Words, LevelRepresents, Roomy, Represents}
+use Rattle.scheduler.specs.Runs.{initialState, Quiescent, Fresh, InitialWords}
 use Rattle.tallies.proofs.Laws.First.{first-ended, first-next, first-waiting, first-versions, first-busy, first-clear}
-use Rattle.level_managers.proofs.Laws.Told.{Limited}
-use Rattle.level_managers.proofs.Laws.Arrive.{told-arrive}
-use Rattle.level_managers.proofs.Laws.Advance.{told-state}
+use Rattle.level_managers.proofs.Laws.Representation.{Limited}
+use Rattle.level_managers.proofs.Laws.Arrive.{represents-arrive}
+use Rattle.level_managers.proofs.Laws.Advance.{represents-state}
 
 none-rises : InOrder []
 unfolding risingFrom
@@ -69,11 +69,11 @@ module _ (s : List ℕ) (a : verdictOf s ≡ Accepted) where
   none-at l h = getD-replicate (levelCount s) l newLevel newLevel h
 
   -- then the root's fork arrives
-  start-is : (level : ℕ) (row : List ℕ) → level ≡ levelOf s (rootObject s) → RootRow (rootOf s) row → modify level (arrived (forkOfRow (levelCount s) row)) none ≡ startOf s
+  start-is : (level : ℕ) (row : List ℕ) → level ≡ levelOf s (rootObject s) → RootRow (rootOf s) row → modify level (arrived (forkOfRow (levelCount s) row)) none ≡ initialState s
   unfolding readIn programOf
   start-is level row e r = ap₂ (λ l x. modify l (arrived x) none) e (r (levelCount s) (level-limit s a))
 
-  start-idle : (k : ℕ) → levelAt (startOf s) k .activity ≡ idle
+  start-idle : (k : ℕ) → levelAt (initialState s) k .activity ≡ idle
   start-idle =
       each-level (programOf s) (sound s a) (unfold programOf in level-limit s a) (rootOf s) (λ v. v .activity ≡ idle) refl refl
 
@@ -92,7 +92,7 @@ module _ (s : List ℕ) (a : verdictOf s ≡ Accepted) where
     busy-first : (l : ℕ) → l < maxLevels → getD (w .tallies) (busyPlace l) 0 ≡ 0
     busy-first l h = at-first (busyPlace l) (first-busy l h)
 
-    level-none : (l : ℕ) (m : Manager) → l < maxLevels → LevelTold (levelCount s) w l m newLevel
+    level-none : (l : ℕ) (m : Manager) → l < maxLevels → LevelRepresents (levelCount s) w l m newLevel
     level-none l m h =
         record {
           ended-count = ended-first l h;
@@ -114,8 +114,8 @@ module _ (s : List ℕ) (a : verdictOf s ≡ Accepted) where
         ∙ sym (ap (λ v. newest (fieldOf s o k) o k (v .versions)) (none-at (levelOf s o) (level-present s a o h)))
 
     -- they say that nothing has happened
-    told-none : (ms : ℕ → Manager) → Told s w ms none
-    told-none ms =
+    represents-none : (ms : ℕ → Manager) → Represents s w ms none
+    represents-none ms =
         record {
           roomy = roomy;
           counts-few = λ l h. rw (ended-first l h) (omega arith);
@@ -138,10 +138,10 @@ module _ (s : List ℕ) (a : verdictOf s ≡ Accepted) where
       came-first : (i j : ℕ) → i ≡ 0 → j ≡ 0 → Arrived (w .queue) queue level i j row count
       came-first i j e q = rw (e, q) came
 
-      told-start : (ms : ℕ → Manager) → Told s words ms (startOf s)
-      told-start ms =
-          told-state (start-is level row placed root)
-          (told-arrive s w ms none (told-none ms) (λ k h. rw (none-at k h) new-limited) (level-limit s a) level (level-there level placed) tallies queue row count
+      represents-start : (ms : ℕ → Manager) → Represents s words ms (initialState s)
+      represents-start ms =
+          represents-state (start-is level row placed root)
+          (represents-arrive s w ms none (represents-none ms) (λ k h. rw (none-at k h) new-limited) (level-limit s a) level (level-there level placed) tallies queue row count
           (came-first _ _ (omega (arith, ended-first level small, busy-first level small)) (waiting-first level small))
           refl)
 
@@ -151,12 +151,12 @@ module _ (s : List ℕ) (a : verdictOf s ≡ Accepted) where
           getD-set-other (w .tallies) (waitingPlace level) (clearPlace l) count 0 (λ e. omega (arith, e, small))
           ∙ at-first (clearPlace l) (first-clear l (omega (arith, h, level-limit s a)))
 
-      rests-start : Rests s words (startOf s)
-      rests-start =
+      quiescent-start : Quiescent s words (initialState s)
+      quiescent-start =
           record {
-            says = λ ms. record {
-              told = told-start ms;
-              reached = ([], leads-none (programOf s) (startOf s));
+            invariant = λ ms. record {
+              represents = represents-start ms;
+              reached = ([], leads-none (programOf s) (initialState s));
               clear = λ l h n. absurd (n (none-clear l h));
             };
             idle-all = λ k h. start-idle k;
@@ -173,12 +173,12 @@ module _ (s : List ℕ) (a : verdictOf s ≡ Accepted) where
 
     -- the words of a session as read in
     pub read-in : (index' current' queue' row : List ℕ) (count : ℕ) → index' ≡ indexOf s ++ drop (maxMethods + 1) index → Filled s current current' → RootRow m row → Arrived queue queue' level 0 0 row count
-        → ReadIn s index' current' (set tallies (waitingPlace level) count) queue' level
+        → InitialWords s index' current' (set tallies (waitingPlace level) count) queue' level
     read-in index' current' queue' row count made filled root came =
         record {
           index-is = index-made s index index' (f .methods) made;
           level-is = root-level m level e i;
-          rests = λ ended work he hw. rests-start
+          quiescent = λ ended work he hw. quiescent-start
               (record { current = current'; ended = ended; tallies = tallies; queue = queue; work = work })
               (record {
                 current = rw (filled .outside .length-same) (f .fields-room);

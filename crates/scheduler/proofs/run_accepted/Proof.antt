@@ -43,7 +43,7 @@ make-steps-requires : tie.Need-make-steps-requires
 make-steps-requires c κs =
     let i = c .before .before .before .before .before .before .before .before .before .before in
     let z = i .before .before .before .before .before .before .before .before .before .before .before in
-    (record { indexed = record { accepted = z .pre .leveled .accepted; index-is = i .read-in .ensures .index-is }; leveled = z .pre .leveled }, i .read-in .ensures .rests _ _ (zeros-long 2048) (z .pre .work-room))
+    (record { indexed = record { accepted = z .pre .leveled .accepted; index-is = i .read-in .ensures .index-is }; leveled = z .pre .leveled }, i .read-in .ensures .quiescent _ _ (zeros-long 2048) (z .pre .work-room))
 
 clear-requires : tie.Need-clear-requires
 clear-requires c κs = search needs
@@ -79,12 +79,12 @@ slice-aggregate-show-3 c = search needs
 
 show-requires : tie.Need-show-requires
 show-requires c κs =
-    let told = c .before .before .before .before in
-    let m = told .before .before .before .before .before .before .before .before .before .before .before .before in
+    let represents = c .before .before .before .before in
+    let m = represents .before .before .before .before .before .before .before .before .before .before .before .before in
     let i = m .before .before .before .before .before .before .before .before .before .before .before in
     let z = i .before .before .before .before .before .before .before .before .before .before .before in
     let r = m .make-steps in
-    show-ready (z .args .session .now) (z .args .masks .now) (listOf (z .args .session .now) (z .args .timetable .now) (z .args .listed)) (record { current = r .last .1 .1 .1 .1 .1 .0; ended = r .last .1 .1 .1 .1 .1 .1 .0; tallies = r .last .1 .1 .1 .1 .1 .1 .1 .0; queue = r .last .1 .1 .1 .1 .1 .1 .1 .1 .0; work = r .last .1 .1 .1 .1 .1 .1 .1 .1 .1 .0 }) _ (z .args .result .now) (z .pre .leveled) (finished-by (z .args .session .now) (listOf (z .args .session .now) (z .args .timetable .now) (z .args .listed)) (record { current = r .last .1 .1 .1 .1 .1 .0; ended = r .last .1 .1 .1 .1 .1 .1 .0; tallies = r .last .1 .1 .1 .1 .1 .1 .1 .0; queue = r .last .1 .1 .1 .1 .1 .1 .1 .1 .0; work = r .last .1 .1 .1 .1 .1 .1 .1 .1 .1 .0 }) (r .result) (told .enum-told .given .1) (r .ensures .0)) (i .read-in .ensures .level-is) (z .pre .result-room)
+    show-ready (z .args .session .now) (z .args .masks .now) (listOf (z .args .session .now) (z .args .timetable .now) (z .args .listed)) (record { current = r .last .1 .1 .1 .1 .1 .0; ended = r .last .1 .1 .1 .1 .1 .1 .0; tallies = r .last .1 .1 .1 .1 .1 .1 .1 .0; queue = r .last .1 .1 .1 .1 .1 .1 .1 .1 .0; work = r .last .1 .1 .1 .1 .1 .1 .1 .1 .1 .0 }) _ (z .args .result .now) (z .pre .leveled) (finished-by (z .args .session .now) (listOf (z .args .session .now) (z .args .timetable .now) (z .args .listed)) (record { current = r .last .1 .1 .1 .1 .1 .0; ended = r .last .1 .1 .1 .1 .1 .1 .0; tallies = r .last .1 .1 .1 .1 .1 .1 .1 .0; queue = r .last .1 .1 .1 .1 .1 .1 .1 .1 .0; work = r .last .1 .1 .1 .1 .1 .1 .1 .1 .1 .0 }) (r .result) (represents .enum-told .given .1) (r .ensures .0)) (i .read-in .ensures .level-is) (z .pre .result-room)
 
 same-length-2 : tie.Need-same-length-2
 same-length-2 c = search needs
@@ -94,14 +94,14 @@ same-length-3 c = search needs
 
 returns-2 : tie.Need-returns-2
 returns-2 c =
-    let told = c .before .before .before .before .before .before .before in
-    let k = told .before .before .before .before in
+    let represents = c .before .before .before .before .before .before .before in
+    let k = represents .before .before .before .before in
     let m = k .before .before .before .before .before .before .before .before in
     let i = m .before .before .before .before .before .before .before .before .before .before .before in
     let z = i .before .before .before .before .before .before .before .before .before .before .before in
     let r = m .make-steps in
     let x = c .before .before .show in
-    list-finished (z .args .session .now) (z .pre .leveled .accepted) (listOf (z .args .session .now) (z .args .timetable .now) (z .args .listed)) (z .args .clearance) (z .args .work .now) (r .last .1 .1 .1 .1 .1 .1 .1 .1 .1 .0) (k .clear .last .0) (z .args .result .now) (x .last .1 .1 .1 .1 .1 .1 .1 .0) (r .ensures .1) (k .clear .ensures) (record { current = r .last .1 .1 .1 .1 .1 .0; ended = r .last .1 .1 .1 .1 .1 .1 .0; tallies = r .last .1 .1 .1 .1 .1 .1 .1 .0; queue = r .last .1 .1 .1 .1 .1 .1 .1 .1 .0; work = r .last .1 .1 .1 .1 .1 .1 .1 .1 .1 .0 }) _ (x .result) (finished-by (z .args .session .now) (listOf (z .args .session .now) (z .args .timetable .now) (z .args .listed)) (record { current = r .last .1 .1 .1 .1 .1 .0; ended = r .last .1 .1 .1 .1 .1 .1 .0; tallies = r .last .1 .1 .1 .1 .1 .1 .1 .0; queue = r .last .1 .1 .1 .1 .1 .1 .1 .1 .0; work = r .last .1 .1 .1 .1 .1 .1 .1 .1 .1 .0 }) (r .result) (told .enum-told .given .1) (r .ensures .0)) (i .read-in .ensures .level-is) (x .ensures)
+    list-finished (z .args .session .now) (z .pre .leveled .accepted) (listOf (z .args .session .now) (z .args .timetable .now) (z .args .listed)) (z .args .clearance) (z .args .work .now) (r .last .1 .1 .1 .1 .1 .1 .1 .1 .1 .0) (k .clear .last .0) (z .args .result .now) (x .last .1 .1 .1 .1 .1 .1 .1 .0) (r .ensures .1) (k .clear .ensures) (record { current = r .last .1 .1 .1 .1 .1 .0; ended = r .last .1 .1 .1 .1 .1 .1 .0; tallies = r .last .1 .1 .1 .1 .1 .1 .1 .0; queue = r .last .1 .1 .1 .1 .1 .1 .1 .1 .0; work = r .last .1 .1 .1 .1 .1 .1 .1 .1 .1 .0 }) _ (x .result) (finished-by (z .args .session .now) (listOf (z .args .session .now) (z .args .timetable .now) (z .args .listed)) (record { current = r .last .1 .1 .1 .1 .1 .0; ended = r .last .1 .1 .1 .1 .1 .1 .0; tallies = r .last .1 .1 .1 .1 .1 .1 .1 .0; queue = r .last .1 .1 .1 .1 .1 .1 .1 .1 .0; work = r .last .1 .1 .1 .1 .1 .1 .1 .1 .1 .0 }) (r .result) (represents .enum-told .given .1) (r .ensures .0)) (i .read-in .ensures .level-is) (x .ensures)
 
 pub run-accepted-spec : {M : Type 1} → statement M
 run-accepted-spec =

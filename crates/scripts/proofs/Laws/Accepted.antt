@@ -33,7 +33,7 @@ use Rattle.scripts.specs.State.{Frame, Manager}
 use Rattle.scripts.specs.Effect.{Effect}
 use Rattle.scripts.specs.Effect as effect
 use Rattle.scripts.proofs.Laws.Effects.{Sound}
-use Rattle.scripts.proofs.Laws.Stack.{Runs, Keeps}
+use Rattle.scripts.proofs.Laws.Stack.{Runs, Preserves}
 
 -- whatever its registers hold, a frame is as known
 pub known-register : (s : List ℕ) (f : Frame) (k : ℕ) (v : Value) → Known s f → Known s (withRegister f k v)
@@ -75,23 +75,23 @@ fits-not-end o count (Send a b c) q = refl
 fits-not-end o count (Quit a) q = refl
 
 -- and they keep frames known
-fits-keeps : (s : List ℕ) (p : Program) (m : Manager) (f : Frame) (count : ℕ) (i : Step) → Known s f → count ≤ maxMethod → operandsFit (objectCount s) count i ≡ true → Keeps (Known s) p m f i
+fits-preserves : (s : List ℕ) (p : Program) (m : Manager) (f : Frame) (count : ℕ) (i : Step) → Known s f → count ≤ maxMethod → operandsFit (objectCount s) count i ≡ true → Preserves (Known s) p m f i
 unfolding operandsFit
-fits-keeps s p m f count End h low q = tt
-fits-keeps s p m f count (Set a n) h low q = tt
-fits-keeps s p m f count (Add a b) h low q = tt
-fits-keeps s p m f count (Jump a b) h low q =
+fits-preserves s p m f count End h low q = tt
+fits-preserves s p m f count (Set a n) h low q = tt
+fits-preserves s p m f count (Add a b) h low q = tt
+fits-preserves s p m f count (Jump a b) h low q =
     let target : b ≤ count = leb-true b count (search (and-left, and-right, q)) in
     record { present = h .present; named = h .named; near = omega arith }
-fits-keeps s p m f count (Read a b) h low q = tt
-fits-keeps s p m f count (Write a b) h low q = tt
-fits-keeps s p m f count (Send a b c) h low q =
+fits-preserves s p m f count (Read a b) h low q = tt
+fits-preserves s p m f count (Write a b) h low q = tt
+fits-preserves s p m f count (Send a b c) h low q =
     runs-any (fateOf (p .levels) (p .dom) (m .level) (p .level (f .object)) (p .level c)) (λ r v. record {
       present = ltb-true c (objectCount s) (search (and-left, and-right, q));
       named = ltb-true b names (search (and-left, and-right, q));
       near = omega arith;
     })
-fits-keeps s p m f count (Quit a) h low q = tt
+fits-preserves s p m f count (Quit a) h low q = tt
 
 -- a field that is written is one of a present object, and a message that is forked is to a present object, by a name at most 15
 abbrev pub EffectPresent : List ℕ → Effect → Type 0
@@ -192,12 +192,12 @@ module _ (s : List ℕ) (a : verdictOf s ≡ Accepted) where
       }
 
   -- and its step keeps frames known
-  pub next-keeps : (m : Manager) (f : Frame) → Known s f → Keeps (Known s) (programOf s) m (atStep f (f .next + 1)) (nextStep (programOf s) f)
+  pub next-preserves : (m : Manager) (f : Frame) → Known s f → Preserves (Known s) (programOf s) m (atStep f (f .next + 1)) (nextStep (programOf s) f)
   unfolding programOf
-  next-keeps m f h = elim (decLt (f .next) (length (methodOf s (f .object) (f .name)))) [
+  next-preserves m f h = elim (decLt (f .next) (length (methodOf s (f .object) (f .name)))) [
     | yes l ↦
         let short = method-short s a (f .object) (f .name) in
-        fits-keeps s (programOf s) m (atStep f (f .next + 1)) (length (methodOf s (f .object) (f .name))) _
+        fits-preserves s (programOf s) m (atStep f (f .next + 1)) (length (methodOf s (f .object) (f .name))) _
         (record { present = h .present; named = h .named; near = omega arith })
         short (step-fits s a (f .object) (f .name) (f .next) l)
     | no l ↦

@@ -83,10 +83,10 @@ grown c (effect.Fork u message) =
     record { level = c .level; first = c .first; stamp = c .stamp + 1; steps = c .steps; writes = c .writes; forks = c .forks + 1 }
 
 -- an operation does to the counts what its effect says
-abbrev Tells : Manager → Stepped → Type 0
-Tells m d = counts (d .manager) ≡ grown (counts m) (d .effect)
+abbrev CountsFollow : Manager → Stepped → Type 0
+CountsFollow m d = counts (d .manager) ≡ grown (counts m) (d .effect)
 
-written-counts : (p : Program) (m : Manager) (f : Frame) (k : ℕ) (v : Value) → Tells m (written p m f k v)
+written-counts : (p : Program) (m : Manager) (f : Frame) (k : ℕ) (v : Value) → CountsFollow m (written p m f k v)
 unfolding written
 written-counts p m f k v = elim (truth (eqb (p .level (f .object)) (m .level))) [
   | fails e ↦ rw e refl
@@ -96,28 +96,28 @@ written-counts p m f k v = elim (truth (eqb (p .level (f .object)) (m .level))) 
   ]
 ]
 
-called-counts : (m : Manager) (f : Frame) (a : ℕ) (callee : Frame) → Tells m (called m f a callee)
+called-counts : (m : Manager) (f : Frame) (a : ℕ) (callee : Frame) → CountsFollow m (called m f a callee)
 unfolding called
 called-counts m f a callee = elim (truth (ltb (length (m .frames)) maxFrames)) [
   | holds e ↦ rw e refl
   | fails e ↦ rw e refl
 ]
 
-forked-counts : (m : Manager) (f : Frame) (a u : ℕ) (message : Message) → Tells m (forked m f a u message)
+forked-counts : (m : Manager) (f : Frame) (a u : ℕ) (message : Message) → CountsFollow m (forked m f a u message)
 unfolding forked
 forked-counts m f a u message = elim (truth (ltb (m .forks) maxForks)) [
   | holds e ↦ rw e refl
   | fails e ↦ rw e refl
 ]
 
-sent-counts : (m : Manager) (f : Frame) (a b c : ℕ) (t : Fate) → Tells m (sent m f a b c t)
+sent-counts : (m : Manager) (f : Frame) (a b c : ℕ) (t : Fate) → CountsFollow m (sent m f a b c t)
 unfolding sent
 sent-counts m f a b c fate.Call = called-counts m f a _
 sent-counts m f a b c fate.Discard = called-counts m f a _
 sent-counts m f a b c fate.Block = refl
 sent-counts m f a b c (fate.Fork u) = forked-counts m f a u _
 
-operated-counts : (p : Program) (read : ℕ → ℕ → Value) (m : Manager) (f : Frame) (s : Step) → Tells m (operated p read m f s)
+operated-counts : (p : Program) (read : ℕ → ℕ → Value) (m : Manager) (f : Frame) (s : Step) → CountsFollow m (operated p read m f s)
 unfolding operated
 operated-counts p read m f End = refl
 operated-counts p read m f (Set a n) = refl
@@ -139,7 +139,7 @@ unfolding stepped
 stepped-counts p read m =
     let f = top m in
     let g = atStep f (f .next + 1) in
-    let told : Tells m (operated p read m g (nextStep p f)) = operated-counts p read m g (nextStep p f) in
+    let told : CountsFollow m (operated p read m g (nextStep p f)) = operated-counts p read m g (nextStep p f) in
     elim (truth (isRunning (operated p read m g (nextStep p f) .manager .ending))) [
       | holds e ↦ rw e (concluded-counts p _ ∙ ap oneMore told)
       | fails e ↦ rw e (ap oneMore told)

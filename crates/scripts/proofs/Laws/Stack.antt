@@ -37,16 +37,16 @@ Runs fate.Block X = Unit
 Runs (fate.Fork u) X = Unit
 
 -- what is asked of a step: its jump keeps the property, and the frame that it makes has it
-abbrev pub Keeps : (Frame → Type 0) → Program → Manager → Frame → Step → Type 0
-Keeps P p m f End = Unit
-Keeps P p m f (Set a n) = Unit
-Keeps P p m f (Add a b) = Unit
-Keeps P p m f (Jump a b) = P (atStep f b)
-Keeps P p m f (Read a b) = Unit
-Keeps P p m f (Write a b) = Unit
-Keeps P p m f (Send a b c) =
+abbrev pub Preserves : (Frame → Type 0) → Program → Manager → Frame → Step → Type 0
+Preserves P p m f End = Unit
+Preserves P p m f (Set a n) = Unit
+Preserves P p m f (Add a b) = Unit
+Preserves P p m f (Jump a b) = P (atStep f b)
+Preserves P p m f (Read a b) = Unit
+Preserves P p m f (Write a b) = Unit
+Preserves P p m f (Send a b c) =
     Runs (fateOf (p .levels) (p .dom) (m .level) (p .level (f .object)) (p .level c)) ((r : Bool) (v : Value) → P (frameFor c b a r v))
-Keeps P p m f (Quit a) = Unit
+Preserves P p m f (Quit a) = Unit
 
 below-length : (fs : List Frame) → length (belowOf fs) ≡ length fs - 1
 below-length [] = refl
@@ -143,7 +143,7 @@ module _ (P : Frame → Type 0) (kept : (f : Frame) (k : ℕ) (v : Value) → P 
   sent-stack m f a b c fate.Block s d x = replaced-stack P m (withRegister f a Nil) s (kept f a Nil d)
   sent-stack m f a b c (fate.Fork u) s d x = forked-stack m f a u _ s d
 
-  pub operated-stack : (p : Program) (read : ℕ → ℕ → Value) (m : Manager) (f : Frame) (i : Step) → Stacked P m → (isEnd i ≡ false → P f) → Keeps P p m f i → Stacked P (operated p read m f i .manager)
+  pub operated-stack : (p : Program) (read : ℕ → ℕ → Value) (m : Manager) (f : Frame) (i : Step) → Stacked P m → (isEnd i ≡ false → P f) → Preserves P p m f i → Stacked P (operated p read m f i .manager)
   unfolding operated
   operated-stack p read m f End s b x = s
   operated-stack p read m f (Set a n) s b x = replaced-stack P m _ s (kept f a _ (b refl))

@@ -21,7 +21,7 @@ use Rattle.scripts.proofs.Laws.Counts.{Counts, counts, grown, oneMore, 
 use Rattle.scripts.proofs.Laws.Effects.{Fits, stepped-fits}
 use Rattle.scripts.proofs.Laws.Endings.{concluded-live, concluded-few, running-live, running-few}
 use Rattle.scripts.proofs.Laws.Stack.{Stacked, top-each, first-stack, concluded-stack, operated-stack, stepped-stack}
-use Rattle.scripts.proofs.Laws.Accepted.{EffectPresent, known-register, program-sound, passed-known, next-keeps, next-present}
+use Rattle.scripts.proofs.Laws.Accepted.{EffectPresent, known-register, program-sound, passed-known, next-preserves, next-present}
 
 -- counts within their limits, at a level and with a first write stamp
 record Limited (level first steps : ℕ) (c : Counts) : Type 0 where
@@ -68,7 +68,7 @@ module _ (s : List ℕ) (a : verdictOf s ≡ Accepted) where
       let p = programOf s in
       let f = top m in
       let h = top-each (Known s) m (v .stack) (v .live r) in
-      operated-stack (Known s) (known-register s) p read m (atStep f (f .next + 1)) (nextStep p f) (v .stack) (passed-known s a f h) (next-keeps s a m f h)
+      operated-stack (Known s) (known-register s) p read m (atStep f (f .next + 1)) (nextStep p f) (v .stack) (passed-known s a f h) (next-preserves s a m f h)
 
   -- a script step leaves a valid manager
   pub stepped-valid : (read : ℕ → ℕ → Value) (m : Manager) → Valid s m → isRunning (m .ending) ≡ true → Valid s (stepped (programOf s) read m .manager)

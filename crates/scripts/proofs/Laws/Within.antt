@@ -27,7 +27,7 @@ use Rattle.scripts.specs.Effect.{Effect}
 use Rattle.scripts.specs.Effect as effect
 use Rattle.scripts.proofs.Laws.Effects.{Sound}
 use Rattle.scripts.proofs.Laws.Endings.{concluded-live, running-live}
-use Rattle.scripts.proofs.Laws.Stack.{Stacked, Runs, Keeps, top-each, first-stack, concluded-stack, operated-stack, stepped-stack}
+use Rattle.scripts.proofs.Laws.Stack.{Stacked, Runs, Preserves, top-each, first-stack, concluded-stack, operated-stack, stepped-stack}
 
 -- level l dominates the object of a frame
 abbrev pub Below : Program → ℕ → Frame → Type 0
@@ -63,24 +63,24 @@ runs-below p l f a b c fate.Discard so h d x = λ r v. x
 runs-below p l f a b c fate.Block so h d x = tt
 runs-below p l f a b c (fate.Fork u) so h d x = tt
 
-keeps-below : (p : Program) (l : ℕ) (m : Manager) (f : Frame) (i : Step) → Sound p → l < p .levels → m .level ≡ l → Below p l f → Keeps (Below p l) p m f i
-keeps-below p l m f End so h q b = tt
-keeps-below p l m f (Set a n) so h q b = tt
-keeps-below p l m f (Add a c) so h q b = tt
-keeps-below p l m f (Jump a c) so h q b = b
-keeps-below p l m f (Read a c) so h q b = tt
-keeps-below p l m f (Write a c) so h q b = tt
-keeps-below p l m f (Send a n c) so h q b =
+preserves-below : (p : Program) (l : ℕ) (m : Manager) (f : Frame) (i : Step) → Sound p → l < p .levels → m .level ≡ l → Below p l f → Preserves (Below p l) p m f i
+preserves-below p l m f End so h q b = tt
+preserves-below p l m f (Set a n) so h q b = tt
+preserves-below p l m f (Add a c) so h q b = tt
+preserves-below p l m f (Jump a c) so h q b = b
+preserves-below p l m f (Read a c) so h q b = tt
+preserves-below p l m f (Write a c) so h q b = tt
+preserves-below p l m f (Send a n c) so h q b =
     runs-below p l f a n c (fateOf (p .levels) (p .dom) (m .level) (p .level (f .object)) (p .level c)) so h b
     (rw q (fate-covers (p .levels) (p .dom) (so .lattice) l (p .level (f .object)) (p .level c) h (so .placed c)))
-keeps-below p l m f (Quit a) so h q b = tt
+preserves-below p l m f (Quit a) so h q b = tt
 
 -- the stack after the operation of a script step
 done-stack : (p : Program) (read : ℕ → ℕ → Value) (l : ℕ) (m : Manager) → Sound p → l < p .levels → m .level ≡ l → isRunning (m .ending) ≡ true → Within p l m → Stacked (Below p l) (operated p read m (atStep (top m) (top m .next + 1)) (nextStep p (top m)) .manager)
 done-stack p read l m so h q r w =
     let g = atStep (top m) (top m .next + 1) in
     let b = top-each (Below p l) m (w .stack) (w .live r) in
-    operated-stack (Below p l) (register-below p l) p read m g (nextStep p (top m)) (w .stack) (λ _. b) (keeps-below p l m g (nextStep p (top m)) so h q b)
+    operated-stack (Below p l) (register-below p l) p read m g (nextStep p (top m)) (w .stack) (λ _. b) (preserves-below p l m g (nextStep p (top m)) so h q b)
 
 -- a script step keeps a manager within the level
 pub stepped-within : (p : Program) (read : ℕ → ℕ → Value) (l : ℕ) (m : Manager) → Sound p → l < p .levels → m .level ≡ l → isRunning (m .ending) ≡ true → Within p l m → Within p l (stepped p read m .manager)

@@ -266,15 +266,15 @@ module _ (s : List ℕ) (c : ℕ) where
       (every-then (λ rec. eqb (numberOf rec) o) (stays s c)
       (λ rec t. stays-seen rec (rw (eqb-true (numberOf rec) o t) e)) (methodRecords s (key o m)) (method-object s y o m h))
 
-  pub emptied-method-gone : AllYes s → (o m : ℕ) → m < 256 → dominates (masksOf s) c (levelOf s o) ≡ false → methodRecords (emptied c s) (key o m) ≡ []
-  emptied-method-gone y o m h e =
+  pub emptied-method-absent : AllYes s → (o m : ℕ) → m < 256 → dominates (masksOf s) c (levelOf s o) ≡ false → methodRecords (emptied c s) (key o m) ≡ []
+  emptied-method-absent y o m h e =
       emptied-method-stays (key o m)
       ∙ select-none (stays s c) (methodRecords s (key o m))
-      (every-then (λ rec. eqb (kindOf rec) 3 && eqb (numberOf rec) o) (λ rec. not (stays s c rec)) gone (methodRecords s (key o m))
+      (every-then (λ rec. eqb (kindOf rec) 3 && eqb (numberOf rec) o) (λ rec. not (stays s c rec)) absent (methodRecords s (key o m))
       (every-both (λ rec. eqb (kindOf rec) 3) (λ rec. eqb (numberOf rec) o) (methodRecords s (key o m)) (method-kinds s (key o m)) (method-object s y o m h)))
     where
-      gone : (rec : Record) → (eqb (kindOf rec) 3 && eqb (numberOf rec) o) ≡ true → not (stays s c rec) ≡ true
-      gone rec t =
+      absent : (rec : Record) → (eqb (kindOf rec) 3 && eqb (numberOf rec) o) ≡ true → not (stays s c rec) ≡ true
+      absent rec t =
           ap not (stays-hidden rec (and-left (eqb (kindOf rec) 3) (eqb (numberOf rec) o) t)
           (rw (eqb-true (numberOf rec) o (and-right (eqb (kindOf rec) 3) (eqb (numberOf rec) o) t)) e))
 
@@ -286,6 +286,6 @@ module _ (s : List ℕ) (c : ℕ) where
 
   pub emptied-method-hidden : AllYes s → AllYes (emptied c s) → (o m : ℕ) → dominates (masksOf s) c (levelOf s o) ≡ false → methodOf (emptied c s) o m ≡ []
   emptied-method-hidden y z o m e = elim (decLt m 256) [
-    | yes h ↦ method-is (emptied c s) z o m h ∙ ap (map stepOf) (emptied-method-gone y o m h e)
+    | yes h ↦ method-is (emptied c s) z o m h ∙ ap (map stepOf) (emptied-method-absent y o m h e)
     | no g ↦ method-none (emptied c s) z o m (omega arith)
   ]

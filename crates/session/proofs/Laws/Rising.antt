@@ -138,7 +138,7 @@ module _ {A : Type 0} (f : A → ℕ) where
         (here j (none-below k (f x) xs (omega arith) (rising-tail b x xs e)) (rw (select-yes (λ y. eqb (f y) k) x xs (eq-eqb (f x) k q)) at h)
         (among-at d k (f x) xs (rising-tail b x xs e)))
     | more l ↦
-        absurd (gone (none-among k (f x) xs l (rising-tail b x xs e)) (rw (select-no (λ y. eqb (f y) k) x xs (ne-eqb (f x) k (omega arith))) at h))
+        absurd (absent (none-among k (f x) xs l (rising-tail b x xs e)) (rw (select-no (λ y. eqb (f y) k) x xs (ne-eqb (f x) k (omega arith))) at h))
   ]
     where
       here : (i : ℕ) → countBelow f k xs ≡ 0 → i < suc (length (among k xs))
@@ -147,8 +147,8 @@ module _ {A : Type 0} (f : A → ℕ) where
       here zero z l ih = rw z
       here (suc i) z l ih = ih i (omega arith) ∙ rw (z, zero-add i, zero-add (suc i))
 
-      gone : among k xs ≡ [] → j < length (among k xs) → ⊥
-      gone z l = omega (arith, ap length z)
+      absent : among k xs ≡ [] → j < length (among k xs) → ⊥
+      absent z l = omega (arith, ap length z)
 
   -- rising, said of neighbours
   pub rising-next : (d : A) (b : ℕ) (xs : List A) → risingFrom f b xs ≡ true → (i : ℕ) → suc i < length xs → f (getD xs i d) ≤ f (getD xs (suc i) d)

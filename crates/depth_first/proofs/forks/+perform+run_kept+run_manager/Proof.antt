@@ -13,9 +13,9 @@ use Rattle.managers.specs.Core.{effectOf}
 use Rattle.managers.specs.declared.Effect.{Effect}
 use Rattle.managers.specs.declared.Effect.the-variants.{Nothing, End, Write, Read, Fork, Call, Pop}
 use Rattle.managers.proofs.Effect.{the-type}
-use Rattle.depth_first.specs.Kept.{Words}
+use Rattle.depth_first.specs.Representation.{Words}
 use Rattle.depth_first.proofs.Laws.Perform.{perform-nothing, write-there, perform-writes, fork-some, fork-stamps, fork-runs, perform-forks}
-use Rattle.depth_first.proofs.Laws.Run.{Looped, stepsLeft, level-small, next-there, next-fits, fork-kept, fork-dropped, run-none, last-fits, fork-starts, run-starts, run-keeps, run-able, run-performable, run-again, run-less, run-room, run-ends}
+use Rattle.depth_first.proofs.Laws.Run.{Looped, stepsLeft, level-small, next-there, next-fits, fork-kept, fork-dropped, run-none, last-fits, fork-starts, run-starts, run-preserves, run-able, run-performable, run-again, run-less, run-room, run-ends}
 use borrow.Author.Needs.{needs}
 use borrow.Fn.Kinds.{In}
 use borrow.Fn.PlainCycle.{Measures, is, falls, and}
@@ -98,7 +98,7 @@ other : (e : Effect) → OneOf (0 ∷ 1 ∷ 3 ∷ 5 ∷ 6 ∷ []) (tagOf the-typ
 other Nothing h = refl
 other End h = refl
 other (Write object field value) h = absurd (miss (0 ∷ 1 ∷ 3 ∷ 5 ∷ 6 ∷ []) 2 tt h)
-other (Read object field) h = refl
+other (Tables object field) h = refl
 other (Fork level object name parameter) h = absurd (miss (0 ∷ 1 ∷ 3 ∷ 5 ∷ 6 ∷ []) 4 tt h)
 other (Call object name answer parameter) h = refl
 other (Pop reply) h = refl
@@ -284,7 +284,7 @@ run-manager-perform-requires : (t : ℕ) → run-manager-lts.Need-perform-requir
 run-manager-perform-requires t c κs =
     let z = c .before .before .before .before .before .before .before .before .before .before .before .before .before .before .before .before .before .before .before .before .before in
     let l = c .before .before .before .before .before .before .before .before .loop in
-    (omega (arith, z .pre .0, c .before .before .before .before .before .before .before .before .before .if1 .left), (z .pre .1 .0, (run-keeps (z .pre .1 .0) (z .pre .1 .1 .1 .0) (c .before .before .before .before .before .before .before .before .before .if1 .left) (l .inv .1) (z .pre .1 .1 .0), run-performable (z .pre .1 .0) (z .pre .1 .1 .1 .0) (c .before .before .before .before .before .before .before .before .before .if1 .left) (l .inv .1) (z .pre .1 .1 .0) (c .before .before .before .before .advance .ensures))))
+    (omega (arith, z .pre .0, c .before .before .before .before .before .before .before .before .before .if1 .left), (z .pre .1 .0, (run-preserves (z .pre .1 .0) (z .pre .1 .1 .1 .0) (c .before .before .before .before .before .before .before .before .before .if1 .left) (l .inv .1) (z .pre .1 .1 .0), run-performable (z .pre .1 .0) (z .pre .1 .1 .1 .0) (c .before .before .before .before .before .before .before .before .before .if1 .left) (l .inv .1) (z .pre .1 .1 .0) (c .before .before .before .before .advance .ensures))))
 
 run-manager-loop-less : (t : ℕ) → run-manager-lts.Need-loop-less (run-manager-claims t) (run-manager-at t) run-manager.Post run-manager-Inv-loop run-manager-μ-loop
 run-manager-loop-less t c =

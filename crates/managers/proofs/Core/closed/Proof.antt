@@ -1,7 +1,7 @@
 -- `managers::Core::closed` meets its contract. Assumes nothing.
 use mathlib.Core.Path.{sym, _∙_}
 use borrow.Author.Tests.{not-true, not-false}
-use Rattle.managers.proofs.Laws.Frames.{closed-over, closed-last, closed-goes, closed-out}
+use Rattle.managers.proofs.Laws.Frames.{closed-over, closed-last, closed-unfinished, closed-out}
 use borrow.Author.Needs.{needs}
 use Rattle.managers.proofs.Core.closed.Statement.{statement}
 use Rattle.managers.proofs.Core.closed.Tie as tie
@@ -26,7 +26,7 @@ returns-2 c =
 returns-3 : tie.Need-returns-3
 returns-3 c =
     let s = c .before .before .before .before .before .before in
-    sym (closed-goes (s .before .args .self)
+    sym (closed-unfinished (s .before .args .self)
     (sym (s .is-running .ensures) ∙ not-false _ (c .before .before .before .before .before .if1 .left))
     (sym (c .before .before .before .is-at-end .ensures) ∙ c .before .before .if2 .left)
     (c .if3 .taken))

@@ -26,7 +26,7 @@ put-requires c κs =
     let o = s .pre .0 in
     let g = c .before .step .given in
     let e = sym (s .pre .1) ∙ g .1 in
-    able-next (s .args .session .now) (s .args .masks .now) (s .args .current .now) (s .args .seen .now) (s .args .self) o (op.Set (g .0 .0) (g .0 .1 .0)) e refl
+    able-next (s .args .session .now) (s .args .masks .now) (s .args .current .now) (s .args .cache .now) (s .args .self) o (op.Set (g .0 .0) (g .0 .1 .0)) e refl
 
 enum-known-step-2 : tie.Need-enum-known-step-2
 enum-known-step-2 c = search needs
@@ -46,7 +46,7 @@ put-requires-2 c κs =
     let o = s .pre .0 in
     let g = c .before .before .before .before .step2 .given in
     let e = sym (s .pre .1) ∙ g .1 in
-    able-next (s .args .session .now) (s .args .masks .now) (s .args .current .now) (s .args .seen .now) (s .args .self) o (op.Add (g .0 .0) (g .0 .1 .0)) e refl
+    able-next (s .args .session .now) (s .args .masks .now) (s .args .current .now) (s .args .cache .now) (s .args .self) o (op.Add (g .0 .0) (g .0 .1 .0)) e refl
 
 enum-known-step-3 : tie.Need-enum-known-step-3
 enum-known-step-3 c = search needs
@@ -57,7 +57,7 @@ jump-requires c κs =
     let o = s .pre .0 in
     let g = c .before .step3 .given in
     let e = sym (s .pre .1) ∙ g .1 in
-    (able-next (s .args .session .now) (s .args .masks .now) (s .args .current .now) (s .args .seen .now) (s .args .self) o (op.Jump (g .0 .0) (g .0 .1 .0)) e refl, jump-near (s .args .session .now) (s .args .masks .now) (s .args .current .now) (s .args .seen .now) (s .args .self) o (g .0 .0) (g .0 .1 .0) e)
+    (able-next (s .args .session .now) (s .args .masks .now) (s .args .current .now) (s .args .cache .now) (s .args .self) o (op.Jump (g .0 .0) (g .0 .1 .0)) e refl, jump-near (s .args .session .now) (s .args .masks .now) (s .args .current .now) (s .args .cache .now) (s .args .self) o (g .0 .0) (g .0 .1 .0) e)
 
 enum-known-step-4 : tie.Need-enum-known-step-4
 enum-known-step-4 c = search needs
@@ -68,7 +68,7 @@ read-requires c κs =
     let o = s .pre .0 in
     let g = c .before .step4 .given in
     let e = sym (s .pre .1) ∙ g .1 in
-    (able-next (s .args .session .now) (s .args .masks .now) (s .args .current .now) (s .args .seen .now) (s .args .self) o (op.Read (g .0 .0) (g .0 .1 .0)) e refl, o, read-field (s .args .session .now) (s .args .masks .now) (s .args .current .now) (s .args .seen .now) (s .args .self) o (g .0 .0) (g .0 .1 .0) e)
+    (able-next (s .args .session .now) (s .args .masks .now) (s .args .current .now) (s .args .cache .now) (s .args .self) o (op.Read (g .0 .0) (g .0 .1 .0)) e refl, o, read-field (s .args .session .now) (s .args .masks .now) (s .args .current .now) (s .args .cache .now) (s .args .self) o (g .0 .0) (g .0 .1 .0) e)
 
 enum-known-step-5 : tie.Need-enum-known-step-5
 enum-known-step-5 c = search needs
@@ -79,7 +79,7 @@ write-requires c κs =
     let o = s .pre .0 in
     let g = c .before .step5 .given in
     let e = sym (s .pre .1) ∙ g .1 in
-    (able-next (s .args .session .now) (s .args .masks .now) (s .args .current .now) (s .args .seen .now) (s .args .self) o (op.Write (g .0 .0) (g .0 .1 .0)) e refl, o .leveled, o .sits, write-field (s .args .session .now) (s .args .masks .now) (s .args .current .now) (s .args .seen .now) (s .args .self) o (g .0 .0) (g .0 .1 .0) e)
+    (able-next (s .args .session .now) (s .args .masks .now) (s .args .current .now) (s .args .cache .now) (s .args .self) o (op.Write (g .0 .0) (g .0 .1 .0)) e refl, o .leveled, o .sits, write-field (s .args .session .now) (s .args .masks .now) (s .args .current .now) (s .args .cache .now) (s .args .self) o (g .0 .0) (g .0 .1 .0) e)
 
 enum-known-step-6 : tie.Need-enum-known-step-6
 enum-known-step-6 c = search needs
@@ -90,7 +90,7 @@ send-requires c κs =
     let o = s .pre .0 in
     let g = c .before .step6 .given in
     let e = sym (s .pre .1) ∙ g .1 in
-    (able-next (s .args .session .now) (s .args .masks .now) (s .args .current .now) (s .args .seen .now) (s .args .self) o (op.Send (g .0 .0) (g .0 .1 .0) (g .0 .1 .1 .0)) e refl, o .leveled, o .sits, send-register (s .args .session .now) (s .args .masks .now) (s .args .current .now) (s .args .seen .now) (s .args .self) o (g .0 .0) (g .0 .1 .0) (g .0 .1 .1 .0) e, send-method (s .args .session .now) (s .args .masks .now) (s .args .current .now) (s .args .seen .now) (s .args .self) o (g .0 .0) (g .0 .1 .0) (g .0 .1 .1 .0) e)
+    (able-next (s .args .session .now) (s .args .masks .now) (s .args .current .now) (s .args .cache .now) (s .args .self) o (op.Send (g .0 .0) (g .0 .1 .0) (g .0 .1 .1 .0)) e refl, o .leveled, o .sits, send-register (s .args .session .now) (s .args .masks .now) (s .args .current .now) (s .args .cache .now) (s .args .self) o (g .0 .0) (g .0 .1 .0) (g .0 .1 .1 .0) e, send-method (s .args .session .now) (s .args .masks .now) (s .args .current .now) (s .args .cache .now) (s .args .self) o (g .0 .0) (g .0 .1 .0) (g .0 .1 .1 .0) e)
 
 enum-known-step-7 : tie.Need-enum-known-step-7
 enum-known-step-7 c = search needs
@@ -101,13 +101,13 @@ quit-requires c κs =
     let o = s .pre .0 in
     let g = c .before .step7 .given in
     let e = sym (s .pre .1) ∙ g .1 in
-    (able-next (s .args .session .now) (s .args .masks .now) (s .args .current .now) (s .args .seen .now) (s .args .self) o (op.Quit (g .0 .0)) e refl, o .sits .some (rw (o .quiet)))
+    (able-next (s .args .session .now) (s .args .masks .now) (s .args .current .now) (s .args .cache .now) (s .args .self) o (op.Quit (g .0 .0)) e refl, o .sits .some (rw (o .internal)))
 
 returns : tie.Need-returns
 returns c =
     let s = c .before .before .before .before .before .before .before .before in
     let o = s .pre .0 in
-    operated-end (s .args .session .now) (s .args .current .now) (s .args .seen .now) (s .args .all) (s .args .self) (c .end .result) (o .sits) (o .quiet) (sym (s .pre .1) ∙ c .before .enum-told .given .1) (c .end .ensures)
+    operated-end (s .args .session .now) (s .args .current .now) (s .args .cache .now) (s .args .all) (s .args .self) (c .end .result) (o .sits) (o .internal) (sym (s .pre .1) ∙ c .before .enum-told .given .1) (c .end .ensures)
 
 returns-2 : tie.Need-returns-2
 unfolding operated
@@ -117,8 +117,8 @@ returns-2 c =
     let g = c .before .before .step .given in
     let e = sym (s .pre .1) ∙ g .1 in
     let i = op.Set (g .0 .0) (g .0 .1 .0) in
-    operated-made (s .args .session .now) (s .args .current .now) (s .args .seen .now) (s .args .all) (s .args .self) (c .put .result) i
-    (operation-moved (s .args .session .now) i (s .args .self) (c .put .result) _ (able-next (s .args .session .now) (s .args .masks .now) (s .args .current .now) (s .args .seen .now) (s .args .self) o (op.Set (g .0 .0) (g .0 .1 .0)) e refl) (o .sits) (c .put .ensures) (λ read gs. refl))
+    operated-made (s .args .session .now) (s .args .current .now) (s .args .cache .now) (s .args .all) (s .args .self) (c .put .result) i
+    (operation-moved (s .args .session .now) i (s .args .self) (c .put .result) _ (able-next (s .args .session .now) (s .args .masks .now) (s .args .current .now) (s .args .cache .now) (s .args .self) o (op.Set (g .0 .0) (g .0 .1 .0)) e refl) (o .sits) (c .put .ensures) (λ read gs. refl))
     e refl
 
 returns-3 : tie.Need-returns-3
@@ -130,8 +130,8 @@ returns-3 c =
     let e = sym (s .pre .1) ∙ g .1 in
     let i = op.Add (g .0 .0) (g .0 .1 .0) in
     let m = s .args .self in
-    operated-made (s .args .session .now) (s .args .current .now) (s .args .seen .now) (s .args .all) (s .args .self) (c .put2 .result) i
-    (operation-moved (s .args .session .now) i m (c .put2 .result) (withRegister (pastOf m) (g .0 .0) (c .before .sum .result)) (able-next (s .args .session .now) (s .args .masks .now) (s .args .current .now) (s .args .seen .now) (s .args .self) o (op.Add (g .0 .0) (g .0 .1 .0)) e refl) (o .sits) (c .put2 .ensures)
+    operated-made (s .args .session .now) (s .args .current .now) (s .args .cache .now) (s .args .all) (s .args .self) (c .put2 .result) i
+    (operation-moved (s .args .session .now) i m (c .put2 .result) (withRegister (pastOf m) (g .0 .0) (c .before .sum .result)) (able-next (s .args .session .now) (s .args .masks .now) (s .args .current .now) (s .args .cache .now) (s .args .self) o (op.Add (g .0 .0) (g .0 .1 .0)) e refl) (o .sits) (c .put2 .ensures)
     (λ read gs. ap (λ v. record { manager = withTop (standing m gs) (withRegister (pastOf m) (g .0 .0) v); effect = effect.Nothing }) (c .before .sum .ensures ∙ rw (c .before .before .before .register .ensures, c .before .before .register2 .ensures))))
     e refl
 
@@ -143,8 +143,8 @@ returns-4 c =
     let g = c .before .before .step3 .given in
     let e = sym (s .pre .1) ∙ g .1 in
     let i = op.Jump (g .0 .0) (g .0 .1 .0) in
-    operated-made (s .args .session .now) (s .args .current .now) (s .args .seen .now) (s .args .all) (s .args .self) (c .jump .result) i
-    (operation-moved (s .args .session .now) i (s .args .self) (c .jump .result) _ (able-next (s .args .session .now) (s .args .masks .now) (s .args .current .now) (s .args .seen .now) (s .args .self) o (op.Jump (g .0 .0) (g .0 .1 .0)) e refl) (o .sits) (c .jump .ensures) (λ read gs. refl))
+    operated-made (s .args .session .now) (s .args .current .now) (s .args .cache .now) (s .args .all) (s .args .self) (c .jump .result) i
+    (operation-moved (s .args .session .now) i (s .args .self) (c .jump .result) _ (able-next (s .args .session .now) (s .args .masks .now) (s .args .current .now) (s .args .cache .now) (s .args .self) o (op.Jump (g .0 .0) (g .0 .1 .0)) e refl) (o .sits) (c .jump .ensures) (λ read gs. refl))
     e refl
 
 returns-5 : tie.Need-returns-5
@@ -153,7 +153,7 @@ returns-5 c =
     let o = s .pre .0 in
     let g = c .before .before .step4 .given in
     let e = sym (s .pre .1) ∙ g .1 in
-    operated-read (s .args .session .now) (s .args .current .now) (s .args .seen .now) (s .args .all) (s .args .self) (c .read .result) (g .0 .0) (g .0 .1 .0) (c .read .ensures) e
+    operated-read (s .args .session .now) (s .args .current .now) (s .args .cache .now) (s .args .all) (s .args .self) (c .read .result) (g .0 .0) (g .0 .1 .0) (c .read .ensures) e
 
 returns-6 : tie.Need-returns-6
 returns-6 c =
@@ -161,7 +161,7 @@ returns-6 c =
     let o = s .pre .0 in
     let g = c .before .before .step5 .given in
     let e = sym (s .pre .1) ∙ g .1 in
-    operated-made (s .args .session .now) (s .args .current .now) (s .args .seen .now) (s .args .all) (s .args .self) (c .write .result) (op.Write (g .0 .0) (g .0 .1 .0)) (c .write .ensures) e refl
+    operated-made (s .args .session .now) (s .args .current .now) (s .args .cache .now) (s .args .all) (s .args .self) (c .write .result) (op.Write (g .0 .0) (g .0 .1 .0)) (c .write .ensures) e refl
 
 returns-7 : tie.Need-returns-7
 returns-7 c =
@@ -169,7 +169,7 @@ returns-7 c =
     let o = s .pre .0 in
     let g = c .before .before .step6 .given in
     let e = sym (s .pre .1) ∙ g .1 in
-    operated-made (s .args .session .now) (s .args .current .now) (s .args .seen .now) (s .args .all) (s .args .self) (c .send .result) (op.Send (g .0 .0) (g .0 .1 .0) (g .0 .1 .1 .0)) (c .send .ensures) e refl
+    operated-made (s .args .session .now) (s .args .current .now) (s .args .cache .now) (s .args .all) (s .args .self) (c .send .result) (op.Send (g .0 .0) (g .0 .1 .0) (g .0 .1 .1 .0)) (c .send .ensures) e refl
 
 returns-8 : tie.Need-returns-8
 unfolding operated
@@ -179,7 +179,7 @@ returns-8 c =
     let g = c .before .before .step7 .given in
     let e = sym (s .pre .1) ∙ g .1 in
     let i = op.Quit (g .0 .0) in
-    operated-made (s .args .session .now) (s .args .current .now) (s .args .seen .now) (s .args .all) (s .args .self) (c .quit .result) i
+    operated-made (s .args .session .now) (s .args .current .now) (s .args .cache .now) (s .args .all) (s .args .self) (c .quit .result) i
     (operation-made (s .args .session .now) i (λ _. Unit) (s .args .self) (c .quit .result) _ (c .quit .ensures) (o .sits) tt (λ read gs. refl))
     e refl
 

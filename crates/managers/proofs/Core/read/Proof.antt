@@ -32,7 +32,7 @@ put-requires c κs = search needs
 returns : tie.Need-returns
 returns c =
     let s = c .before .before .before .before .before .before .before .before in
-    read-current (s .args .session .now) (s .args .current .now) (s .args .seen .now) (s .args .all) (s .args .a) (s .args .b) (s .args .self) (c .put .result) (s .pre .0) (s .pre .1 .sits) (s .pre .2)
+    read-current (s .args .session .now) (s .args .current .now) (s .args .cache .now) (s .args .all) (s .args .a) (s .args .b) (s .args .self) (c .put .result) (s .pre .0) (s .pre .1 .sits) (s .pre .2)
     (c .before .get .result) (c .put .ensures)
     (⊎-elim (λ t. inl (t .taken)) (λ t. inr (sym (t .1 .ensures) ∙ eqb-true _ _ (t .3 .taken))) (c .before .before .if1 .came))
     (c .before .get .ensures)
@@ -42,7 +42,7 @@ is-known-requires c κs =
     let s = c .before .before .before .before .before .before .before .before .before in
     let o = s .pre .1 in
     record {
-      room = o .seen-there;
+      room = o .cache-there;
       object = omega (arith, o .sits .top .method .0, object-limit (s .args .session .now) (o .leveled .accepted));
       field = s .pre .2;
     }
@@ -52,7 +52,7 @@ get-requires-2 c κs =
     let s = c .before .before .before .before .before .before .before .before .before .before .before in
     let o = s .pre .1 in
     record {
-      room = o .seen-there;
+      room = o .cache-there;
       object = omega (arith, o .sits .top .method .0, object-limit (s .args .session .now) (o .leveled .accepted));
       field = s .pre .2;
     }
@@ -63,7 +63,7 @@ put-requires-2 c κs = search needs
 returns-2 : tie.Need-returns-2
 returns-2 c =
     let s = c .before .before .before .before .before .before .before .before .before .before .before .before .before in
-    read-known (s .args .session .now) (s .args .current .now) (s .args .seen .now) (s .args .all) (s .args .a) (s .args .b) (s .args .self) (c .put2 .result) (s .pre .0) (s .pre .1 .sits) (s .pre .2)
+    read-known (s .args .session .now) (s .args .current .now) (s .args .cache .now) (s .args .all) (s .args .a) (s .args .b) (s .args .self) (c .put2 .result) (s .pre .0) (s .pre .1 .sits) (s .pre .2)
     (c .before .get2 .result) (c .put2 .ensures)
     (c .before .before .before .before .before .before .before .if1 .left)
     (λ e. not-both _ (eq-eqb _ _ (c .before .before .before .before .before .before .level-of .ensures ∙ e)) (c .before .before .before .before .if2 .left))
@@ -81,7 +81,7 @@ causing-requires c κs = search needs
 returns-3 : tie.Need-returns-3
 returns-3 c =
     let s = c .before .before .before .before .before .before .before .before .before .before .before .before in
-    read-asked (s .args .session .now) (s .args .current .now) (s .args .seen .now) (s .args .all) (s .args .a) (s .args .b) (s .args .self) (c .causing .result) (s .pre .0) (s .pre .1 .sits) (s .pre .2)
+    read-asked (s .args .session .now) (s .args .current .now) (s .args .cache .now) (s .args .all) (s .args .a) (s .args .b) (s .args .self) (c .causing .result) (s .pre .0) (s .pre .1 .sits) (s .pre .2)
     (c .causing .ensures)
     (c .before .before .before .before .before .before .if1 .left)
     (λ e. not-both _ (eq-eqb _ _ (c .before .before .before .before .before .level-of .ensures ∙ e)) (c .before .before .before .if2 .left))

@@ -22,24 +22,24 @@ use Rattle.managers.specs.declared.frames.Waiting.{Waiting}
 use Rattle.managers.specs.declared.Effect.{Effect}
 use Rattle.managers.specs.declared.Effect.the-variants.{Nothing, End, Write, Read, Fork, Call, Pop}
 use Rattle.managers.proofs.Effect as effect
-use Rattle.managers.proofs.Laws.Advance.{Turning, turnsLeft, goes-quiet, turning-start, turning-operable, turning-made, turning-less, turning-pushed, pushed-less, turning-popped, popped-less}
+use Rattle.managers.proofs.Laws.Advance.{Turning, turnsLeft, unfinished-internal, turning-start, turning-operable, turning-made, turning-less, turning-pushed, pushed-less, turning-popped, popped-less}
 use Rattle.managers.proofs.Laws.Closing.{Lowering, lowering-start, lowering-two, lowering-waits, lowering-on, lowering-less}
 use Rattle.managers.proofs.Laws.Done.{advance-done, advanced-self, self-able}
 use Rattle.managers.proofs.Manager.advance.Statement.{statement}
 use Rattle.managers.proofs.Manager.advance.Tie as tie
 
 abbrev Inv-loop : tie.InvT-loop
-Inv-loop session masks index current seen all limit core₀ waiting₀ core waiting =
-    Turning session masks index current seen all limit core₀ waiting₀ core waiting × (isDone (core .effect) ≡ true)
+Inv-loop session masks index current cache all limit core₀ waiting₀ core waiting =
+    Turning session masks index current cache all limit core₀ waiting₀ core waiting × (isDone (core .effect) ≡ true)
 
 abbrev μ-loop : tie.MeasureT-loop
-μ-loop session masks index current seen all limit core₀ waiting₀ core waiting = turnsLeft core
+μ-loop session masks index current cache all limit core₀ waiting₀ core waiting = turnsLeft core
 
 abbrev Inv-loop2 : tie.InvT-loop2
-Inv-loop2 session masks index current seen all limit core₀ waiting core = Lowering session index waiting core₀ core
+Inv-loop2 session masks index current cache all limit core₀ waiting core = Lowering session index waiting core₀ core
 
 abbrev μ-loop2 : tie.MeasureT-loop2
-μ-loop2 session masks index current seen all limit core₀ waiting core = core .height
+μ-loop2 session masks index current cache all limit core₀ waiting core = core .height
 
 -- the arguments, from the head of the first loop
 abbrev start : tie.At-loop Inv-loop μ-loop Inv-loop2 μ-loop2 → tie.Start Inv-loop μ-loop Inv-loop2 μ-loop2
@@ -48,7 +48,7 @@ start l = l .before .before .before .before .before .before .before .before
 -- the core goes on
 go : (x : tie.Then1 Inv-loop μ-loop Inv-loop2 μ-loop2) → (x .before .before .loop .core .effect ≡ Nothing) × (x .before .before .loop .core .steps < start (x .before .before) .args .limit)
 go x =
-    goes-quiet (x .before .before .loop .core) (start (x .before .before) .args .limit) (x .before .goes-on .result) (x .before .goes-on .ensures) (x .if1 .taken)
+    unfinished-internal (x .before .before .loop .core) (start (x .before .before) .args .limit) (x .before .may-advance .result) (x .before .may-advance .ensures) (x .if1 .taken)
 
 causing-requires : tie.Need-causing-requires Inv-loop μ-loop Inv-loop2 μ-loop2
 causing-requires c κs = search needs
@@ -59,8 +59,8 @@ loop-holds c =
     let is = c .before .causing .ensures in
     (turning-start _ _ _ _ _ _ _ _ _ (self-able _ _ _ _ _ _ _ is (s .pre .0)) (omega (arith, s .pre .1 .0, ap (λ z. z .steps) is), s .pre .1 .1) (ap (λ z. z .effect) is), ap (λ z. isDone (z .effect)) is)
 
-goes-on-requires : tie.Need-goes-on-requires Inv-loop μ-loop Inv-loop2 μ-loop2
-goes-on-requires c κs = search needs
+may-advance-requires : tie.Need-may-advance-requires Inv-loop μ-loop Inv-loop2 μ-loop2
+may-advance-requires c κs = search needs
 
 next-step-requires : tie.Need-next-step-requires Inv-loop μ-loop Inv-loop2 μ-loop2
 next-step-requires c κs =
@@ -90,14 +90,14 @@ cast-at c = search needs
 -- script steps led from the manager to a core above frames
 abbrev Now : tie.At-loop Inv-loop μ-loop Inv-loop2 μ-loop2 → Core → List Waiting → Type 0
 Now l c ws =
-    Turning (start l .args .session .now) (start l .args .masks .now) (start l .args .index .now) (start l .args .current .now) (start l .args .seen .now) (start l .args .all) (start l .args .limit) (l .before .before .causing .result) (start l .args .self .waiting) c ws
+    Turning (start l .args .session .now) (start l .args .masks .now) (start l .args .index .now) (start l .args .current .now) (start l .args .cache .now) (start l .args .all) (start l .args .limit) (l .before .before .causing .result) (start l .args .self .waiting) c ws
 
 -- the operation, by the core that it was made of
-operated : (x : tie.After-operate Inv-loop μ-loop Inv-loop2 μ-loop2) → Operated (start (x .before .before .before .before .before .before) .args .session .now) (start (x .before .before .before .before .before .before) .args .current .now) (start (x .before .before .before .before .before .before) .args .seen .now) (start (x .before .before .before .before .before .before) .args .all) (x .before .before .before .before .before .before .loop .core) (x .operate .result)
+operated : (x : tie.After-operate Inv-loop μ-loop Inv-loop2 μ-loop2) → Operated (start (x .before .before .before .before .before .before) .args .session .now) (start (x .before .before .before .before .before .before) .args .current .now) (start (x .before .before .before .before .before .before) .args .cache .now) (start (x .before .before .before .before .before .before) .args .all) (x .before .before .before .before .before .before .loop .core) (x .operate .result)
 operated x =
     let at = x .before .before .before .before in
     let s = start (at .before .before) in
-    subst (λ z. Operated (s .args .session .now) (s .args .current .now) (s .args .seen .now) (s .args .all) z (x .operate .result)) (x .before .causing2 .ensures ∙ calm (at .before .before .loop .core) (go at .0)) (x .operate .ensures)
+    subst (λ z. Operated (s .args .session .now) (s .args .current .now) (s .args .cache .now) (s .args .all) z (x .operate .result)) (x .before .causing2 .ensures ∙ calm (at .before .before .loop .core) (go at .0)) (x .operate .ensures)
 
 -- the operation's outcome
 made : (x : tie.After-operate Inv-loop μ-loop Inv-loop2 μ-loop2) → Now (x .before .before .before .before .before .before) (x .operate .result) (x .before .before .before .before .before .before .loop .waiting)
@@ -283,7 +283,7 @@ returns c =
     let z = c .before .before .before in
     let l = z .before .before .before in
     advanced-self _ _ _ _ _ _ _ _ (l .before .before .causing .ensures)
-    (advance-done _ _ _ _ _ _ _ _ _ _ _ (l .loop .inv .0) (sym (z .before .before .goes-on .ensures) ∙ z .before .if1 .left) _ (z .loop2 .inv) (sym (c .before .before .pops .ensures) ∙ c .before .if2 .left) _ (c .closed .ensures))
+    (advance-done _ _ _ _ _ _ _ _ _ _ _ (l .loop .inv .0) (sym (z .before .before .may-advance .ensures) ∙ z .before .if1 .left) _ (z .loop2 .inv) (sym (c .before .before .pops .ensures) ∙ c .before .if2 .left) _ (c .closed .ensures))
 
 pub advance-spec : {M : Type 1} → statement M
 advance-spec =
@@ -295,7 +295,7 @@ advance-spec =
     μ-loop2
     causing-requires
     loop-holds
-    goes-on-requires
+    may-advance-requires
     next-step-requires
     causing-requires-2
     operate-requires

@@ -26,12 +26,12 @@ use Rattle.scripts.proofs.Laws.Settle.{concluded-last, concluded-not}
 use Rattle.managers.specs.Frames.{frameOf, below, Placed}
 use Rattle.managers.specs.Core.{managerOf}
 use Rattle.managers.specs.Moves.{stoodAs, closedAs}
-use Rattle.managers.specs.Steps.{waitingFrames, Held}
+use Rattle.managers.specs.Steps.{waitingFrames, WellFormed}
 use Rattle.managers.specs.declared.Core.{Core}
 use Rattle.managers.specs.declared.Effect.the-variants.{Nothing}
 use Rattle.managers.specs.declared.frames.Frame.{Frame}
 use Rattle.managers.specs.declared.frames.Waiting.{Waiting}
-use Rattle.managers.proofs.Laws.Frames.{at-end, not-end, closed-last, closed-goes}
+use Rattle.managers.proofs.Laws.Frames.{at-end, not-end, closed-last, closed-unfinished}
 use Rattle.managers.proofs.Manager.start.Statement.{statement}
 use Rattle.managers.proofs.Manager.start.Tie as tie
 
@@ -79,7 +79,7 @@ module _ (s : List ℕ) (a : verdictOf s ≡ Accepted) (level stamp : ℕ) (m : 
       rw none (sym (concluded-last (programOf s) (alone level stamp stamp g) g (ap (λ x. isEnd (nextStep (programOf s) x)) (sym is) ∙ at-end s a f p q)))
 
   -- it is within its limits, however it stands
-  stood-held : (n : ℕ) (e : Ending) → n ≤ 1 → (isRunning e ≡ true → (0 < n) × (f .next < f .count)) → Held s (record { core = stoodAs (begun level stamp f) n e Nil; waiting = ws })
+  stood-held : (n : ℕ) (e : Ending) → n ≤ 1 → (isRunning e ≡ true → (0 < n) × (f .next < f .count)) → WellFormed s (record { core = stoodAs (begun level stamp f) n e Nil; waiting = ws })
   stood-held n e low live =
       record {
         level = h .placed;
@@ -93,22 +93,22 @@ module _ (s : List ℕ) (a : verdictOf s ≡ Accepted) (level stamp : ℕ) (m : 
         each = λ k l. absurd (omega (arith, l, low));
         live = λ r. live r .0;
         few = λ r. omega arith;
-        goes = λ r. live r .1;
+        unfinished = λ r. live r .1;
       }
 
   -- another runs
-  goes : leb (f .count) (f .next) ≡ false → managerOf (record { core = begun level stamp f; waiting = ws }) ≡ started (programOf s) level stamp m
+  unfinished : leb (f .count) (f .next) ≡ false → managerOf (record { core = begun level stamp f; waiting = ws }) ≡ started (programOf s) level stamp m
   unfolding managerOf started below
-  goes q =
+  unfinished q =
       let g = frameFor (m .object) (m .name) 0 true (m .parameter) in
       ap₂ (alone level stamp) none is
       ∙ sym (concluded-not (programOf s) (alone level stamp stamp g) g [] refl refl (omega arith)
       (ap (λ x. isEnd (nextStep (programOf s) x)) (sym is) ∙ not-end s a f p (leb-false (f .count) (f .next) q)))
 
-  starts : (c : Core) → c ≡ closedAs (begun level stamp f) → (managerOf (record { core = c; waiting = ws }) ≡ started (programOf s) level stamp m) × Held s (record { core = c; waiting = ws })
+  starts : (c : Core) → c ≡ closedAs (begun level stamp f) → (managerOf (record { core = c; waiting = ws }) ≡ started (programOf s) level stamp m) × WellFormed s (record { core = c; waiting = ws })
   starts c e = elim (truth (leb (f .count) (f .next))) [
     | holds q ↦ rw (e ∙ closed-last (begun level stamp f) refl q) (ends q, stood-held 0 Finished (omega arith) (λ r. absurd (not-both false r refl)))
-    | fails q ↦ rw (e ∙ closed-goes (begun level stamp f) refl q (omega arith)) (goes q, stood-held 1 Running (omega arith) (λ _. (omega arith, leb-false (f .count) (f .next) q)))
+    | fails q ↦ rw (e ∙ closed-unfinished (begun level stamp f) refl q (omega arith)) (unfinished q, stood-held 1 Running (omega arith) (λ _. (omega arith, leb-false (f .count) (f .next) q)))
   ]
 
 new-requires : tie.Need-new-requires

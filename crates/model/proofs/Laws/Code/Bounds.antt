@@ -26,9 +26,9 @@ use Rattle.model.proofs.Laws.Invariant.Rank.{rank}
 use Rattle.model.proofs.Laws.Invariant.Tree.{Entry, upTo, childIn, Fertile}
 use Rattle.model.proofs.Laws.Invariant.Forest.{rest-each}
 use Rattle.model.proofs.Laws.Invariant.Entries.{runningEntry, waitingEntry, entriesOf, child-entry, arrived-joins}
-use Rattle.model.proofs.Laws.Invariant.Change.{Change, quiet, forks}
-use Rattle.model.proofs.Laws.Invariant.Orderly.{entriesIn, step-change, Orderly}
-use Rattle.model.proofs.Laws.Invariant.Keeps.{fertile, first-of}
+use Rattle.model.proofs.Laws.Invariant.Change.{Change, internal, forks}
+use Rattle.model.proofs.Laws.Invariant.Forks.{entriesIn, step-change, ForkInvariant}
+use Rattle.model.proofs.Laws.Invariant.Preserved.{fertile, first-of}
 use Rattle.model.proofs.Laws.Invariant.Measure.{inserted-length}
 use Rattle.model.proofs.Laws.Invariant.Became.{Became, own, got, stayed, became}
 use Rattle.model.proofs.Laws.Safe.Safe.{at-fork, at-none}
@@ -37,7 +37,7 @@ use Rattle.model.proofs.Laws.Safe.Safe.{at-fork, at-none}
 abbrev pub Fits32 : Entry → Type 0
 Fits32 a = upTo a ≤ 16 ^ (stampDigits + 1)
 
-module _ (p : Program) (so : Sound p) (st : State) (o : Orderly p st) (i : (l : ℕ) → l < p .levels → Each Fits32 (entriesIn st l)) (l : ℕ) (h : l < p .levels) where
+module _ (p : Program) (so : Sound p) (st : State) (o : ForkInvariant p st) (i : (l : ℕ) → l < p .levels → Each Fits32 (entriesIn st l)) (l : ℕ) (h : l < p .levels) where
   change : Change p l (entriesIn st l) (entriesOf l (moveAt p l st .own)) (moveAt p l st .arrival)
   change = step-change p l st so h (o .placed l h)
 
@@ -45,7 +45,7 @@ module _ (p : Program) (so : Sound p) (st : State) (o : Orderly p st) (i : (l : 
   own-fits = by change
     where
       by : {G : List Entry} {b : Arrival} → Change p l (entriesIn st l) G b → Each Fits32 G
-      by (quiet e r) = rest-each Fits32 _ _ r (i l h)
+      by (internal e r) = rest-each Fits32 _ _ r (i l h)
       by (forks u y m message W e g r hu s f) = rest-each Fits32 _ _ r (unfold Each in ((rw g at (i l h)) .0, (rw g at (i l h)) .1))
 
   child-fits : (u : ℕ) (c : Fork) → moveAt p l st .arrival ≡ at u c → Fits32 (waitingEntry u c)
@@ -55,7 +55,7 @@ module _ (p : Program) (so : Sound p) (st : State) (o : Orderly p st) (i : (l : 
       within e f b g = rw (ap upTo g) (omega (arith, f .room, b))
 
       by : {G : List Entry} → Change p l (entriesIn st l) G (moveAt p l st .arrival) → Fits32 (waitingEntry u c)
-      by (quiet e r) = absurd (at-none (moveAt p l st .arrival) u c q e)
+      by (internal e r) = absurd (at-none (moveAt p l st .arrival) u c q e)
       by (forks w y m message W e g r hu s f) =
           let same : c ≡ childOf l y m message = at-fork u w c (childOf l y m message) (sym q ∙ e) in
           let a = runningEntry l y (m .forks) in
@@ -127,7 +127,7 @@ moved-paced p so st l h v (busy x m) q t b =
     (effect-paced p m (s .manager) x (s .effect) (v .next) (length (v .ended)) (v .versions) (stepped-counts p (readAt p st l x) m) (stepped-fits p (readAt p st l x) m so (rw t h)) before)
 
 -- every step keeps the pace
-pub step-paced : (p : Program) → Sound p → (st : State) → Orderly p st → ((l : ℕ) → l < p .levels → Paced (levelAt st l)) → (l : ℕ) → l < p .levels → (k : ℕ) → k < p .levels → Paced (levelAt (stepAt p l st) k)
+pub step-paced : (p : Program) → Sound p → (st : State) → ForkInvariant p st → ((l : ℕ) → l < p .levels → Paced (levelAt st l)) → (l : ℕ) → l < p .levels → (k : ℕ) → k < p .levels → Paced (levelAt (stepAt p l st) k)
 step-paced p so st o i l h k hk = by (levelAt (stepAt p l st) k) (became p so st o l h k)
   where
     here : (l : ℕ) (p : Program) → l < p .levels → l < seenBy l p .levels

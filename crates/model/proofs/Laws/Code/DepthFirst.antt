@@ -21,7 +21,7 @@ use Rattle.model.specs.Limits.{maxManagers}
 use Rattle.model.specs.Fork.{Fork, childOf}
 use Rattle.model.specs.DepthFirst.{Progress, newTally, tallyAt, fieldNow, close, RunFork, effected, finish, runFork}
 use Rattle.model.proofs.Laws.Lists.{modify-other}
-use Rattle.model.proofs.Laws.Invariant.Keeps.{other-level}
+use Rattle.model.proofs.Laws.Invariant.Preserved.{other-level}
 
 -- a manager that runs makes one script step; one that has ended is closed
 pub finish-step : (run : RunFork) (k : ℕ) (p : Program) (l : ℕ) (x : Fork) (m : Manager) (g : Progress) → isRunning (m .ending) ≡ true → finish run (suc k) p l x m g ≡ finish run k p l x (stepped p (fieldNow p g) m .manager) (effected run l x m (stepped p (fieldNow p g) m .effect) g)

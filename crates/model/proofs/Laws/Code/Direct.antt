@@ -22,7 +22,7 @@ use Rattle.model.specs.Step.{State, levelAt, viewOf, readAt, Arrival, no
 use Rattle.model.proofs.Laws.Each.{Each, each-take, each-inserted}
 use Rattle.model.proofs.Laws.Steps.Diamond.{seen-level}
 use Rattle.model.proofs.Laws.Steps.Moves.{AtLevel, move-is}
-use Rattle.model.proofs.Laws.Invariant.Orderly.{Orderly}
+use Rattle.model.proofs.Laws.Invariant.Forks.{ForkInvariant}
 use Rattle.model.proofs.Laws.Invariant.Became.{Became, own, got, stayed, became}
 use Rattle.model.proofs.Laws.Safe.Reads.{boundAt, read-own, read-below, seen-field, seen-own, seen-below}
 
@@ -69,7 +69,7 @@ unfolding moved
 moved-direct p so st l h v idle q e f = begun-direct p l v (v .waiting) e
 moved-direct p so st l h v (busy x m) q e f = advanced-direct p so st l h v x m q (f .0) (f .1)
 
-module _ (p : Program) (so : Sound p) (st : State) (o : Orderly p st) (i : (l : ℕ) → l < p .levels → Contained p l (levelAt st l)) where
+module _ (p : Program) (so : Sound p) (st : State) (o : ForkInvariant p st) (i : (l : ℕ) → l < p .levels → Contained p l (levelAt st l)) where
   -- a step, made from all of the state
   pub move-direct : (l : ℕ) → l < p .levels → moveAt p l st ≡ moved p st l (levelAt st l) (levelAt st l .activity)
   move-direct l h =
@@ -124,7 +124,7 @@ arrived-contained p l x v r c =
     }
 
 -- every step keeps the objects of messages and frames under their levels
-pub step-contained : (p : Program) → Sound p → (st : State) → Orderly p st → ((l : ℕ) → l < p .levels → Contained p l (levelAt st l)) → (l : ℕ) → l < p .levels → (k : ℕ) → k < p .levels → Contained p k (levelAt (stepAt p l st) k)
+pub step-contained : (p : Program) → Sound p → (st : State) → ForkInvariant p st → ((l : ℕ) → l < p .levels → Contained p l (levelAt st l)) → (l : ℕ) → l < p .levels → (k : ℕ) → k < p .levels → Contained p k (levelAt (stepAt p l st) k)
 step-contained p so st o i l h k hk = by (levelAt (stepAt p l st) k) (became p so st o l h k)
   where
     made : moveAt p l st ≡ moved p st l (levelAt st l) (levelAt st l .activity)
@@ -150,7 +150,7 @@ advances p st l v x m s e =
     ap (λ s. delivered (arrivalOf l x m (s .effect)) (modify l (λ _. after v (v .waiting) (versionsAfter m (s .effect) (v .versions)) x (s .manager)) st)) e
 
 -- what a scheduler step does to the state, by what the level is about to do
-module _ (p : Program) (so : Sound p) (st : State) (o : Orderly p st) (i : (l : ℕ) → l < p .levels → Contained p l (levelAt st l)) (l : ℕ) (h : l < p .levels) where
+module _ (p : Program) (so : Sound p) (st : State) (o : ForkInvariant p st) (i : (l : ℕ) → l < p .levels → Contained p l (levelAt st l)) (l : ℕ) (h : l < p .levels) where
   step-is : stepAt p l st ≡ applied l (moved p st l (levelAt st l) (levelAt st l .activity)) st
   unfolding stepAt
   step-is = ap (λ m. applied l m st) (move-direct p so st o i l h)

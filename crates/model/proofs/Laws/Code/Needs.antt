@@ -31,15 +31,15 @@ use Rattle.model.proofs.Laws.Each.{Each, each-map}
 use Rattle.model.proofs.Laws.Invariant.Rank.{rank, rank-positive}
 use Rattle.model.proofs.Laws.Invariant.Tree.{Entry}
 use Rattle.model.proofs.Laws.Invariant.Entries.{waitingEntry, runningEntry, entriesBy}
-use Rattle.model.proofs.Laws.Invariant.Orderly.{entriesIn}
-use Rattle.model.proofs.Laws.Invariant.Keeps.{first-of, other-level}
-use Rattle.model.proofs.Laws.Invariant.Measure.{Tame}
+use Rattle.model.proofs.Laws.Invariant.Forks.{entriesIn}
+use Rattle.model.proofs.Laws.Invariant.Preserved.{first-of, other-level}
+use Rattle.model.proofs.Laws.Invariant.Measure.{Bounded}
 use Rattle.model.proofs.Laws.Invariant.WriteStamps.{stampBy, writeStamp}
 use Rattle.model.proofs.Laws.Invariant.Versions.{Falling}
 use Rattle.model.proofs.Laws.Safe.Reads.{last-below}
 use Rattle.model.proofs.Laws.Order.Accepted.{sound}
 use Rattle.model.proofs.Laws.Code.Bounds.{Fits32, PacedBy, Paced}
-use Rattle.model.proofs.Laws.Code.Live.{Sendable, Runs, Live, present, next-paced, next-startable}
+use Rattle.model.proofs.Laws.Code.Reached.{Sendable, Runs, ReachedState, present, next-paced, next-startable}
 
 -- the versions and the write stamp of a level that keeps its limits
 versions-low : (b : Activity) (next ended versions : ℕ) → ended + cond (isBusy b) 1 0 ≤ maxManagers → PacedBy b next ended versions → versions ≤ maxManagers * maxWrites
@@ -51,16 +51,16 @@ stamp-low idle next ended versions t g = omega (arith, g .0)
 stamp-low (busy x m) next ended versions t g = omega (arith, g .0, g .1 .0, g .1 .1 .0)
 
 -- one more version, where the running manager may still write
-one-more : (v : Level) (x : Fork) (m : Manager) → v .activity ≡ busy x m → Tame v → Paced v → m .writes < maxWrites → length (v .versions) < maxManagers * maxWrites
+one-more : (v : Level) (x : Fork) (m : Manager) → v .activity ≡ busy x m → Bounded v → Paced v → m .writes < maxWrites → length (v .versions) < maxManagers * maxWrites
 one-more v x m q t b w =
     let count : startedCount v ≡ length (v .ended) + 1 = ap (λ a. length (v .ended) + cond (isBusy a) 1 0) q in
     let now : PacedBy (busy x m) (v .next) (length (v .ended)) (length (v .versions)) = rw q at b in
     omega (arith, count, t .room, now .1 .1 .1 .1)
 
-module _ (s : List ℕ) (a : verdictOf s ≡ Accepted) (st : State) (i : Live s st) (l : ℕ) (h : l < levelCount s) where
+module _ (s : List ℕ) (a : verdictOf s ≡ Accepted) (st : State) (i : ReachedState s st) (l : ℕ) (h : l < levelCount s) where
   -- a level has at most 32 managers, ended, running and waiting
   pub live-room : startedCount (levelAt st l) + length (levelAt st l .waiting) ≤ maxManagers
-  live-room = i .reachable .steady .tame l .room
+  live-room = i .reachable .steady .bounded l .room
 
   paced : Paced (levelAt st l)
   paced = i .reachable .paced l (present s l h)
@@ -93,7 +93,7 @@ module _ (s : List ℕ) (a : verdictOf s ≡ Accepted) (st : State) (i : Live s 
   -- the first fork that waits may start
   pub live-startable : (x : Fork) (xs : List Fork) → levelAt st l .waiting ≡ x ∷ xs → Startable s l (levelAt st l .next) (x .message)
   live-startable x xs e =
-      next-startable s l (levelAt st l) x h (i .reachable .steady .tame l) paced (first-of (Sendable s) x xs (levelAt st l .waiting) e (i .waiting l h))
+      next-startable s l (levelAt st l) x h (i .reachable .steady .bounded l) paced (first-of (Sendable s) x xs (levelAt st l .waiting) e (i .waiting l h))
 
   module _ (x : Fork) (m : Manager) (q : levelAt st l .activity ≡ busy x m) where
     -- the manager that runs is valid, is one of the level and has not ended
@@ -108,7 +108,7 @@ module _ (s : List ℕ) (a : verdictOf s ≡ Accepted) (st : State) (i : Live s 
     live-write read o k w e =
         let f = subst (Fits (programOf s) m) e (fits read) in
         let g = subst (EffectPresent s) e (stepped-present s a read m (live-runs .0) (live-runs .1 .1)) in
-        (one-more (levelAt st l) x m q (i .reachable .steady .tame l) paced (f .1), (f .0 ∙ live-runs .1 .0, g))
+        (one-more (levelAt st l) x m q (i .reachable .steady .bounded l) paced (f .1), (f .0 ∙ live-runs .1 .0, g))
 
     entries : entriesIn st l ≡ runningEntry l x (m .forks) ∷ map (waitingEntry l) (levelAt st l .waiting)
     entries = ap (λ b. entriesBy l b (levelAt st l .waiting)) q
@@ -119,7 +119,7 @@ module _ (s : List ℕ) (a : verdictOf s ≡ Accepted) (st : State) (i : Live s 
     shallow : x .depth ≤ stampDigits
     shallow =
         let p = programOf s in
-        omega (arith, first-entry (λ e. e .depth + rank (p .levels) (p .dom) l ≤ stampDigits + 1) (i .reachable .steady .orderly .grown .shallow l (present s l h)), rank-positive (p .levels) (p .dom) (sound s a .lattice .order) l (present s l h))
+        omega (arith, first-entry (λ e. e .depth + rank (p .levels) (p .dom) l ≤ stampDigits + 1) (i .reachable .steady .fork-invariant .grown .shallow l (present s l h)), rank-positive (p .levels) (p .dom) (sound s a .lattice .order) l (present s l h))
 
     -- what it forks goes to another present level, and the child's stamp fits 32 bits
     pub live-fork : (read : ℕ → ℕ → Value) (u : ℕ) (message : Message) → stepped (programOf s) read m .effect ≡ effect.Fork u message → (u < levelCount s) × ((u ≡ l → ⊥) × ((x .depth ≤ stampDigits) × ((m .forks < maxForks) × (x .stamp + 16 ^ (stampDigits + 1 - x .depth) ≤ 2 ^ 32))))

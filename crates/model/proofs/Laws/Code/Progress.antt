@@ -18,11 +18,11 @@ use Rattle.model.specs.Step.{State, levelAt, stepAt}
 use Rattle.model.specs.Schedule.{readIn, question12, question13, question14, question15, stepRefusal, finished, refused, runFrom, Leads}
 use Rattle.model.proofs.Laws.Steps.Diamond.{may-step, step-may, all-yes}
 use Rattle.model.proofs.Laws.Invariant.Tree.{strictly-through}
-use Rattle.model.proofs.Laws.Invariant.Orderly.{Orderly}
+use Rattle.model.proofs.Laws.Invariant.Forks.{ForkInvariant}
 use Rattle.model.proofs.Laws.Invariant.Became.{Became, own, got, stayed, became}
 use Rattle.model.proofs.Laws.Order.Progress.{progress}
 use Rattle.model.proofs.Laws.Order.Plain.{run-over, run-next}
-use Rattle.model.proofs.Laws.Code.Live.{Live, live-start, live-step}
+use Rattle.model.proofs.Laws.Code.Reached.{ReachedState, live-start, live-step}
 
 -- the number of a step's refusal, by the first question that says no
 module _ (p : Program) (st : State) (l : ℕ) where
@@ -72,7 +72,7 @@ all-ended p po st n = elim (truth (question15 p st)) [
       absurd (n k (m .present) (step-may p st k m))
 ]
 
-module _ (p : Program) (so : Sound p) (st : State) (o : Orderly p st) where
+module _ (p : Program) (so : Sound p) (st : State) (o : ForkInvariant p st) where
   -- a step changes what runs at its own level only
   pub activity-stays : (l k : ℕ) → l < p .levels → (k ≡ l → ⊥) → levelAt (stepAt p l st) k .activity ≡ levelAt st k .activity
   activity-stays l k h n = by (levelAt (stepAt p l st) k) (became p so st o l h k)
@@ -134,12 +134,12 @@ leads-run i p st (l ∷ ls) t a q = run-made i p l ls st (a .0) ∙ leads-run (s
 
 -- what steps of an accepted session lead to, a run reaches
 module _ (s : List ℕ) (a : verdictOf s ≡ Accepted) where
-  leads-keeps : (st : State) (ls : List ℕ) (t : State) → Live s st → Leads (programOf s) st ls t → Live s t
+  leads-preserves : (st : State) (ls : List ℕ) (t : State) → ReachedState s st → Leads (programOf s) st ls t → ReachedState s t
   unfolding Leads programOf
-  leads-keeps st [] t i b = rw (sym b) i
-  leads-keeps st (l ∷ ls) t i b =
+  leads-preserves st [] t i b = rw (sym b) i
+  leads-preserves st (l ∷ ls) t i b =
       let m = allowed (programOf s) st l (b .0) in
-      leads-keeps (stepAt (programOf s) l st) ls t (live-step s a st i l (m .0) (m .1 .0)) (b .1)
+      leads-preserves (stepAt (programOf s) l st) ls t (live-step s a st i l (m .0) (m .1 .0)) (b .1)
 
-  pub leads-live : (ls : List ℕ) (t : State) → Leads (programOf s) (readIn (programOf s) (rootOf s)) ls t → Live s t
-  leads-live ls t b = leads-keeps (readIn (programOf s) (rootOf s)) ls t (live-start s a) b
+  pub leads-live : (ls : List ℕ) (t : State) → Leads (programOf s) (readIn (programOf s) (rootOf s)) ls t → ReachedState s t
+  leads-live ls t b = leads-preserves (readIn (programOf s) (rootOf s)) ls t (live-start s a) b

@@ -12,16 +12,16 @@ use Rattle.model.specs.Level.{hasManager}
 use Rattle.model.specs.Step.{State, levelAt, stepAt}
 use Rattle.model.specs.Schedule.{readIn}
 use Rattle.model.proofs.Laws.Each.{Each, Pairwise}
-use Rattle.model.proofs.Laws.Invariant.Orderly.{entriesIn}
+use Rattle.model.proofs.Laws.Invariant.Forks.{entriesIn}
 use Rattle.model.proofs.Laws.Invariant.Entries.{entriesOf}
-use Rattle.model.proofs.Laws.Invariant.Stamped.{Steady, steady-keeps}
+use Rattle.model.proofs.Laws.Invariant.State.{StateInvariant, steady-preserves}
 use Rattle.model.proofs.Laws.Invariant.Versions.{Dated, step-dated}
 use Rattle.model.proofs.Laws.Deep.Root.{root-is, other-is, each-level, root-steady}
 use Rattle.model.proofs.Laws.Code.Direct.{Contained, step-contained}
 use Rattle.model.proofs.Laws.Code.Bounds.{Fits32, step-fits, Paced, step-paced}
 
 pub record Reachable (p : Program) (st : State) : Type 0 where
-  pub steady : Steady p st
+  pub steady : StateInvariant p st
   pub contained : (l : ℕ) → l < p .levels → Contained p l (levelAt st l)
   pub fits : (l : ℕ) → l < p .levels → Each Fits32 (entriesIn st l)
   pub paced : (l : ℕ) → l < p .levels → Paced (levelAt st l)
@@ -50,9 +50,9 @@ reachable-start p so few root =
 pub reachable-step : (p : Program) → Sound p → (st : State) → Reachable p st → (l : ℕ) → l < p .levels → hasManager (levelAt st l) ≡ true → Reachable p (stepAt p l st)
 reachable-step p so st r l h m =
     record {
-      steady = steady-keeps p so st (r .steady) l h m;
-      contained = step-contained p so st (r .steady .orderly) (r .contained) l h;
-      fits = step-fits p so st (r .steady .orderly) (r .fits) l h;
-      paced = step-paced p so st (r .steady .orderly) (r .paced) l h;
-      dated = step-dated p so st (r .steady .orderly) (r .dated) l h;
+      steady = steady-preserves p so st (r .steady) l h m;
+      contained = step-contained p so st (r .steady .fork-invariant) (r .contained) l h;
+      fits = step-fits p so st (r .steady .fork-invariant) (r .fits) l h;
+      paced = step-paced p so st (r .steady .fork-invariant) (r .paced) l h;
+      dated = step-dated p so st (r .steady .fork-invariant) (r .dated) l h;
     }

@@ -31,16 +31,16 @@ use Rattle.model.proofs.Laws.Each.{Each}
 use Rattle.model.proofs.Laws.Invariant.Rank.{rank, rank-positive}
 use Rattle.model.proofs.Laws.Invariant.Stamps.{child-after, child-next, child-within}
 use Rattle.model.proofs.Laws.Invariant.Entries.{runningEntry, entriesOf}
-use Rattle.model.proofs.Laws.Invariant.Orderly.{entriesIn, Orderly}
-use Rattle.model.proofs.Laws.Invariant.Keeps.{other-level, first-of}
+use Rattle.model.proofs.Laws.Invariant.Forks.{entriesIn, ForkInvariant}
+use Rattle.model.proofs.Laws.Invariant.Preserved.{other-level, first-of}
 use Rattle.model.proofs.Laws.Invariant.Became.{level-reached, level-missed}
-use Rattle.model.proofs.Laws.Deep.Resting.{resting, Rests, rests-raised, Below, below-narrowed, rests-below, arrived-kept, arrived-dropped}
+use Rattle.model.proofs.Laws.Deep.Quiescent.{quiescent-level, LevelQuiescent, quiescent-raised, Below, below-narrowed, quiescent-below, arrived-kept, arrived-dropped}
 use Rattle.model.proofs.Laws.Deep.Working.{endOf, FieldsAgree, Working, busy-is}
 use Rattle.model.proofs.Laws.Deep.Ready.{Ready, Leads, Done, leads-both, leads-above, fields-kept, around-next}
 use Rattle.model.proofs.Laws.Deep.DeepStep.{Advances, own-next, sends-next, steady-next, working-next, leads-next, versions-before, versions-next}
 
 -- the level of a manager that has just forked, to the child, which carries s for it
-forked-below : (s lo hi j : ℕ) (t : Tally) (vs ws : List Version) (c : Fork) (m : Manager) → 0 < s → Each (λ w. w .stamp ≤ s) ws → hi ≤ childStamp (c .stamp) (c .depth) (m .forks + 1) → Below s lo hi j (after (resting t vs) [] ws c m)
+forked-below : (s lo hi j : ℕ) (t : Tally) (vs ws : List Version) (c : Fork) (m : Manager) → 0 < s → Each (λ w. w .stamp ≤ s) ws → hi ≤ childStamp (c .stamp) (c .depth) (m .forks + 1) → Below s lo hi j (after (quiescent-level t vs) [] ws c m)
 unfolding after Each
 forked-below s lo hi j t vs ws c m h e g =
     let positive : s ≡ 0 → ⊥ = λ q. omega (arith, q) in
@@ -57,8 +57,8 @@ module _ (p : Program) (so : Sound p) (st : State) (g : Progress) (u : ℕ) (hu 
   abbrev child : Fork
   child = childOf u c m message
 
-  abbrev here : Orderly p st
-  here = w .around .steady .orderly
+  abbrev here : ForkInvariant p st
+  here = w .around .steady .fork-invariant
 
   fits : Fits p m (effect.Fork t message)
   fits = fitted (made .effect) e (stepped-fits p (fieldNow p g) m so (rw (w .level) hu))
@@ -139,7 +139,7 @@ module _ (p : Program) (so : Sound p) (st : State) (g : Progress) (u : ℕ) (hu 
         working = working-next p so st g u hu c m k w r (stepAt p u st) g refl refl room-next
             (around-next p st (stepAt p u st) g g u c _ _ (w .around)
             (λ j h s. missed j (λ q. other-level p u j s q) (λ q. not-both (p .dom u j) (and-left (p .dom u j) (not (eqb u j)) s) (rw q not-under)))
-            (λ j h d. rw (unmoved j h d) (rests-raised _ _ (tallyAt g j) (levelAt st j) grows (w .around .rests j h d)))
+            (λ j h d. rw (unmoved j h d) (quiescent-raised _ _ (tallyAt g j) (levelAt st j) grows (w .around .quiescent j h d)))
             fields-next (w .around .counted) (steady-next p so st g u hu c m k w r));
       }
     where
@@ -148,8 +148,8 @@ module _ (p : Program) (so : Sound p) (st : State) (g : Progress) (u : ℕ) (hu 
 
       nothing : levelAt (stepAt p u st) t ≡ levelAt st t
       nothing =
-          let q = w .around .rests t target not-under .is in
-          reached ∙ ap (arrived child) q ∙ arrived-dropped child (tallyAt g t) (w .around .rests t target not-under .versions) full ∙ sym q
+          let q = w .around .quiescent t target not-under .is in
+          reached ∙ ap (arrived child) q ∙ arrived-dropped child (tallyAt g t) (w .around .quiescent t target not-under .versions) full ∙ sym q
 
       unmoved : (j : ℕ) → j < p .levels → p .dom u j ≡ false → levelAt (stepAt p u st) j ≡ levelAt st j
       unmoved j h d = elim (ℕ-discrete j t) [
@@ -166,48 +166,48 @@ module _ (p : Program) (so : Sound p) (st : State) (g : Progress) (u : ℕ) (hu 
   not-t j d q = not-both (p .dom t j) (rw q (so .lattice .order .itself t target)) d
 
   -- what the child carries: the sender's write stamp for its level, and what the sender carries for others
-  carried-own : getD (child .seen) u 0 ≡ m .stamp
-  carried-own = unfold childOf in getD-set-same (c .seen) u (m .stamp) 0 (rw (w .around .width) hu)
+  carried-own : getD (child .carried) u 0 ≡ m .stamp
+  carried-own = unfold childOf in getD-set-same (c .carried) u (m .stamp) 0 (rw (w .around .width) hu)
 
-  carried-other : (j : ℕ) → (j ≡ u → ⊥) → getD (child .seen) j 0 ≡ getD (c .seen) j 0
-  carried-other j n = unfold childOf in getD-set-other (c .seen) u j (m .stamp) 0 n
+  carried-other : (j : ℕ) → (j ≡ u → ⊥) → getD (child .carried) j 0 ≡ getD (c .carried) j 0
+  carried-other j n = unfold childOf in getD-set-other (c .carried) u j (m .stamp) 0 n
 
   after-parent : c .stamp ≤ child .stamp
   after-parent = rw child-stamp (omega (arith, child-after (c .stamp) (c .depth) (m .forks)))
 
-  child-below : (j : ℕ) → j < p .levels → strictly (p .dom) t j ≡ true → Below (getD (child .seen) j 0) (child .stamp) (endOf child) j (levelAt (stepAt p u st) j)
+  child-below : (j : ℕ) → j < p .levels → strictly (p .dom) t j ≡ true → Below (getD (child .carried) j 0) (child .stamp) (endOf child) j (levelAt (stepAt p u st) j)
   child-below j h s = elim (ℕ-discrete j u) [
     | yes q ↦ rw q (rw (carried-own, own-next p so st g u hu c m k w r) own)
     | no n ↦ rw (carried-other j n, missed j n (λ q. other-level p t j s q)) (elsewhere n (truth (p .dom u j)))
   ]
     where
-      own : Below (m .stamp) (child .stamp) (endOf child) u (after (resting (tallyAt g u) (w .versions)) [] (versionsAfter m (made .effect) (w .versions)) c (made .manager))
+      own : Below (m .stamp) (child .stamp) (endOf child) u (after (quiescent-level (tallyAt g u) (w .versions)) [] (versionsAfter m (made .effect) (w .versions)) c (made .manager))
       own =
           rw e (forked-below (m .stamp) (child .stamp) (endOf child) u (tallyAt g u) (w .versions) (w .versions) c (made .manager) (w .positive) (w .written) (rw child-end (omega arith)))
 
-      elsewhere : (j ≡ u → ⊥) → Truth (p .dom u j) → Below (getD (c .seen) j 0) (child .stamp) (endOf child) j (levelAt st j)
+      elsewhere : (j ≡ u → ⊥) → Truth (p .dom u j) → Below (getD (c .carried) j 0) (child .stamp) (endOf child) j (levelAt st j)
       elsewhere n (holds d) =
-          below-narrowed (getD (c .seen) j 0) (c .stamp) (child .stamp) (endOf c) (endOf child) j (levelAt st j) after-parent (rw (sym child-end) room-next)
+          below-narrowed (getD (c .carried) j 0) (c .stamp) (child .stamp) (endOf c) (endOf child) j (levelAt st j) after-parent (rw (sym child-end) room-next)
           (w .around .below j h (and-both (p .dom u j) (not (eqb u j)) d (rw (ne-eqb u j (λ q. n (sym q))) refl)))
       elsewhere n (fails d) =
-          rests-below (getD (c .seen) j 0) (child .stamp) (endOf child) j (tallyAt g j) (levelAt st j) (w .around .carries j h d) (rw child-stamp (w .around .rests j h d))
+          quiescent-below (getD (c .carried) j 0) (child .stamp) (endOf child) j (tallyAt g j) (levelAt st j) (w .around .carries j h d) (rw child-stamp (w .around .quiescent j h d))
 
   -- "a fork that is made and kept": it is ready to run
   pub child-ready : ltb (length (tallyAt g t .ended)) maxManagers ≡ true → Ready p (stepAt p u st) g t child
   child-ready room =
-      let rests = w .around .rests t target not-under in
+      let quiescent = w .around .quiescent t target not-under in
       record {
-        versions = rests .versions;
-        is = reached ∙ ap (arrived child) (rests .is) ∙ arrived-kept child (tallyAt g t) (rests .versions) room;
-        past = rw child-stamp (rests .past);
+        versions = quiescent .versions;
+        is = reached ∙ ap (arrived child) (quiescent .is) ∙ arrived-kept child (tallyAt g t) (quiescent .versions) room;
+        past = rw child-stamp (quiescent .past);
         reaches = reached-object;
         around = record {
           below = child-below;
-          rests = λ j h d.
-              rw (missed j (not-u j (under-both j h d)) (not-t j d), child-stamp) (w .around .rests j h (under-both j h d));
+          quiescent = λ j h d.
+              rw (missed j (not-u j (under-both j h d)) (not-t j d), child-stamp) (w .around .quiescent j h (under-both j h d));
           carries = λ j h d. carried-other j (not-u j (under-both j h d)) ∙ w .around .carries j h (under-both j h d);
           fields = fields-next;
-          width = unfold childOf in length-set (c .seen) u (m .stamp) ∙ w .around .width;
+          width = unfold childOf in length-set (c .carried) u (m .stamp) ∙ w .around .width;
           counted = w .around .counted;
           steady = steady-next p so st g u hu c m k w r;
         };
@@ -228,7 +228,7 @@ module _ (p : Program) (so : Sound p) (st : State) (g : Progress) (u : ℕ) (hu 
         working = working-next p so st g u hu c m k w r st' g' (l .states u hu not-under) (l .tallies u hu not-under) room-next
             (around-next p st st' g g' u c _ _ (w .around)
             (λ j h s. l .states j h (not-over j h s) ∙ missed j (λ q. other-level p u j s q) (λ q. not-both (p .dom u j) (and-left (p .dom u j) (not (eqb u j)) s) (rw q not-under)))
-            rests (d .fields) (d .counted) (d .steady));
+            quiescent (d .fields) (d .counted) (d .steady));
       }
     where
       not-over : (j : ℕ) → j < p .levels → strictly (p .dom) u j ≡ true → p .dom j t ≡ false
@@ -238,10 +238,10 @@ module _ (p : Program) (so : Sound p) (st : State) (g : Progress) (u : ℕ) (hu 
       later : childStamp (c .stamp) (c .depth) (m .forks + 1) ≤ childStamp (c .stamp) (c .depth) (made .manager .forks + 1)
       later = rw (more-forks, child-next (c .stamp) (c .depth) (m .forks + 1)) (omega arith)
 
-      rests : (j : ℕ) → j < p .levels → p .dom u j ≡ false → Rests (childStamp (c .stamp) (c .depth) (made .manager .forks + 1)) (tallyAt g' j) (levelAt st' j)
-      rests j h f = elim (truth (p .dom j t)) [
-        | holds q ↦ rw child-end (d .rests j h q)
+      quiescent : (j : ℕ) → j < p .levels → p .dom u j ≡ false → LevelQuiescent (childStamp (c .stamp) (c .depth) (made .manager .forks + 1)) (tallyAt g' j) (levelAt st' j)
+      quiescent j h f = elim (truth (p .dom j t)) [
+        | holds q ↦ rw child-end (d .quiescent j h q)
         | fails q ↦
             rw (l .tallies j h q, l .states j h q, missed j (not-u j f) (λ n. not-both (p .dom j t) (rw n (so .lattice .order .itself t target)) q))
-            (rests-raised _ _ (tallyAt g j) (levelAt st j) later (w .around .rests j h f))
+            (quiescent-raised _ _ (tallyAt g j) (levelAt st j) later (w .around .quiescent j h f))
       ]

@@ -28,7 +28,7 @@ use Rattle.model.proofs.Laws.Lists.{modify-length, modify-at, modify-ot
 use Rattle.model.proofs.Laws.Each.{each-map, each-inserted}
 use Rattle.model.proofs.Laws.Invariant.Rank.{rank, rank-falls, rank-positive}
 use Rattle.model.proofs.Laws.Invariant.Stamps.{span-positive}
-use Rattle.model.proofs.Laws.Deep.Resting.{resting, Rests, rests-raised, last-inserted}
+use Rattle.model.proofs.Laws.Deep.Quiescent.{quiescent-level, LevelQuiescent, quiescent-raised, last-inserted}
 use Rattle.model.proofs.Laws.Deep.Working.{endOf, Working}
 use Rattle.model.proofs.Laws.Deep.Ready.{Ready, Leads, Done, leads-both, leads-none, leads-one, ready-safe, ready-working}
 use Rattle.model.proofs.Laws.Deep.DeepStep.{Advances, nothing-advances, write-advances}
@@ -61,7 +61,7 @@ close-fields : (p : Program) (u : ℕ) (c : Fork) (m : Manager) (g : Progress) (
 unfolding close
 close-fields p u c m g o k = refl
 
-ended-is : (t : Tally) (vs : List Version) (c : Fork) (m : Manager) → isRunning (m .ending) ≡ false → after (resting t vs) [] vs c m ≡ resting (closedTally c m t) vs
+ended-is : (t : Tally) (vs : List Version) (c : Fork) (m : Manager) → isRunning (m .ending) ≡ false → after (quiescent-level t vs) [] vs c m ≡ quiescent-level (closedTally c m t) vs
 unfolding after
 ended-is t vs c m e = rw e refl
 
@@ -73,14 +73,14 @@ module _ (p : Program) (so : Sound p) (u : ℕ) (hu : u < p .levels) (c : Fork) 
         to = st;
         leads = leads-none p u st g (close u c m g) (λ j h d. close-other u c m g j (λ q. not-both (p .dom j u) (rw (sym q) (so .lattice .order .itself u hu)) d));
         done = record {
-          rests = λ j h d. rests j h d (ℕ-discrete j u);
+          quiescent = λ j h d. quiescent j h d (ℕ-discrete j u);
           fields = λ o k. w .around .fields o k ∙ sym (close-fields p u c m g o k);
           counted = close-length u c m g ∙ w .around .counted;
           steady = w .around .steady;
         };
       }
     where
-      own : Rests (endOf c) (closedTally c m (tallyAt g u)) (levelAt st u)
+      own : LevelQuiescent (endOf c) (closedTally c m (tallyAt g u)) (levelAt st u)
       own =
           record {
             versions = w .versions;
@@ -93,11 +93,11 @@ module _ (p : Program) (so : Sound p) (u : ℕ) (hu : u < p .levels) (c : Fork) 
             };
           }
 
-      rests : (j : ℕ) → j < p .levels → p .dom j u ≡ true → Dec (j ≡ u) → Rests (endOf c) (tallyAt (close u c m g) j) (levelAt st j)
-      rests j h d (yes q) = rw (q, close-own u c m g (rw (w .around .counted) hu)) own
-      rests j h d (no n) =
+      quiescent : (j : ℕ) → j < p .levels → p .dom j u ≡ true → Dec (j ≡ u) → LevelQuiescent (endOf c) (tallyAt (close u c m g) j) (levelAt st j)
+      quiescent j h d (yes q) = rw (q, close-own u c m g (rw (w .around .counted) hu)) own
+      quiescent j h d (no n) =
           rw (close-other u c m g j (λ q. n (sym q)))
-          (rests-raised _ (endOf c) (tallyAt g j) (levelAt st j) (w .room) (w .around .rests j h (refuted (p .dom u j) (λ t. n (so .lattice .order .same j u h hu d t)))))
+          (quiescent-raised _ (endOf c) (tallyAt g j) (levelAt st j) (w .room) (w .around .quiescent j h (refuted (p .dom u j) (λ t. n (so .lattice .order .same j u h hu d t)))))
 
 -- each fork is run by a list of safe steps, with so many levels left
 abbrev pub RunsForks : Program → ℕ → Type 0

@@ -26,13 +26,13 @@ use Rattle.model.specs.Level.{Version, after, newest}
 use Rattle.model.specs.Step.{State, levelAt, none, at, versionsAfter, arrivalOf, moveAt, stepAt}
 use Rattle.model.specs.DepthFirst.{Written, Tally, Progress, newTally, tallyAt, current, fieldNow}
 use Rattle.model.proofs.Laws.Each.{Each, each-map}
-use Rattle.model.proofs.Laws.Invariant.Orderly.{Orderly}
-use Rattle.model.proofs.Laws.Invariant.Keeps.{other-level}
+use Rattle.model.proofs.Laws.Invariant.Forks.{ForkInvariant}
+use Rattle.model.proofs.Laws.Invariant.Preserved.{other-level}
 use Rattle.model.proofs.Laws.Invariant.WriteStamps.{after-versions}
-use Rattle.model.proofs.Laws.Invariant.Became.{level-stepped, level-quiet}
-use Rattle.model.proofs.Laws.Invariant.Stamped.{Steady, steady-keeps}
+use Rattle.model.proofs.Laws.Invariant.Became.{level-stepped, level-internal}
+use Rattle.model.proofs.Laws.Invariant.State.{StateInvariant, steady-preserves}
 use Rattle.model.proofs.Laws.Safe.Safe.{safe-managed}
-use Rattle.model.proofs.Laws.Deep.Resting.{resting}
+use Rattle.model.proofs.Laws.Deep.Quiescent.{quiescent-level}
 use Rattle.model.proofs.Laws.Deep.Working.{endOf, FieldsAgree, Around, Working, working-safe, working-move}
 use Rattle.model.proofs.Laws.Deep.Ready.{Leads, leads-one, leads-both, leads-none, fields-kept, around-next}
 
@@ -62,41 +62,41 @@ versions-written m (effect.Fork u message) vs b h e =
     each-map (λ w. w .stamp ≤ m .stamp) (λ w. w .stamp ≤ b) (λ w g. omega (arith, g)) vs e
 
 -- a manager's level takes nothing else of what was there before
-after-resting : (t t' : Tally) (vs vs' : List Version) (c : Fork) (m : Manager) → t ≡ t' → after (resting t vs) [] vs' c m ≡ after (resting t' vs') [] vs' c m
+after-quiescent-level : (t t' : Tally) (vs vs' : List Version) (c : Fork) (m : Manager) → t ≡ t' → after (quiescent-level t vs) [] vs' c m ≡ after (quiescent-level t' vs') [] vs' c m
 unfolding after
-after-resting t t' vs vs' c m q = ap (λ t. after (resting t vs') [] vs' c m) q
+after-quiescent-level t t' vs vs' c m q = ap (λ t. after (quiescent-level t vs') [] vs' c m) q
 
 module _ (p : Program) (so : Sound p) (st : State) (g : Progress) (u : ℕ) (hu : u < p .levels) (c : Fork) (m : Manager) (k : ℕ) (w : Working p st g u c m (suc k)) (r : isRunning (m .ending) ≡ true) where
   abbrev pub made : Stepped
   made = stepped p (fieldNow p g) m
 
-  abbrev orderly : Orderly p st
-  orderly = w .around .steady .orderly
+  abbrev fork-invariant : ForkInvariant p st
+  fork-invariant = w .around .steady .fork-invariant
 
-  told : counts (made .manager) ≡ oneMore (grown (counts m) (made .effect))
-  told = stepped-counts p (fieldNow p g) m
+  answered : counts (made .manager) ≡ oneMore (grown (counts m) (made .effect))
+  answered = stepped-counts p (fieldNow p g) m
 
-  pub own-next : levelAt (stepAt p u st) u ≡ after (resting (tallyAt g u) (w .versions)) [] (versionsAfter m (made .effect) (w .versions)) c (made .manager)
-  own-next = level-stepped p so st orderly u hu ∙ ap (λ m. m .own) (working-move p so st g u hu c m (suc k) w r)
+  pub own-next : levelAt (stepAt p u st) u ≡ after (quiescent-level (tallyAt g u) (w .versions)) [] (versionsAfter m (made .effect) (w .versions)) c (made .manager)
+  own-next = level-stepped p so st fork-invariant u hu ∙ ap (λ m. m .own) (working-move p so st g u hu c m (suc k) w r)
 
   pub sends-next : moveAt p u st .arrival ≡ arrivalOf u c m (made .effect)
   sends-next = ap (λ m. m .arrival) (working-move p so st g u hu c m (suc k) w r)
 
-  pub steady-next : Steady p (stepAt p u st)
-  steady-next = steady-keeps p so st (w .around .steady) u hu (safe-managed (working-safe p so st g u hu c m (suc k) w r))
+  pub steady-next : StateInvariant p (stepAt p u st)
+  steady-next = steady-preserves p so st (w .around .steady) u hu (safe-managed (working-safe p so st g u hu c m (suc k) w r))
 
   -- the manager works on where its level is as this step left it, whatever its descendants did above
   pub working-next : (st' : State) (g' : Progress) → levelAt st' u ≡ levelAt (stepAt p u st) u → tallyAt g' u ≡ tallyAt g u → childStamp (c .stamp) (c .depth) (made .manager .forks + 1) ≤ endOf c → Around p st' g' u c (childStamp (c .stamp) (c .depth) (made .manager .forks + 1)) → Working p st' g' u c (made .manager) k
   working-next st' g' q t room a =
-      let grows : m .stamp ≤ made .manager .stamp = rw (ap (λ c. c .stamp) told) (stamp-grown (counts m) (made .effect)) in
-      let steps : made .manager .steps ≡ m .steps + 1 = ap (λ c. c .steps) told ∙ steps-grown (counts m) (made .effect) in
+      let grows : m .stamp ≤ made .manager .stamp = rw (ap (λ c. c .stamp) answered) (stamp-grown (counts m) (made .effect)) in
+      let steps : made .manager .steps ≡ m .steps + 1 = ap (λ c. c .steps) answered ∙ steps-grown (counts m) (made .effect) in
       record {
         versions = versionsAfter m (made .effect) (w .versions);
-        is = q ∙ own-next ∙ after-resting (tallyAt g u) (tallyAt g' u) (w .versions) (versionsAfter m (made .effect) (w .versions)) c (made .manager) (sym t);
+        is = q ∙ own-next ∙ after-quiescent-level (tallyAt g u) (tallyAt g' u) (w .versions) (versionsAfter m (made .effect) (w .versions)) c (made .manager) (sym t);
         written = versions-written m (made .effect) (w .versions) (made .manager .stamp) grows (w .written);
         early = rw (ap (λ t. t .ended) t) (w .early);
         positive = omega (arith, grows, w .positive);
-        level = ap (λ c. c .level) told ∙ level-grown (counts m) (made .effect) ∙ w .level;
+        level = ap (λ c. c .level) answered ∙ level-grown (counts m) (made .effect) ∙ w .level;
         within = stepped-within p (fieldNow p g) u m so hu (w .level) r (w .within);
         steps = omega (arith, steps, w .steps);
         live = running-few p (fieldNow p g) m;
@@ -127,8 +127,8 @@ module _ (p : Program) (so : Sound p) (st : State) (g : Progress) (u : ℕ) (hu 
   abbrev pub after-it : Stepped
   after-it = stepped p (fieldNow p g) m
 
-  abbrev here : Orderly p st
-  here = w .around .steady .orderly
+  abbrev here : ForkInvariant p st
+  here = w .around .steady .fork-invariant
 
   not-same : (j : ℕ) → p .dom u j ≡ false → j ≡ u → ⊥
   not-same j d e = not-both (p .dom u j) (rw e (so .lattice .order .itself u hu)) d
@@ -139,23 +139,23 @@ module _ (p : Program) (so : Sound p) (st : State) (g : Progress) (u : ℕ) (hu 
   -- the versions of the level, before and after
   pub versions-before : levelAt st u .versions ≡ w .versions
   versions-before =
-      ap (λ v. v .versions) (w .is) ∙ after-versions (resting (tallyAt g u) (w .versions)) [] (w .versions) c m
+      ap (λ v. v .versions) (w .is) ∙ after-versions (quiescent-level (tallyAt g u) (w .versions)) [] (w .versions) c m
 
   pub versions-next : levelAt (stepAt p u st) u .versions ≡ versionsAfter m (after-it .effect) (w .versions)
   versions-next =
       ap (λ v. v .versions) (own-next p so st g u hu c m k w r)
-      ∙ after-versions (resting (tallyAt g u) (w .versions)) [] (versionsAfter m (after-it .effect) (w .versions)) c (after-it .manager)
+      ∙ after-versions (quiescent-level (tallyAt g u) (w .versions)) [] (versionsAfter m (after-it .effect) (w .versions)) c (after-it .manager)
 
   -- a step without a fork leaves the other levels
-  quiet-advances : moveAt p u st .arrival ≡ none → (g' : Progress) → g' .levels ≡ g .levels → FieldsAgree p (stepAt p u st) g' → after-it .manager .forks ≡ m .forks → Advances p st g g' u c (after-it .manager) k
-  quiet-advances q g' t f e =
+  internal-advances : moveAt p u st .arrival ≡ none → (g' : Progress) → g' .levels ≡ g .levels → FieldsAgree p (stepAt p u st) g' → after-it .manager .forks ≡ m .forks → Advances p st g g' u c (after-it .manager) k
+  internal-advances q g' t f e =
       record {
         to = stepAt p u st;
         leads = leads-both p u st (stepAt p u st) (stepAt p u st) g g g' leads-next (leads-none p u (stepAt p u st) g g' (λ j h d. tally j));
         working = working-next p so st g u hu c m k w r (stepAt p u st) g' refl (tally u) (rw e (w .room))
             (rw e (around-next p st (stepAt p u st) g g' u c _ _ (w .around)
             (λ j h s. other j (λ q. other-level p u j s q))
-            (λ j h d. rw (other j (not-same j d), tally j) (w .around .rests j h d))
+            (λ j h d. rw (other j (not-same j d), tally j) (w .around .quiescent j h d))
             f (ap length t ∙ w .around .counted) (steady-next p so st g u hu c m k w r)));
       }
     where
@@ -163,32 +163,32 @@ module _ (p : Program) (so : Sound p) (st : State) (g : Progress) (u : ℕ) (hu 
       tally j = ap (λ ts. getD ts j newTally) t
 
       other : (j : ℕ) → (j ≡ u → ⊥) → levelAt (stepAt p u st) j ≡ levelAt st j
-      other j n = level-quiet p so st here u hu q j n
+      other j n = level-internal p so st here u hu q j n
 
   fits : Fits p m (after-it .effect)
   fits = stepped-fits p (fieldNow p g) m so (rw (w .level) hu)
 
-  told-it : counts (after-it .manager) ≡ oneMore (grown (counts m) (after-it .effect))
-  told-it = stepped-counts p (fieldNow p g) m
+  answered-it : counts (after-it .manager) ≡ oneMore (grown (counts m) (after-it .effect))
+  answered-it = stepped-counts p (fieldNow p g) m
 
   -- a step that does nothing outside
   pub nothing-advances : after-it .effect ≡ effect.Nothing → Advances p st g g u c (after-it .manager) k
   nothing-advances e =
-      quiet-advances (sends-next p so st g u hu c m k w r ∙ ap (arrivalOf u c m) e) g refl
+      internal-advances (sends-next p so st g u hu c m k w r ∙ ap (arrivalOf u c m) e) g refl
       (fields-kept p st (stepAt p u st) g versions (w .around .fields))
-      (ap (λ c. c .forks) told-it ∙ ap (λ e. oneMore (grown (counts m) e) .forks) e)
+      (ap (λ c. c .forks) answered-it ∙ ap (λ e. oneMore (grown (counts m) e) .forks) e)
     where
       versions : (j : ℕ) → levelAt (stepAt p u st) j .versions ≡ levelAt st j .versions
       versions j = elim (ℕ-discrete j u) [
         | yes q ↦ rw q (versions-next ∙ ap (λ e. versionsAfter m e (w .versions)) e ∙ sym versions-before)
-        | no n ↦ ap (λ v. v .versions) (level-quiet p so st here u hu (sends-next p so st g u hu c m k w r ∙ ap (arrivalOf u c m) e) j n)
+        | no n ↦ ap (λ v. v .versions) (level-internal p so st here u hu (sends-next p so st g u hu c m k w r ∙ ap (arrivalOf u c m) e) j n)
       ]
 
   -- a write
   pub write-advances : (o f : ℕ) (v : Value) → after-it .effect ≡ effect.Write o f v → Advances p st g (wrote o f v g) u c (after-it .manager) k
   write-advances o f v e =
-      quiet-advances (sends-next p so st g u hu c m k w r ∙ ap (arrivalOf u c m) e) (wrote o f v g) refl fields
-      (ap (λ c. c .forks) told-it ∙ ap (λ e. oneMore (grown (counts m) e) .forks) e)
+      internal-advances (sends-next p so st g u hu c m k w r ∙ ap (arrivalOf u c m) e) (wrote o f v g) refl fields
+      (ap (λ c. c .forks) answered-it ∙ ap (λ e. oneMore (grown (counts m) e) .forks) e)
     where
       place : p .level o ≡ u
       place = fitted (after-it .effect) e fits .0 ∙ w .level
@@ -210,7 +210,7 @@ module _ (p : Program) (so : Sound p) (st : State) (g : Progress) (u : ℕ) (hu 
             ∙ w .around .fields o' k'
             )
         | no n ↦
-            ap (λ l. newest (p .field o' k') o' k' (l .versions)) (level-quiet p so st here u hu (sends-next p so st g u hu c m k w r ∙ ap (arrivalOf u c m) e) (p .level o') n)
+            ap (λ l. newest (p .field o' k') o' k' (l .versions)) (level-internal p so st here u hu (sends-next p so st g u hu c m k w r ∙ ap (arrivalOf u c m) e) (p .level o') n)
             ∙ w .around .fields o' k'
             ∙ sym (current-other (p .field o' k') o f o' k' v (g .written) (λ q. n (ap (p .level) (sym q) ∙ place)))
       ]

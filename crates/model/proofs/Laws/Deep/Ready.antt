@@ -26,13 +26,13 @@ use Rattle.model.proofs.Laws.Invariant.Rank.{rank, rank-positive}
 use Rattle.model.proofs.Laws.Invariant.Stamps.{child-after, child-within}
 use Rattle.model.proofs.Laws.Steps.Moves.{move-is}
 use Rattle.model.proofs.Laws.Invariant.Entries.{waitingEntry, entriesOf}
-use Rattle.model.proofs.Laws.Invariant.Orderly.{entriesIn}
-use Rattle.model.proofs.Laws.Invariant.Keeps.{other-level, first-of}
+use Rattle.model.proofs.Laws.Invariant.Forks.{entriesIn}
+use Rattle.model.proofs.Laws.Invariant.Preserved.{other-level, first-of}
 use Rattle.model.proofs.Laws.Invariant.WriteStamps.{forksOf, after-versions}
-use Rattle.model.proofs.Laws.Invariant.Became.{level-stepped, level-quiet, level-unmoved}
-use Rattle.model.proofs.Laws.Invariant.Stamped.{Steady, steady-keeps}
+use Rattle.model.proofs.Laws.Invariant.Became.{level-stepped, level-internal, level-unmoved}
+use Rattle.model.proofs.Laws.Invariant.State.{StateInvariant, steady-preserves}
 use Rattle.model.proofs.Laws.Safe.Safe.{Safe, safe-managed}
-use Rattle.model.proofs.Laws.Deep.Resting.{resting, awaiting, Past, Rests, rests-raised}
+use Rattle.model.proofs.Laws.Deep.Quiescent.{quiescent-level, awaiting, Past, LevelQuiescent, quiescent-raised}
 use Rattle.model.proofs.Laws.Deep.Working.{endOf, FieldsAgree, Around, Working, around-safe}
 
 -- fork c waits alone at level u, and is the next to run
@@ -53,10 +53,10 @@ pub record Leads (p : Program) (u : ℕ) (st : State) (g : Progress) (st' : Stat
 
 -- the manager of fork c and all its descendants have ended
 pub record Done (p : Program) (u : ℕ) (c : Fork) (st : State) (g : Progress) : Type 0 where
-  pub rests : (j : ℕ) → j < p .levels → p .dom j u ≡ true → Rests (endOf c) (tallyAt g j) (levelAt st j)
+  pub quiescent : (j : ℕ) → j < p .levels → p .dom j u ≡ true → LevelQuiescent (endOf c) (tallyAt g j) (levelAt st j)
   pub fields : FieldsAgree p st g
   pub counted : length (g .levels) ≡ p .levels
-  pub steady : Steady p st
+  pub steady : StateInvariant p st
 
 -- lists one after the other
 pub ran-both : {S : Type 0} (act : ℕ → S → S) (ls ks : List ℕ) (s : S) → ran act (ls ++ ks) s ≡ ran act ks (ran act ls s)
@@ -89,13 +89,13 @@ leads-none p u st g g' t =
       tallies = t;
     }
 
-pub leads-one : (p : Program) → Sound p → (u : ℕ) → u < p .levels → (st : State) (g : Progress) → Steady p st → Safe p st u → Leads p u st g (stepAt p u st) g
+pub leads-one : (p : Program) → Sound p → (u : ℕ) → u < p .levels → (st : State) (g : Progress) → StateInvariant p st → Safe p st u → Leads p u st g (stepAt p u st) g
 leads-one p so u h st g i s =
     record {
       list = u ∷ [];
       allowed = unfold Allowed in (s, tt);
       ends = unfold ran in refl;
-      states = λ j hj d. level-unmoved p so st (i .orderly) u h j d;
+      states = λ j hj d. level-unmoved p so st (i .fork-invariant) u h j d;
       tallies = λ j hj d. refl;
     }
 
@@ -118,11 +118,11 @@ pub fields-kept : (p : Program) (st st' : State) (g : Progress) → ((j : ℕ) �
 fields-kept p st st' g e f = λ o k. ap (newest (p .field o k) o k) (e (p .level o)) ∙ f o k
 
 -- the levels around, where the levels below u are as they were
-pub around-next : (p : Program) (st st' : State) (g g' : Progress) (u : ℕ) (c : Fork) (lo lo' : ℕ) → Around p st g u c lo → ((j : ℕ) → j < p .levels → strictly (p .dom) u j ≡ true → levelAt st' j ≡ levelAt st j) → ((j : ℕ) → j < p .levels → p .dom u j ≡ false → Rests lo' (tallyAt g' j) (levelAt st' j)) → FieldsAgree p st' g' → length (g' .levels) ≡ p .levels → Steady p st' → Around p st' g' u c lo'
-around-next p st st' g g' u c lo lo' a below rests fields counted steady =
+pub around-next : (p : Program) (st st' : State) (g g' : Progress) (u : ℕ) (c : Fork) (lo lo' : ℕ) → Around p st g u c lo → ((j : ℕ) → j < p .levels → strictly (p .dom) u j ≡ true → levelAt st' j ≡ levelAt st j) → ((j : ℕ) → j < p .levels → p .dom u j ≡ false → LevelQuiescent lo' (tallyAt g' j) (levelAt st' j)) → FieldsAgree p st' g' → length (g' .levels) ≡ p .levels → StateInvariant p st' → Around p st' g' u c lo'
+around-next p st st' g g' u c lo lo' a below quiescent fields counted steady =
     record {
       below = λ j h s. rw (below j h s) (a .below j h s);
-      rests = rests;
+      quiescent = quiescent;
       carries = a .carries;
       fields = fields;
       width = a .width;
@@ -130,9 +130,9 @@ around-next p st st' g g' u c lo lo' a below rests fields counted steady =
       steady = steady;
     }
 
-moved-awaiting : (p : Program) (st : State) (l : ℕ) (t : Tally) (vs : List Version) (c : Fork) (m : Manager) → started p l (t .next) (c .message) ≡ m → moved p st l (awaiting c t vs) idle ≡ record { own = after (resting t vs) [] vs c m; arrival = none }
+moved-awaiting : (p : Program) (st : State) (l : ℕ) (t : Tally) (vs : List Version) (c : Fork) (m : Manager) → started p l (t .next) (c .message) ≡ m → moved p st l (awaiting c t vs) idle ≡ record { own = after (quiescent-level t vs) [] vs c m; arrival = none }
 unfolding moved begun after
-moved-awaiting p st l t vs c m q = ap (λ m. record { own = after (resting t vs) [] vs c m; arrival = none }) q
+moved-awaiting p st l t vs c m q = ap (λ m. record { own = after (quiescent-level t vs) [] vs c m; arrival = none }) q
 
 -- the start of a fork that is ready
 module _ (p : Program) (so : Sound p) (st : State) (g : Progress) (u : ℕ) (hu : u < p .levels) (c : Fork) (r : Ready p st g u c) where
@@ -142,7 +142,7 @@ module _ (p : Program) (so : Sound p) (st : State) (g : Progress) (u : ℕ) (hu 
   pub ready-safe : Safe p st u
   ready-safe = around-safe p st g u c (c .stamp) [] hu (r .around) (ap forksOf (r .is))
 
-  ready-move : moveAt p u st ≡ record { own = after (resting (tallyAt g u) (r .versions)) [] (r .versions) c begins; arrival = none }
+  ready-move : moveAt p u st ≡ record { own = after (quiescent-level (tallyAt g u) (r .versions)) [] (r .versions) c begins; arrival = none }
   ready-move =
       move-is p u st so hu
       ∙ ap (λ v. moved (seenBy u p) (viewOf p u st) u v (v .activity)) (r .is)
@@ -150,18 +150,18 @@ module _ (p : Program) (so : Sound p) (st : State) (g : Progress) (u : ℕ) (hu 
 
   pub ready-shallow : c .depth + rank (p .levels) (p .dom) u ≤ stampDigits + 1
   ready-shallow =
-      first-of (λ a. a .depth + rank (p .levels) (p .dom) u ≤ stampDigits + 1) (waitingEntry u c) [] (entriesIn st u) (ap (entriesOf u) (r .is)) (r .around .steady .orderly .grown .shallow u hu)
+      first-of (λ a. a .depth + rank (p .levels) (p .dom) u ≤ stampDigits + 1) (waitingEntry u c) [] (entriesIn st u) (ap (entriesOf u) (r .is)) (r .around .steady .fork-invariant .grown .shallow u hu)
 
-  own-next : levelAt (stepAt p u st) u ≡ after (resting (tallyAt g u) (r .versions)) [] (r .versions) c begins
-  own-next = level-stepped p so st (r .around .steady .orderly) u hu ∙ ap (λ m. m .own) ready-move
+  own-next : levelAt (stepAt p u st) u ≡ after (quiescent-level (tallyAt g u) (r .versions)) [] (r .versions) c begins
+  own-next = level-stepped p so st (r .around .steady .fork-invariant) u hu ∙ ap (λ m. m .own) ready-move
 
   other-next : (j : ℕ) → (j ≡ u → ⊥) → levelAt (stepAt p u st) j ≡ levelAt st j
-  other-next j n = level-quiet p so st (r .around .steady .orderly) u hu (ap (λ m. m .arrival) ready-move) j n
+  other-next j n = level-internal p so st (r .around .steady .fork-invariant) u hu (ap (λ m. m .arrival) ready-move) j n
 
   versions-next : (j : ℕ) → levelAt (stepAt p u st) j .versions ≡ levelAt st j .versions
   versions-next j = elim (ℕ-discrete j u) [
     | yes e ↦
-        rw e (ap (λ v. v .versions) own-next ∙ after-versions (resting (tallyAt g u) (r .versions)) [] (r .versions) c begins ∙ sym (ap (λ v. v .versions) (r .is)))
+        rw e (ap (λ v. v .versions) own-next ∙ after-versions (quiescent-level (tallyAt g u) (r .versions)) [] (r .versions) c begins ∙ sym (ap (λ v. v .versions) (r .is)))
     | no n ↦ ap (λ v. v .versions) (other-next j n)
   ]
 
@@ -189,8 +189,8 @@ module _ (p : Program) (so : Sound p) (st : State) (g : Progress) (u : ℕ) (hu 
         room = rw none-yet (omega (arith, child-within (c .stamp) (c .depth) 0 shallow (omega arith)));
         around = around-next p st (stepAt p u st) g g u c (c .stamp) _ (r .around)
             (λ j h s. other-next j (λ e. other-level p u j s e))
-            (λ j h d. rw (other-next j (not-same j d)) (rests-raised (c .stamp) _ (tallyAt g j) (levelAt st j) child (r .around .rests j h d)))
+            (λ j h d. rw (other-next j (not-same j d)) (quiescent-raised (c .stamp) _ (tallyAt g j) (levelAt st j) child (r .around .quiescent j h d)))
             (fields-kept p st (stepAt p u st) g versions-next (r .around .fields))
             (r .around .counted)
-            (steady-keeps p so st (r .around .steady) u hu (safe-managed ready-safe));
+            (steady-preserves p so st (r .around .steady) u hu (safe-managed ready-safe));
       }

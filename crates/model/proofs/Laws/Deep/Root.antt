@@ -24,16 +24,16 @@ use Rattle.model.specs.Result.{resultOf, resultOfDepthFirst}
 use Rattle.model.proofs.Laws.Confluence.{ran, Allowed, Over, confluent}
 use Rattle.model.proofs.Laws.Each.{Each}
 use Rattle.model.proofs.Laws.Invariant.Rank.{count-most}
-use Rattle.model.proofs.Laws.Invariant.Keeps.{other-level}
+use Rattle.model.proofs.Laws.Invariant.Preserved.{other-level}
 use Rattle.model.proofs.Laws.Steps.Diamond.{MayStep}
 use Rattle.model.proofs.Laws.Order.Finish.{Finishes, finishes}
 use Rattle.model.proofs.Laws.Order.ReadIn.{at-root, elsewhere, read-in}
-use Rattle.model.proofs.Laws.Order.PlainRun.{read-in-tame}
+use Rattle.model.proofs.Laws.Order.PlainRun.{read-in-bounded}
 use Rattle.model.proofs.Laws.Invariant.WriteStamps.{writeStamp, forksOf}
-use Rattle.model.proofs.Laws.Invariant.Stamped.{Stamped, Steady}
+use Rattle.model.proofs.Laws.Invariant.State.{WriteStampInvariant, StateInvariant}
 use Rattle.model.proofs.Laws.Safe.Safe.{Safe, safe-managed, may-safe}
 use Rattle.model.proofs.Laws.Safe.SafeCommute.{safe-commute}
-use Rattle.model.proofs.Laws.Deep.Resting.{awaiting, Past, Rests, rests-below}
+use Rattle.model.proofs.Laws.Deep.Quiescent.{awaiting, Past, LevelQuiescent, quiescent-below}
 use Rattle.model.proofs.Laws.Deep.Working.{endOf, FieldsAgree}
 use Rattle.model.proofs.Laws.Deep.Ready.{Ready}
 use Rattle.model.proofs.Laws.Deep.DeepRun.{Runs, runs-forks}
@@ -78,27 +78,27 @@ module _ (p : Program) (so : Sound p) (few : p .levels ≤ maxLevels) (root : Me
     | no n ↦ rw (other-is j n) b
   ]
 
-  root-stamped : Stamped p (readIn p root)
+  root-stamped : WriteStampInvariant p (readIn p root)
   root-stamped =
       record {
         ended = λ l h. each-level (λ v. Each (λ h. h .last < writeStamp v) (v .ended)) (unfold Each in tt) (unfold Each in tt) l;
         carried = λ l j hl hj.
-            each-level (λ w. Each (λ y. getD (y .seen) j 0 < writeStamp w) (forksOf (levelAt (readIn p root) l))) (low l j) (low l j) j;
+            each-level (λ w. Each (λ y. getD (y .carried) j 0 < writeStamp w) (forksOf (levelAt (readIn p root) l))) (low l j) (low l j) j;
       }
     where
-      low : (l j : ℕ) → Each (λ y. getD (y .seen) j 0 < 1) (forksOf (levelAt (readIn p root) l))
+      low : (l j : ℕ) → Each (λ y. getD (y .carried) j 0 < 1) (forksOf (levelAt (readIn p root) l))
       low l j =
-          each-level (λ v. Each (λ y. getD (y .seen) j 0 < 1) (forksOf v)) (unfold Each in (rw (repeated {A = ℕ} (p .levels) 0 j) (omega arith), tt)) (unfold Each in tt) l
+          each-level (λ v. Each (λ y. getD (y .carried) j 0 < 1) (forksOf v)) (unfold Each in (rw (repeated {A = ℕ} (p .levels) 0 j) (omega arith), tt)) (unfold Each in tt) l
 
-  pub root-steady : Steady p (readIn p root)
-  root-steady = record { orderly = read-in p so few root; tame = read-in-tame p so few root; stamped = root-stamped }
+  pub root-steady : StateInvariant p (readIn p root)
+  root-steady = record { fork-invariant = read-in p so few root; bounded = read-in-bounded p so few root; stamped = root-stamped }
 
   root-fields : FieldsAgree p (readIn p root) start
   unfolding newest current
   root-fields o k = ap (newest (p .field o k) o k) (each-level (λ v. v .versions ≡ []) refl refl (p .level o))
 
-  root-rests : (j : ℕ) → (r ≡ j → ⊥) → Rests 0 (tallyAt start j) (levelAt (readIn p root) j)
-  root-rests j n = rw (no-tally j, other-is j n) (record { versions = []; is = refl; past = none-past 0 })
+  root-quiescent : (j : ℕ) → (r ≡ j → ⊥) → LevelQuiescent 0 (tallyAt start j) (levelAt (readIn p root) j)
+  root-quiescent j n = rw (no-tally j, other-is j n) (record { versions = []; is = refl; past = none-past 0 })
 
   root-ready : Ready p (readIn p root) start r x
   root-ready =
@@ -108,8 +108,8 @@ module _ (p : Program) (so : Sound p) (few : p .levels ≤ maxLevels) (root : Me
         past = rw (no-tally r) (none-past 0);
         reaches = so .lattice .order .itself r (so .placed (root .object));
         around = record {
-          below = λ j h s. rests-below (getD (x .seen) j 0) 0 (endOf x) j (tallyAt start j) (levelAt (readIn p root) j) (repeated {A = ℕ} (p .levels) 0 j) (root-rests j (λ q. other-level p r j s (sym q)));
-          rests = λ j h d. root-rests j (λ q. not-both (p .dom r j) (rw (sym q) (so .lattice .order .itself r (so .placed (root .object)))) d);
+          below = λ j h s. quiescent-below (getD (x .carried) j 0) 0 (endOf x) j (tallyAt start j) (levelAt (readIn p root) j) (repeated {A = ℕ} (p .levels) 0 j) (root-quiescent j (λ q. other-level p r j s (sym q)));
+          quiescent = λ j h d. root-quiescent j (λ q. not-both (p .dom r j) (rw (sym q) (so .lattice .order .itself r (so .placed (root .object)))) d);
           carries = λ j h d. repeated {A = ℕ} (p .levels) 0 j;
           fields = root-fields;
           width = length-replicate (p .levels) 0;
@@ -125,8 +125,8 @@ module _ (p : Program) (so : Sound p) (few : p .levels ≤ maxLevels) (root : Me
       runs-forks p so (p .levels) r (so .placed (root .object)) (count-most (p .levels) (λ k. p .dom k r)) x (readIn p root) start root-ready
 
   -- a level where nothing is left to do
-  rests-done : (v : Level) (lo : ℕ) (t : Tally) → Rests lo t v → hasManager v ≡ false
-  rests-done v lo t q = rw (q .is) refl
+  quiescent-done : (v : Level) (lo : ℕ) (t : Tally) → LevelQuiescent lo t v → hasManager v ≡ false
+  quiescent-done v lo t q = rw (q .is) refl
 
   not-root : (j : ℕ) → p .dom j r ≡ false → r ≡ j → ⊥
   not-root j d q = not-both (p .dom j r) (rw (sym q) (so .lattice .order .itself r (so .placed (root .object)))) d
@@ -138,7 +138,7 @@ module _ (p : Program) (so : Sound p) (few : p .levels ≤ maxLevels) (root : Me
   unfolding question15
   deep-over =
       all-every (p .levels) _ λ j h. elim (truth (p .dom j r)) [
-        | holds d ↦ rw (rests-done (levelAt (deep-run .to) j) (endOf x) _ (deep-run .done .rests j h d)) refl
+        | holds d ↦ rw (quiescent-done (levelAt (deep-run .to) j) (endOf x) _ (deep-run .done .quiescent j h d)) refl
         | fails d ↦ rw (ap hasManager (untouched j h d)) refl
       ]
 
@@ -157,7 +157,7 @@ module _ (p : Program) (so : Sound p) (few : p .levels ≤ maxLevels) (root : Me
   pub deep-end : (ls : List ℕ) (t : State) → Finishes p ls (readIn p root) t → t ≡ deep-run .to
   deep-end ls t f =
       sym (f .ends)
-      ∙ confluent State (stepAt p) (Safe p) (Steady p) (safe-commute p so) ls (deep-run .leads .list) (readIn p root) root-steady
+      ∙ confluent State (stepAt p) (Safe p) (StateInvariant p) (safe-commute p so) ls (deep-run .leads .list) (readIn p root) root-steady
       (allowed-safe ls (readIn p root) (f .allowed)) (none-safe (ran (stepAt p) ls (readIn p root)) (rw (f .ends) (f .over)))
       (deep-run .leads .allowed) (none-safe (ran (stepAt p) (deep-run .leads .list) (readIn p root)) (rw (deep-run .leads .ends) deep-over))
       ∙ deep-run .leads .ends
@@ -166,13 +166,13 @@ module _ (p : Program) (so : Sound p) (few : p .levels ≤ maxLevels) (root : Me
   deep-ended : (j : ℕ) → levelAt (deep-run .to) j .ended ≡ tallyAt (depthFirst p root) j .ended
   deep-ended j = elim (decLt j (p .levels)) [
     | no n ↦
-        ap (λ v. v .ended) (List·getD-eq-default (deep-run .to) newLevel (omega (arith, n, deep-run .done .steady .orderly .size)))
+        ap (λ v. v .ended) (List·getD-eq-default (deep-run .to) newLevel (omega (arith, n, deep-run .done .steady .fork-invariant .size)))
         ∙ sym (ap (λ t. t .ended) (List·getD-eq-default (depthFirst p root .levels) newTally (omega (arith, n, deep-run .done .counted))))
     | yes h ↦ within h (truth (p .dom j r))
   ]
     where
       within : j < p .levels → Truth (p .dom j r) → levelAt (deep-run .to) j .ended ≡ tallyAt (depthFirst p root) j .ended
-      within h (holds d) = ap (λ v. v .ended) (deep-run .done .rests j h d .is)
+      within h (holds d) = ap (λ v. v .ended) (deep-run .done .quiescent j h d .is)
       within h (fails d) =
           ap (λ v. v .ended) (untouched j h d) ∙ sym (ap (λ t. t .ended) (deep-run .leads .tallies j h d ∙ no-tally j))
 

@@ -28,10 +28,10 @@ use Rattle.model.proofs.Laws.Steps.Diamond.{seen-level}
 use Rattle.model.proofs.Laws.Steps.Moves.{move-is}
 use Rattle.model.proofs.Laws.Invariant.Entries.{entriesOf}
 use Rattle.model.proofs.Laws.Invariant.WriteStamps.{forksOf}
-use Rattle.model.proofs.Laws.Invariant.Stamped.{Steady}
+use Rattle.model.proofs.Laws.Invariant.State.{StateInvariant}
 use Rattle.model.proofs.Laws.Safe.Safe.{Later, ancestor, Safe}
 use Rattle.model.proofs.Laws.Safe.Reads.{boundAt, seen-field, seen-own, seen-below}
-use Rattle.model.proofs.Laws.Deep.Resting.{resting, Rests, Below, newest-within}
+use Rattle.model.proofs.Laws.Deep.Quiescent.{quiescent-level, LevelQuiescent, Below, newest-within}
 
 -- the end of the interval of stamps of fork c
 abbrev pub endOf : Fork → ℕ
@@ -44,18 +44,18 @@ FieldsAgree p st g =
 
 -- the levels around level u, where the manager of fork c runs and gives stamps from lo on
 pub record Around (p : Program) (st : State) (g : Progress) (u : ℕ) (c : Fork) (lo : ℕ) : Type 0 where
-  pub below : (j : ℕ) → j < p .levels → strictly (p .dom) u j ≡ true → Below (getD (c .seen) j 0) (c .stamp) (endOf c) j (levelAt st j)
-  pub rests : (j : ℕ) → j < p .levels → p .dom u j ≡ false → Rests lo (tallyAt g j) (levelAt st j)
-  pub carries : (j : ℕ) → j < p .levels → p .dom u j ≡ false → getD (c .seen) j 0 ≡ 0
+  pub below : (j : ℕ) → j < p .levels → strictly (p .dom) u j ≡ true → Below (getD (c .carried) j 0) (c .stamp) (endOf c) j (levelAt st j)
+  pub quiescent : (j : ℕ) → j < p .levels → p .dom u j ≡ false → LevelQuiescent lo (tallyAt g j) (levelAt st j)
+  pub carries : (j : ℕ) → j < p .levels → p .dom u j ≡ false → getD (c .carried) j 0 ≡ 0
   pub fields : FieldsAgree p st g
-  pub width : length (c .seen) ≡ p .levels
+  pub width : length (c .carried) ≡ p .levels
   pub counted : length (g .levels) ≡ p .levels
-  pub steady : Steady p st
+  pub steady : StateInvariant p st
 
 -- the manager of fork c at level u is m, and may make k script steps more
 pub record Working (p : Program) (st : State) (g : Progress) (u : ℕ) (c : Fork) (m : Manager) (k : ℕ) : Type 0 where
   pub versions : List Version
-  pub is : levelAt st u ≡ after (resting (tallyAt g u) versions) [] versions c m
+  pub is : levelAt st u ≡ after (quiescent-level (tallyAt g u) versions) [] versions c m
   pub written : Each (λ w. w .stamp ≤ m .stamp) versions
   pub early : Each (λ h. h .stamp < c .stamp) (tallyAt g u .ended)
   pub positive : 0 < m .stamp
@@ -75,21 +75,21 @@ around-safe p st g u c lo others h a q =
       others = others;
       first = q;
       below = λ j hj s.
-          each-map (λ e. (endOf c ≤ e .next) × (getD (c .seen) j 0 ≡ 0 → ⊥)) (Later c j) (λ e r. ancestor (r .1) (omega (arith, r .0, span-positive (c .depth)))) (entriesOf j (levelAt st j)) (a .below j hj s .later);
+          each-map (λ e. (endOf c ≤ e .next) × (getD (c .carried) j 0 ≡ 0 → ⊥)) (Later c j) (λ e r. ancestor (r .1) (omega (arith, r .0, span-positive (c .depth)))) (entriesOf j (levelAt st j)) (a .below j hj s .later);
     }
 
 -- a level at which the manager of fork c runs alone
 abbrev pub working : Tally → List Version → Fork → Manager → Level
 working t vs c m = record { waiting = []; activity = busy c m; ended = t .ended; next = t .next; versions = vs }
 
-running-is : (t : Tally) (vs : List Version) (c : Fork) (m : Manager) → isRunning (m .ending) ≡ true → after (resting t vs) [] vs c m ≡ working t vs c m
+running-is : (t : Tally) (vs : List Version) (c : Fork) (m : Manager) → isRunning (m .ending) ≡ true → after (quiescent-level t vs) [] vs c m ≡ working t vs c m
 unfolding after
 running-is t vs c m e = rw e refl
 
-moved-working : (p : Program) (st : State) (l : ℕ) (t : Tally) (vs : List Version) (c : Fork) (m : Manager) (s : Stepped) → stepped p (readAt p st l c) m ≡ s → moved p st l (working t vs c m) (busy c m) ≡ record { own = after (resting t vs) [] (versionsAfter m (s .effect) vs) c (s .manager); arrival = arrivalOf l c m (s .effect) }
+moved-working : (p : Program) (st : State) (l : ℕ) (t : Tally) (vs : List Version) (c : Fork) (m : Manager) (s : Stepped) → stepped p (readAt p st l c) m ≡ s → moved p st l (working t vs c m) (busy c m) ≡ record { own = after (quiescent-level t vs) [] (versionsAfter m (s .effect) vs) c (s .manager); arrival = arrivalOf l c m (s .effect) }
 unfolding moved advanced after
 moved-working p st l t vs c m s q =
-    ap (λ s. record { own = after (resting t vs) [] (versionsAfter m (s .effect) vs) c (s .manager); arrival = arrivalOf l c m (s .effect) }) q
+    ap (λ s. record { own = after (quiescent-level t vs) [] (versionsAfter m (s .effect) vs) c (s .manager); arrival = arrivalOf l c m (s .effect) }) q
 
 -- what the manager of fork c at level u reads of the objects that u dominates is current
 module _ (p : Program) (so : Sound p) (st : State) (g : Progress) (u : ℕ) (c : Fork) (lo : ℕ) (a : Around p st g u c lo) where
@@ -126,7 +126,7 @@ module _ (p : Program) (so : Sound p) (st : State) (g : Progress) (u : ℕ) (hu 
   seen-done =
       stepped-seen p (readAt (seenBy u p) (viewOf p u st) u c) (fieldNow p g) u m so hu (w .level) r (w .within) (reads-current p so st g u c _ (w .around))
 
-  pub working-move : moveAt p u st ≡ record { own = after (resting (tallyAt g u) (w .versions)) [] (versionsAfter m (done .effect) (w .versions)) c (done .manager); arrival = arrivalOf u c m (done .effect) }
+  pub working-move : moveAt p u st ≡ record { own = after (quiescent-level (tallyAt g u) (w .versions)) [] (versionsAfter m (done .effect) (w .versions)) c (done .manager); arrival = arrivalOf u c m (done .effect) }
   working-move =
       move-is p u st so hu
       ∙ ap (λ v. moved (seenBy u p) (viewOf p u st) u v (v .activity)) busy-is

@@ -15,8 +15,8 @@ use Rattle.model.specs.Step.{State, levelAt, viewOf, Arrival, none, at, 
 use Rattle.model.proofs.Laws.Steps.Locality.{Above}
 use Rattle.model.proofs.Laws.Steps.Diamond.{seen-level}
 use Rattle.model.proofs.Laws.Steps.Moves.{move-above}
-use Rattle.model.proofs.Laws.Invariant.Orderly.{level-own, level-target, level-other, Orderly}
-use Rattle.model.proofs.Laws.Invariant.Keeps.{other-level}
+use Rattle.model.proofs.Laws.Invariant.Forks.{level-own, level-target, level-other, ForkInvariant}
+use Rattle.model.proofs.Laws.Invariant.Preserved.{other-level}
 use Rattle.model.proofs.Laws.Invariant.WriteStamps.{Marks, moved-marks}
 
 -- what level k is after a step at level l
@@ -25,7 +25,7 @@ pub data Became (p : Program) (l : ℕ) (st : State) (k : ℕ) (v : Level) : Typ
   got : (c : Fork) → moveAt p l st .arrival ≡ at k c → strictly (p .dom) k l ≡ true → v ≡ arrived c (levelAt st k) → Became p l st k v
   stayed : (k ≡ l → ⊥) → v ≡ levelAt st k → Became p l st k v
 
-module _ (p : Program) (so : Sound p) (st : State) (o : Orderly p st) (l : ℕ) (h : l < p .levels) where
+module _ (p : Program) (so : Sound p) (st : State) (o : ForkInvariant p st) (l : ℕ) (h : l < p .levels) where
   pub became : (k : ℕ) → Became p l st k (levelAt (stepAt p l st) k)
   unfolding stepAt
   became k =
@@ -55,7 +55,7 @@ module _ (p : Program) (so : Sound p) (st : State) (o : Orderly p st) (l : ℕ) 
       by v w q f = rw (sym q) f
 
 -- the same, level by level
-module _ (p : Program) (so : Sound p) (st : State) (o : Orderly p st) (l : ℕ) (h : l < p .levels) where
+module _ (p : Program) (so : Sound p) (st : State) (o : ForkInvariant p st) (l : ℕ) (h : l < p .levels) where
   pub level-stepped : levelAt (stepAt p l st) l ≡ moveAt p l st .own
   level-stepped = by (became p so st o l h l)
     where
@@ -64,8 +64,8 @@ module _ (p : Program) (so : Sound p) (st : State) (o : Orderly p st) (l : ℕ) 
       by (got c e s q) = absurd (other-level p l l s refl)
       by (stayed n q) = absurd (n refl)
 
-  pub level-quiet : moveAt p l st .arrival ≡ none → (j : ℕ) → (j ≡ l → ⊥) → levelAt (stepAt p l st) j ≡ levelAt st j
-  level-quiet e j n = by (became p so st o l h j)
+  pub level-internal : moveAt p l st .arrival ≡ none → (j : ℕ) → (j ≡ l → ⊥) → levelAt (stepAt p l st) j ≡ levelAt st j
+  level-internal e j n = by (became p so st o l h j)
     where
       isNone : Arrival → Bool
       isNone none = true

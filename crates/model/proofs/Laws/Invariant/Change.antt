@@ -25,7 +25,7 @@ use Rattle.model.proofs.Laws.Steps.Moves.{AtLevel}
 
 -- the entries of a level before and after a step, and its fork: nothing, a start or an end; or the running manager forks, and may end
 pub data Change (p : Program) (l : ℕ) (E G : List Entry) (b : Arrival) : Type 0 where
-  quiet : b ≡ none → Rest E G → Change p l E G b
+  internal : b ≡ none → Rest E G → Change p l E G b
   forks : (u : ℕ) (x : Fork) (m : Manager) (message : Message) (W : List Entry) → b ≡ at u (childOf l x m message) → E ≡ runningEntry l x (m .forks) ∷ W → Rest (forkedFrom (runningEntry l x (m .forks)) ∷ W) G → u < p .levels → strictly (p .dom) u l ≡ true → m .forks < maxForks → Change p l E G b
 
 -- a manager that runs on or has ended
@@ -41,12 +41,12 @@ rest-from D E G q r = rw q r
 
 begun-change : (p : Program) (l : ℕ) (v : Level) → v .activity ≡ idle → (ws : List Fork) → v .waiting ≡ ws → Change p l (entriesOf l v) (entriesOf l (begun p l v ws .own)) (begun p l v ws .arrival)
 unfolding begun
-begun-change p l v q [] e = quiet refl (whole refl)
+begun-change p l v q [] e = internal refl (whole refl)
 begun-change p l v q (x ∷ xs) e =
     let m = started p l (v .next) (x .message) in
     let none-yet : m .forks ≡ 0 = ap (λ c. c .forks) (started-counts p l (v .next) (x .message)) in
     let before : entriesOf l v ≡ runningEntry l x 0 ∷ map (waitingEntry l) xs = ap₂ (entriesBy l) q e in
-    quiet refl (rest-from (runningEntry l x (m .forks) ∷ map (waitingEntry l) xs) (entriesOf l v) _
+    internal refl (rest-from (runningEntry l x (m .forks) ∷ map (waitingEntry l) xs) (entriesOf l v) _
     (before ∙ sym (ap (λ k. runningEntry l x k ∷ map (waitingEntry l) xs) none-yet)) (after-rest l v xs (v .versions) x m))
 
 -- the running manager x makes a step and no fork
@@ -60,9 +60,9 @@ same-forks l v x m m' versions q same =
 -- the running manager x makes a step with an effect
 effect-change : (p : Program) (l : ℕ) (v : Level) (x : Fork) (m m' : Manager) (e : Effect) → v .activity ≡ busy x m → m .level ≡ l → counts m' ≡ oneMore (grown (counts m) e) → Fits p m e → Change p l (entriesOf l v) (entriesOf l (after v (v .waiting) (versionsAfter m e (v .versions)) x m')) (arrivalOf l x m e)
 effect-change p l v x m m' effect.Nothing q h c f =
-    quiet refl (same-forks l v x m m' (v .versions) q (ap (λ c. c .forks) c))
+    internal refl (same-forks l v x m m' (v .versions) q (ap (λ c. c .forks) c))
 effect-change p l v x m m' (effect.Write o k w) q h c f =
-    quiet refl (same-forks l v x m m' (versionsAfter m (effect.Write o k w) (v .versions)) q (ap (λ c. c .forks) c))
+    internal refl (same-forks l v x m m' (versionsAfter m (effect.Write o k w) (v .versions)) q (ap (λ c. c .forks) c))
 effect-change p l v x m m' (effect.Fork u message) q h c f =
     let W = map (waitingEntry l) (v .waiting) in
     let more : m' .forks ≡ m .forks + 1 = ap (λ c. c .forks) c in

@@ -34,14 +34,14 @@ left (busy x m) = maxScriptSteps - m .steps
 abbrev pub cost : Level → ℕ
 cost v = (1 + maxScriptSteps) * (maxManagers - startedCount v) + left (v .activity)
 
-abbrev pub Live : Activity → Type 0
-Live idle = Unit
-Live (busy x m) = m .steps < maxScriptSteps
+abbrev pub StepsLeft : Activity → Type 0
+StepsLeft idle = Unit
+StepsLeft (busy x m) = m .steps < maxScriptSteps
 
 -- a level keeps its limits
-pub record Tame (v : Level) : Type 0 where
+pub record Bounded (v : Level) : Type 0 where
   pub room : startedCount v + length (v .waiting) ≤ maxManagers
-  pub live : Live (v .activity)
+  pub live : StepsLeft (v .activity)
 
 pub inserted-length : {A : Type 0} (key : A → ℕ) (x : A) (ys : List A) → length (inserted key x ys) ≡ length ys + 1
 unfolding inserted
@@ -52,9 +52,9 @@ inserted-length key x (y ∷ ys) = elim (truth (ltb (key x) (key y))) [
 ]
 
 -- a level after a step of manager m
-after-tame : (v : Level) (ws : List Fork) (versions : List Version) (x : Fork) (m : Manager) → (isRunning (m .ending) ≡ true → m .steps < maxScriptSteps) → length (v .ended) + 1 + length ws ≤ maxManagers → Tame (after v ws versions x m)
+after-bounded : (v : Level) (ws : List Fork) (versions : List Version) (x : Fork) (m : Manager) → (isRunning (m .ending) ≡ true → m .steps < maxScriptSteps) → length (v .ended) + 1 + length ws ≤ maxManagers → Bounded (after v ws versions x m)
 unfolding after
-after-tame v ws versions x m f h = elim (truth (isRunning (m .ending))) [
+after-bounded v ws versions x m f h = elim (truth (isRunning (m .ending))) [
   | holds e ↦ rw e (record { room = h; live = f e })
   | fails e ↦ rw e (record { room = omega (arith, h, inserted-length (λ h. h .stamp) (historyOf x m) (v .ended)); live = tt })
 ]
@@ -68,10 +68,10 @@ after-cost v ws versions x m = elim (truth (isRunning (m .ending))) [
 
 -- a level's step with a manager: the limits hold, and fewer steps are left
 pub record Falls (v w : Level) : Type 0 where
-  pub tame : Tame w
+  pub bounded : Bounded w
   pub less : cost w < cost v
 
-begun-falls : (p : Program) (l : ℕ) (v : Level) → Tame v → v .activity ≡ idle → (ws : List Fork) → v .waiting ≡ ws → hasManager v ≡ true → Falls v (begun p l v ws .own)
+begun-falls : (p : Program) (l : ℕ) (v : Level) → Bounded v → v .activity ≡ idle → (ws : List Fork) → v .waiting ≡ ws → hasManager v ≡ true → Falls v (begun p l v ws .own)
 unfolding begun
 begun-falls p l v t q [] e h = absurd (not-both (hasManager v) h (ap₂ (λ a ws. isBusy a || not (isEmpty ws)) q e))
 begun-falls p l v t q (x ∷ xs) e h =
@@ -81,7 +81,7 @@ begun-falls p l v t q (x ∷ xs) e h =
     let waits : length (v .waiting) ≡ suc (length xs) = ap length e in
     let room : length (v .ended) + 1 + length xs ≤ maxManagers = omega (arith, t .room, count, waits) in
     record {
-      tame = after-tame v xs (v .versions) x m (λ _. omega (arith, none-yet)) room;
+      bounded = after-bounded v xs (v .versions) x m (λ _. omega (arith, none-yet)) room;
       less = omega (arith, after-cost v xs (v .versions) x m, room, count, none-yet, ap left q);
     }
 
@@ -90,7 +90,7 @@ grown-steps c effect.Nothing = refl
 grown-steps c (effect.Write o k v) = refl
 grown-steps c (effect.Fork u message) = refl
 
-advanced-falls : (p : Program) (st : State) (l : ℕ) (v : Level) (x : Fork) (m : Manager) → Tame v → v .activity ≡ busy x m → Falls v (advanced p st l v x m .own)
+advanced-falls : (p : Program) (st : State) (l : ℕ) (v : Level) (x : Fork) (m : Manager) → Bounded v → v .activity ≡ busy x m → Falls v (advanced p st l v x m .own)
 unfolding advanced
 advanced-falls p st l v x m t q =
     let s = stepped p (readAt p st l x) m in
@@ -99,22 +99,22 @@ advanced-falls p st l v x m t q =
     let count : startedCount v ≡ length (v .ended) + 1 = ap (λ a. length (v .ended) + cond (isBusy a) 1 0) q in
     let live : m .steps < maxScriptSteps = live-at (v .activity) q (t .live) in
     record {
-      tame = after-tame v (v .waiting) _ x (s .manager) (running-few p (readAt p st l x) m) (omega (arith, t .room, count));
+      bounded = after-bounded v (v .waiting) _ x (s .manager) (running-few p (readAt p st l x) m) (omega (arith, t .room, count));
       less = omega (arith, after-cost v (v .waiting) (versionsAfter m (s .effect) (v .versions)) x (s .manager), count, one-more, live, ap left q);
     }
   where
-    live-at : (a : Activity) → a ≡ busy x m → Live a → m .steps < maxScriptSteps
+    live-at : (a : Activity) → a ≡ busy x m → StepsLeft a → m .steps < maxScriptSteps
     live-at a q f = rw q at f
 
-pub moved-falls : (p : Program) (st : State) (l : ℕ) (v : Level) (a : Activity) → Tame v → v .activity ≡ a → hasManager v ≡ true → Falls v (moved p st l v a .own)
+pub moved-falls : (p : Program) (st : State) (l : ℕ) (v : Level) (a : Activity) → Bounded v → v .activity ≡ a → hasManager v ≡ true → Falls v (moved p st l v a .own)
 unfolding moved
 moved-falls p st l v idle t q h = begun-falls p l v t q (v .waiting) refl h
 moved-falls p st l v (busy x m) t q h = advanced-falls p st l v x m t q
 
 -- an arrival takes none
-pub arrived-tame : (x : Fork) (v : Level) → Tame v → Tame (arrived x v)
+pub arrived-bounded : (x : Fork) (v : Level) → Bounded v → Bounded (arrived x v)
 unfolding arrived
-arrived-tame x v t =
+arrived-bounded x v t =
     let ys = inserted (λ y. y .stamp) x (v .waiting) in
     let few : length (take (maxManagers - startedCount v) ys) ≤ maxManagers - startedCount v =
     rw (length-take (maxManagers - startedCount v) ys) (min-le-left (maxManagers - startedCount v) (length ys)) in

@@ -13,7 +13,7 @@ use Rattle.model.specs.Level.{Version, Activity, idle, busy, Level, arri
 use Rattle.model.specs.Step.{State, levelAt, viewOf, readAt, versionsAfter, begun, advanced, moved, moveAt, stepAt}
 use Rattle.model.proofs.Laws.Each.{Each, Pairwise, each-map}
 use Rattle.model.proofs.Laws.Steps.Moves.{move-is}
-use Rattle.model.proofs.Laws.Invariant.Orderly.{Orderly}
+use Rattle.model.proofs.Laws.Invariant.Forks.{ForkInvariant}
 use Rattle.model.proofs.Laws.Invariant.WriteStamps.{stampBy, writeStamp, after-versions}
 use Rattle.model.proofs.Laws.Invariant.Became.{Became, own, got, stayed, became, step-marks}
 
@@ -63,7 +63,7 @@ unfolding arrived
 arrived-dated x v d = record { falling = d .falling; low = d .low }
 
 -- every step keeps the versions of all levels in order
-pub step-dated : (p : Program) → Sound p → (st : State) → Orderly p st → ((l : ℕ) → l < p .levels → Dated (levelAt st l)) → (l : ℕ) → l < p .levels → (k : ℕ) → k < p .levels → Dated (levelAt (stepAt p l st) k)
+pub step-dated : (p : Program) → Sound p → (st : State) → ForkInvariant p st → ((l : ℕ) → l < p .levels → Dated (levelAt st l)) → (l : ℕ) → l < p .levels → (k : ℕ) → k < p .levels → Dated (levelAt (stepAt p l st) k)
 step-dated p so st o i l h k hk = by (levelAt (stepAt p l st) k) (became p so st o l h k)
   where
     adds : Adds (writeStamp (levelAt st l)) (levelAt st l .versions) (moveAt p l st .own .versions)

@@ -47,7 +47,7 @@ pub record Child (l : ℕ) (v w : Level) (c : Fork) : Type 0 where
   pub others : List Fork
   pub past : ℕ
   pub first : forksOf v ≡ sender ∷ others
-  pub seen : c .seen ≡ set (sender .seen) l past
+  pub carried : c .carried ≡ set (sender .carried) l past
   pub below : past < writeStamp w
 
 abbrev pub Sends : ℕ → Level → Level → Arrival → Type 0
@@ -145,7 +145,7 @@ effect-marks l v x m m' (effect.Fork u message) q c =
       others = v .waiting;
       past = m .stamp;
       first = ap (λ a. forksBy a (v .waiting)) q;
-      seen = unfold childOf in refl;
+      carried = unfold childOf in refl;
       below = omega (arith, more, after-stamp v (v .waiting) (v .versions) x m');
     })
 

@@ -14,7 +14,7 @@ use Rattle.model.specs.Step.{State, levelAt, stepAt}
 use Rattle.model.specs.Schedule.{question15, stepRefusal, Outcome, finished, refused, runFrom}
 use Rattle.model.proofs.Laws.Confluence.{ran, Allowed, Over, confluent}
 use Rattle.model.proofs.Laws.Steps.Diamond.{MayStep, may-step}
-use Rattle.model.proofs.Laws.Invariant.Orderly.{Orderly}
+use Rattle.model.proofs.Laws.Invariant.Forks.{ForkInvariant}
 use Rattle.model.proofs.Laws.Order.Commute.{steps-commute}
 
 abbrev stateOf : Outcome → State
@@ -53,8 +53,8 @@ none-may p st e l m =
     not-both (hasManager (levelAt st l)) (m .managed) (not-true (hasManager (levelAt st l)) (all-each (p .levels) _ e l (m .present)))
 
 -- any two lists that finish from a state with the invariant end in the same state
-pub same-end : (p : Program) → Sound p → (st : State) → Orderly p st → (ls ks : List ℕ) (t w : State) → Finishes p ls st t → Finishes p ks st w → t ≡ w
+pub same-end : (p : Program) → Sound p → (st : State) → ForkInvariant p st → (ls ks : List ℕ) (t w : State) → Finishes p ls st t → Finishes p ks st w → t ≡ w
 same-end p so st o ls ks t w a b =
     sym (a .ends)
-    ∙ confluent State (stepAt p) (MayStep p) (Orderly p) (steps-commute p so) ls ks st o (a .allowed) (none-may p (ran (stepAt p) ls st) (rw (a .ends) (a .over))) (b .allowed) (none-may p (ran (stepAt p) ks st) (rw (b .ends) (b .over)))
+    ∙ confluent State (stepAt p) (MayStep p) (ForkInvariant p) (steps-commute p so) ls ks st o (a .allowed) (none-may p (ran (stepAt p) ls st) (rw (a .ends) (a .over))) (b .allowed) (none-may p (ran (stepAt p) ks st) (rw (b .ends) (b .over)))
     ∙ b .ends

@@ -13,11 +13,11 @@ use Rattle.scripts.proofs.Laws.Effects.{Sound}
 use Rattle.model.specs.Step.{State, stepAt}
 use Rattle.model.specs.Schedule.{question15, stepRefusal, finished, runFrom, lowest, plainFrom}
 use Rattle.model.proofs.Laws.Steps.Diamond.{MayStep, may-step, step-may}
-use Rattle.model.proofs.Laws.Invariant.Orderly.{Orderly}
-use Rattle.model.proofs.Laws.Invariant.Keeps.{step-keeps}
+use Rattle.model.proofs.Laws.Invariant.Forks.{ForkInvariant}
+use Rattle.model.proofs.Laws.Invariant.Preserved.{step-preserves}
 use Rattle.model.proofs.Laws.Order.Finish.{none-may}
 use Rattle.model.proofs.Laws.Order.Progress.{lowest-found}
-use Rattle.model.proofs.Laws.Invariant.Tame.{total, AllTame, step-tame, step-less}
+use Rattle.model.proofs.Laws.Invariant.Bounded.{total, AllBounded, step-bounded, step-less}
 
 -- the lowest level that may step, may
 lowest-may : (p : Program) (st : State) → lowest p st < p .levels → MayStep p st (lowest p st)
@@ -48,7 +48,7 @@ unfolding runFrom
 run-next i p l ls st m = rw (eq-eqb (stepRefusal p st l) 0 (step-may p st l m)) refl
 
 -- the plain order finishes within the steps that are left
-pub plain-finishes : (p : Program) → Sound p → (fuel i : ℕ) (st : State) → Orderly p st → AllTame st → total st ≤ fuel → (t : State) × (runFrom i p (plainFrom fuel p st) st ≡ finished t)
+pub plain-finishes : (p : Program) → Sound p → (fuel i : ℕ) (st : State) → ForkInvariant p st → AllBounded st → total st ≤ fuel → (t : State) × (runFrom i p (plainFrom fuel p st) st ≡ finished t)
 plain-finishes p so zero i st o t h = elim (truth (question15 p st)) [
   | holds q ↦ (st, run-over i p (plainFrom zero p st) st q (plain-over zero p st q))
   | fails q ↦
@@ -61,6 +61,6 @@ plain-finishes p so (suc fuel) i st o t h = elim (truth (question15 p st)) [
       let l = lowest p st in
       let low = lowest-found p (so .lattice .order) st q in
       let m = lowest-may p st low in
-      let (w, e) = plain-finishes p so fuel (suc i) (stepAt p l st) (step-keeps p l st so (m .present) o) (step-tame p so st o t l (m .present) (m .managed)) (omega (arith, h, step-less p so st o t l (m .present) (m .managed))) in
+      let (w, e) = plain-finishes p so fuel (suc i) (stepAt p l st) (step-preserves p l st so (m .present) o) (step-bounded p so st o t l (m .present) (m .managed)) (omega (arith, h, step-less p so st o t l (m .present) (m .managed))) in
       (w, ap (λ ls. runFrom i p ls st) (plain-next fuel p st low) ∙ run-next i p l (plainFrom fuel p (stepAt p l st)) st m ∙ e)
 ]

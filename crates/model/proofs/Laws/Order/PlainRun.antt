@@ -19,14 +19,14 @@ use Rattle.model.specs.Fork.{rootFork}
 use Rattle.model.specs.Level.{newLevel}
 use Rattle.model.specs.Step.{State}
 use Rattle.model.specs.Schedule.{readIn, finished, runOf, plainOrder}
-use Rattle.model.proofs.Laws.Invariant.Measure.{Tame, arrived-tame}
-use Rattle.model.proofs.Laws.Invariant.Tame.{total, total-arrived, AllTame}
+use Rattle.model.proofs.Laws.Invariant.Measure.{Bounded, arrived-bounded}
+use Rattle.model.proofs.Laws.Invariant.Bounded.{total, total-arrived, AllBounded}
 use Rattle.model.proofs.Laws.Order.Plain.{plain-finishes}
 use Rattle.model.proofs.Laws.Order.ReadIn.{at-root, elsewhere, read-in}
 use Rattle.model.proofs.Laws.Order.Accepted.{sound}
 
-new-tame : Tame newLevel
-new-tame = record { room = omega arith; live = tt }
+new-bounded : Bounded newLevel
+new-bounded = record { room = omega arith; live = tt }
 
 -- each level has room for 32 managers of 257 scheduler steps
 total-new : (n : ℕ) → total (replicate n newLevel) ≡ n * 8224
@@ -35,10 +35,10 @@ total-new zero = refl
 total-new (suc n) = omega (arith, total-new n)
 
 module _ (p : Program) (so : Sound p) (few : p .levels ≤ maxLevels) (root : Message) where
-  pub read-in-tame : AllTame (readIn p root)
-  read-in-tame k = elim (ℕ-discrete (p .level (root .object)) k) [
-    | yes e ↦ rw (sym e, at-root p so few root) (arrived-tame (rootFork (p .levels) root) newLevel new-tame)
-    | no n ↦ rw (elsewhere p so few root k n) new-tame
+  pub read-in-bounded : AllBounded (readIn p root)
+  read-in-bounded k = elim (ℕ-discrete (p .level (root .object)) k) [
+    | yes e ↦ rw (sym e, at-root p so few root) (arrived-bounded (rootFork (p .levels) root) newLevel new-bounded)
+    | no n ↦ rw (elsewhere p so few root k n) new-bounded
   ]
 
   pub read-in-total : total (readIn p root) ≤ maxSchedule
@@ -50,7 +50,7 @@ module _ (p : Program) (so : Sound p) (few : p .levels ≤ maxLevels) (root : Me
   pub plain-run : (t : State) × (runOf p root (plainOrder p root) ≡ finished t)
   unfolding runOf plainOrder
   plain-run =
-      plain-finishes p so maxSchedule 0 (readIn p root) (read-in p so few root) read-in-tame read-in-total
+      plain-finishes p so maxSchedule 0 (readIn p root) (read-in p so few root) read-in-bounded read-in-total
 
 -- so an accepted session has one
 pub accepted-plain : (s : List ℕ) → verdictOf s ≡ Accepted → (t : State) × (runOf (programOf s) (rootOf s) (plainOrder (programOf s) (rootOf s)) ≡ finished t)

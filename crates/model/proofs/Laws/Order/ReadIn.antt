@@ -21,7 +21,7 @@ use Rattle.model.proofs.Laws.Invariant.Rank.{rank, count-most}
 use Rattle.model.proofs.Laws.Invariant.Tree.{Entry, Related}
 use Rattle.model.proofs.Laws.Steps.Moves.{AtLevel}
 use Rattle.model.proofs.Laws.Invariant.Entries.{entriesOf, waitingEntry}
-use Rattle.model.proofs.Laws.Invariant.Orderly.{entriesIn, Orderly}
+use Rattle.model.proofs.Laws.Invariant.Forks.{entriesIn, ForkInvariant}
 use Rattle.model.proofs.Laws.Order.Finish.{finishes, same-end}
 
 -- no level but the root's has a manager
@@ -85,7 +85,7 @@ module _ (p : Program) (so : Sound p) (few : p .levels ≤ maxLevels) (root : Me
   placed k (yes e) = rw (sym e) (rw (ap (λ v. v .activity) at-root) (unfold arrived in tt))
   placed k (no n) = rw (ap (λ v. v .activity) (elsewhere k n)) tt
 
-  pub read-in : Orderly p (readIn p root)
+  pub read-in : ForkInvariant p (readIn p root)
   read-in =
       record {
         size = unfold readIn in modify-length r (arrived x) (replicate (p .levels) newLevel) ∙ length-replicate (p .levels) newLevel;

@@ -36,15 +36,15 @@ use Rattle.model.proofs.Laws.Confluence.{ran, Allowed, kept}
 use Rattle.model.proofs.Laws.Steps.Locality.{Above, Misses, local, not-above}
 use Rattle.model.proofs.Laws.Steps.Diamond.{MayStep, may-local, may-step, step-may}
 use Rattle.model.proofs.Laws.Steps.Moves.{seen-sound, move-above}
-use Rattle.model.proofs.Laws.Invariant.Orderly.{level-other, delivered-length, Orderly}
-use Rattle.model.proofs.Laws.Invariant.Keeps.{step-keeps}
+use Rattle.model.proofs.Laws.Invariant.Forks.{level-other, delivered-length, ForkInvariant}
+use Rattle.model.proofs.Laws.Invariant.Preserved.{step-preserves}
 use Rattle.model.proofs.Laws.Order.Commute.{steps-commute}
 use Rattle.model.proofs.Laws.Order.Finish.{Finishes, finishes}
 use Rattle.model.proofs.Laws.Order.ReadIn.{read-in}
 use Rattle.model.proofs.Laws.Order.Accepted.{sound}
-use Rattle.model.proofs.Laws.Invariant.Tame.{total, AllTame, step-tame}
+use Rattle.model.proofs.Laws.Invariant.Bounded.{total, AllBounded, step-bounded}
 use Rattle.model.proofs.Laws.Order.Plain.{run-next, plain-finishes}
-use Rattle.model.proofs.Laws.Order.PlainRun.{read-in-tame}
+use Rattle.model.proofs.Laws.Order.PlainRun.{read-in-bounded}
 
 -- what is hidden twice is hidden once, where the second test follows from the first
 twice : {A : Type 0} (a b : Bool) (x d : A) → (a ≡ true → b ≡ true) → cond a (cond b x d) d ≡ cond a x d
@@ -101,7 +101,7 @@ ended-same p c st st' same ended j hj d = ap hasManager (sym (same j hj d)) ∙ 
 
 module _ (p : Program) (so : Sound p) (c : ℕ) (hc : c < p .levels) where
   -- a step at a level that c does not dominate changes no level that c dominates
-  pub unseen-step : (l : ℕ) (st : State) → Orderly p st → l < p .levels → p .dom c l ≡ false → SameUnder p c (stepAt p l st) st
+  pub unseen-step : (l : ℕ) (st : State) → ForkInvariant p st → l < p .levels → p .dom c l ≡ false → SameUnder p c (stepAt p l st) st
   unfolding stepAt
   unseen-step l st o hl e j hj d =
       level-other (moveAt p l st .arrival) l j (moveAt p l st .own) st (λ q. not-both (p .dom c j) d (rw (sym q) e))
@@ -150,13 +150,13 @@ module _ (p : Program) (so : Sound p) (c : ℕ) (hc : c < p .levels) where
         ∙ ap (λ done. levelAt (applied l done st') j) (sym (move-echoes st st' same))
 
   -- a finishing list and beside it what is left of it
-  pub isolated : (ls : List ℕ) (st st' t : State) → Orderly p st → length st' ≡ p .levels → SameUnder p c st st' → Finishes p ls st t → Isolated p (seenBy c p) c ls st st'
+  pub isolated : (ls : List ℕ) (st st' t : State) → ForkInvariant p st → length st' ≡ p .levels → SameUnder p c st st' → Finishes p ls st t → Isolated p (seenBy c p) c ls st st'
   unfolding Isolated ran Allowed
   isolated [] st st' t o n same f = (same, ended-same p c st st' same (ended-under p c st (rw (f .ends) (f .over))))
   isolated (l ∷ ls) st st' t o n same f =
       let m : MayStep p st l = f .allowed .0 in
       let hl : l < p .levels = m .present in
-      let o' = step-keeps p l st so hl o in
+      let o' = step-preserves p l st so hl o in
       let rest : Finishes p ls (stepAt p l st) t = record { allowed = f .allowed .1; ends = f .ends; over = f .over } in (
         same,
         (
@@ -188,12 +188,12 @@ struck-reaches p p' c (l ∷ ls) st st' i = elim (truth (p .dom c l)) [
 
 module _ (p : Program) (so : Sound p) (c : ℕ) (hc : c < p .levels) where
   -- the struck list is allowed, and ends as the whole list does
-  pub struck-ends : (ls : List ℕ) (st st' t : State) → Orderly p st → length st' ≡ p .levels → SameUnder p c st st' → Finishes p ls st t → Reaches p (seenBy c p) c (struck p c ls) st' t
+  pub struck-ends : (ls : List ℕ) (st st' t : State) → ForkInvariant p st → length st' ≡ p .levels → SameUnder p c st st' → Finishes p ls st t → Reaches p (seenBy c p) c (struck p c ls) st' t
   struck-ends ls st st' t o n same f =
       rw (f .ends) at (struck-reaches p (seenBy c p) c ls st st' (isolated p so c hc ls st st' t o n same f))
 
   -- where no manager is left at the levels that c dominates, nothing changes there any more
-  pub finished-above : (ms : List ℕ) (st t : State) → Orderly p st → EndedUnder p c st → Finishes p ms st t → SameUnder p c st t
+  pub finished-above : (ms : List ℕ) (st t : State) → ForkInvariant p st → EndedUnder p c st → Finishes p ms st t → SameUnder p c st t
   unfolding ran Allowed
   finished-above [] st t o ended f j hj d = ap (λ w. levelAt w j) (f .ends)
   finished-above (l ∷ ms) st t o ended f j hj d =
@@ -202,7 +202,7 @@ module _ (p : Program) (so : Sound p) (c : ℕ) (hc : c < p .levels) where
       let hidden : p .dom c l ≡ false = refuted (p .dom c l) (λ e. not-both (hasManager (levelAt st l)) (m .managed) (ended l (m .present) e)) in
       let back : SameUnder p c st (stepAt p l st) = λ j hj d. sym (unseen-step p so c hc l st o (m .present) hidden j hj d) in
       back j hj d
-      ∙ finished-above ms (stepAt p l st) t (step-keeps p l st so (m .present) o) (ended-same p c st (stepAt p l st) back ended) rest j hj d
+      ∙ finished-above ms (stepAt p l st) t (step-preserves p l st so (m .present) o) (ended-same p c st (stepAt p l st) back ended) rest j hj d
 
 -- an allowed list goes on to one that finishes
 pub record Continues (p : Program) (i : ℕ) (ks : List ℕ) (st : State) : Type 0 where
@@ -211,14 +211,14 @@ pub record Continues (p : Program) (i : ℕ) (ks : List ℕ) (st : State) : Type
   pub run : runFrom i p (ks ++ more) st ≡ finished end
   pub finishes : Finishes p more (ran (stepAt p) ks st) end
 
-pub continues : (p : Program) → Sound p → (ks : List ℕ) (i : ℕ) (st : State) → Orderly p st → AllTame st → Allowed (stepAt p) (MayStep p) ks st → Continues p i ks st
+pub continues : (p : Program) → Sound p → (ks : List ℕ) (i : ℕ) (st : State) → ForkInvariant p st → AllBounded st → Allowed (stepAt p) (MayStep p) ks st → Continues p i ks st
 unfolding ran Allowed
 continues p so [] i st o t a =
     let (w, e) = plain-finishes p so (total st) i st o t (omega arith) in
     record { more = plainFrom (total st) p st; end = w; run = e; finishes = finishes i p (plainFrom (total st) p st) st w e }
 continues p so (k ∷ ks) i st o t a =
     let m : MayStep p st k = a .0 in
-    let r = continues p so ks (suc i) (stepAt p k st) (step-keeps p k st so (m .present) o) (step-tame p so st o t k (m .present) (m .managed)) (a .1) in
+    let r = continues p so ks (suc i) (stepAt p k st) (step-preserves p k st so (m .present) o) (step-bounded p so st o t k (m .present) (m .managed)) (a .1) in
     record { more = r .more; end = r .end; run = run-next i p k (ks ++ r .more) st m ∙ r .run; finishes = r .finishes }
 
 -- a whole list that finishes, and what is left of it in what c sees of the program
@@ -232,13 +232,13 @@ module _ (p : Program) (so : Sound p) (few : p .levels ≤ maxLevels) (root : Me
   unfolding readIn seenBy
   read-in-same j hj d = refl
 
-  seen-orderly : Orderly (seenBy c p) (readIn (seenBy c p) root)
+  seen-fork-invariant : ForkInvariant (seenBy c p) (readIn (seenBy c p) root)
   unfolding seenBy
-  seen-orderly = read-in (seenBy c p) (seen-sound c p so) few root
+  seen-fork-invariant = read-in (seenBy c p) (seen-sound c p so) few root
 
   seen-size : length (readIn (seenBy c p) root) ≡ p .levels
   unfolding seenBy
-  seen-size = seen-orderly .size
+  seen-size = seen-fork-invariant .size
 
   pub seen-isolated : Isolated p (seenBy c p) c ls (readIn p root) (readIn (seenBy c p) root)
   seen-isolated =
@@ -253,8 +253,8 @@ module _ (p : Program) (so : Sound p) (few : p .levels ≤ maxLevels) (root : Me
       let st = readIn p' root in
       let ks = struck p c ls in
       let r : Reaches p p' c ks st t = struck-ends p so c hc ls (readIn p root) st t (read-in p so few root) seen-size read-in-same whole in
-      let o : Orderly p' (ran (stepAt p') ks st) = kept State (stepAt p') (MayStep p') (Orderly p') (steps-commute p' so') ks st seen-orderly (r .allowed) in
-      let k : Continues p' 0 ks st = continues p' so' ks 0 st seen-orderly (read-in-tame p' so' few root) (r .allowed) in
+      let o : ForkInvariant p' (ran (stepAt p') ks st) = kept State (stepAt p') (MayStep p') (ForkInvariant p') (steps-commute p' so') ks st seen-fork-invariant (r .allowed) in
+      let k : Continues p' 0 ks st = continues p' so' ks 0 st seen-fork-invariant (read-in-bounded p' so' few root) (r .allowed) in
       let above : SameUnder p' c (ran (stepAt p') ks st) (k .end) = finished-above p' so' c hc (k .more) (ran (stepAt p') ks st) (k .end) o (r .ended) (k .finishes) in
       (ks ++ k .more, (k .end, (k .run, λ j hj d. r .same j hj d ∙ above j hj d)))
 

@@ -22,11 +22,11 @@ use Rattle.model.specs.Step.{State, levelAt, viewOf, readAt, none, at, M
 use Rattle.model.proofs.Laws.Each.{Each}
 use Rattle.model.proofs.Laws.Steps.Diamond.{seen-level}
 use Rattle.model.proofs.Laws.Steps.Moves.{move-is}
-use Rattle.model.proofs.Laws.Invariant.Keeps.{other-level}
-use Rattle.model.proofs.Laws.Invariant.Measure.{Tame, inserted-length}
+use Rattle.model.proofs.Laws.Invariant.Preserved.{other-level}
+use Rattle.model.proofs.Laws.Invariant.Measure.{Bounded, inserted-length}
 use Rattle.model.proofs.Laws.Invariant.WriteStamps.{writeStamp, forksBy, forksOf}
 use Rattle.model.proofs.Laws.Invariant.Became.{Became, own, got, stayed, became, step-marks}
-use Rattle.model.proofs.Laws.Invariant.Stamped.{Steady}
+use Rattle.model.proofs.Laws.Invariant.State.{StateInvariant}
 use Rattle.model.proofs.Laws.Safe.Safe.{Safe, head-same, taken-past}
 use Rattle.model.proofs.Laws.Safe.Reads.{boundAt, LooksSame, looks-same, read-same, bound-below, marks-look}
 
@@ -70,7 +70,7 @@ unfolding begun arrived after
 starts-at p l c v x xs ys e = ap (λ w. record { own = w; arrival = none }) (sym e)
 
 module _ (p : Program) (l : ℕ) (c : Fork) (v : Level) (x : Fork) (xs : List Fork) where
-  begun-beside : v .activity ≡ idle → v .waiting ≡ x ∷ xs → Tame v → x .stamp < c .stamp → begun p l (arrived c v) (arrived c v .waiting) ≡ beside c (begun p l v (v .waiting))
+  begun-beside : v .activity ≡ idle → v .waiting ≡ x ∷ xs → Bounded v → x .stamp < c .stamp → begun p l (arrived c v) (arrived c v .waiting) ≡ beside c (begun p l v (v .waiting))
   begun-beside q e t h =
       ap (begun p l (arrived c v)) front ∙ starts ∙ sym (ap (λ ws. beside c (begun p l v ws)) e)
     where
@@ -126,7 +126,7 @@ module _ (p : Program) (l : ℕ) (st st' : State) (x : Fork) (xs : List Fork) (r
   moved-reads v idle q = refl
   moved-reads v (busy y m) q = advanced-reads p st st' l v y m (rw (head-same y x (v .waiting) xs q) r)
 
-  moved-beside : (c : Fork) (v : Level) → Tame v → x .stamp < c .stamp → (a : Activity) → v .activity ≡ a → forksBy a (v .waiting) ≡ x ∷ xs → moved p st' l (arrived c v) a ≡ beside c (moved p st l v a)
+  moved-beside : (c : Fork) (v : Level) → Bounded v → x .stamp < c .stamp → (a : Activity) → v .activity ≡ a → forksBy a (v .waiting) ≡ x ∷ xs → moved p st' l (arrived c v) a ≡ beside c (moved p st l v a)
   unfolding moved
   moved-beside c v t h idle q e = begun-beside p l c v x xs q e t h
   moved-beside c v t h (busy y m) q e =
@@ -144,7 +144,7 @@ unfolding arrived
 arrived-looks l j x c v = looks-same l j x v (arrived c v) refl refl
 
 -- a safe step at level l, after a step at level k strictly below
-module _ (p : Program) (so : Sound p) (st : State) (i : Steady p st) (l k : ℕ) (s : Safe p st l) (hk : k < p .levels) (b : strictly (p .dom) l k ≡ true) where
+module _ (p : Program) (so : Sound p) (st : State) (i : StateInvariant p st) (l k : ℕ) (s : Safe p st l) (hk : k < p .levels) (b : strictly (p .dom) l k ≡ true) where
   abbrev x : Fork
   x = s .fork
 
@@ -156,16 +156,16 @@ module _ (p : Program) (so : Sound p) (st : State) (i : Steady p st) (l k : ℕ)
 
   -- each level that l sees looks the same to x
   changed : (j : ℕ) → j < p .levels → LooksSame l j x (levelAt st j) (levelAt next j)
-  changed j hj = by (levelAt next j) (became p so st (i .orderly) k hk j)
+  changed j hj = by (levelAt next j) (became p so st (i .fork-invariant) k hk j)
     where
       low : boundAt x k (levelAt st k) < writeStamp (levelAt st k)
       low =
           bound-below (writeStamp (levelAt st k)) x k (levelAt st k) (i .stamped .ended k hk)
-          (first-of (λ y. getD (y .seen) k 0 < writeStamp (levelAt st k)) (forksOf (levelAt st l)) (s .first) (i .stamped .carried l k (s .present) hk))
+          (first-of (λ y. getD (y .carried) k 0 < writeStamp (levelAt st k)) (forksOf (levelAt st l)) (s .first) (i .stamped .carried l k (s .present) hk))
 
       by : (v : Level) → Became p k st j v → LooksSame l j x (levelAt st j) v
       by v (own e q) =
-          rw (q, e) (marks-look l k x (levelAt st k) (moveAt p k st .own) (moveAt p k st .arrival) (step-marks p so st (i .orderly) k hk) low (s .below k hk b) (λ t. other-level p l k b t))
+          rw (q, e) (marks-look l k x (levelAt st k) (moveAt p k st .own) (moveAt p k st .arrival) (step-marks p so st (i .fork-invariant) k hk) low (s .below k hk b) (λ t. other-level p l k b t))
       by v (got c e g q) = rw q (arrived-looks l j x c (levelAt st j))
       by v (stayed n q) = rw q (looks-same l j x (levelAt st j) (levelAt st j) refl refl)
 
@@ -200,7 +200,7 @@ module _ (p : Program) (so : Sound p) (st : State) (i : Steady p st) (l k : ℕ)
   delayed-beside c q h =
       move-next (arrived c (levelAt st l)) q
       ∙ ap (moved (seenBy l p) (viewOf p l next) l (arrived c (levelAt st l))) (same-activity c (levelAt st l))
-      ∙ moved-beside (seenBy l p) l (viewOf p l st) (viewOf p l next) x (s .others) reads c (levelAt st l) (i .tame l) h (levelAt st l .activity) refl (s .first)
+      ∙ moved-beside (seenBy l p) l (viewOf p l st) (viewOf p l next) x (s .others) reads c (levelAt st l) (i .bounded l) h (levelAt st l .activity) refl (s .first)
       ∙ sym (ap (beside c) (move-is p l st so (s .present)))
     where
       same-activity : (c : Fork) (v : Level) → arrived c v .activity ≡ v .activity

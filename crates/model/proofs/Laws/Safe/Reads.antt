@@ -25,7 +25,7 @@ use Rattle.model.proofs.Laws.Safe.Safe.{Later, younger, ancestor, AllLa
 
 -- the write stamp up to which the manager of fork x reads at level j, which is v
 abbrev pub boundAt : Fork → ℕ → Level → ℕ
-boundAt x j v = cond (eqb (getD (x .seen) j 0) 0) (endBefore (x .stamp) (v .ended)) (getD (x .seen) j 0)
+boundAt x j v = cond (eqb (getD (x .carried) j 0) 0) (endBefore (x .stamp) (v .ended)) (getD (x .carried) j 0)
 
 -- level j, as v and as w, reads the same to the manager of fork x at level l
 pub record LooksSame (l j : ℕ) (x : Fork) (v w : Level) : Type 0 where
@@ -37,7 +37,7 @@ pub looks-same : (l j : ℕ) (x : Fork) (v w : Level) → v .versions ≡ w .ver
 looks-same l j x v w q e =
     record {
       own = λ _. q;
-      bound = λ _. ap (λ hs. cond (eqb (getD (x .seen) j 0) 0) (endBefore (x .stamp) hs) (getD (x .seen) j 0)) e;
+      bound = λ _. ap (λ hs. cond (eqb (getD (x .carried) j 0) 0) (endBefore (x .stamp) hs) (getD (x .carried) j 0)) e;
       below = λ _ i o k. ap (newestTo (boundAt x j v) i o k) q;
     }
 
@@ -108,9 +108,9 @@ last-below b d x (g ∷ gs) h e = elim (truth (ltb (g .stamp) x)) [
 ]
 
 -- so a manager's bound lies below the level's write stamp
-pub bound-below : (b : ℕ) (x : Fork) (j : ℕ) (v : Level) → Each (λ h. h .last < b) (v .ended) → getD (x .seen) j 0 < b → boundAt x j v < b
+pub bound-below : (b : ℕ) (x : Fork) (j : ℕ) (v : Level) → Each (λ h. h .last < b) (v .ended) → getD (x .carried) j 0 < b → boundAt x j v < b
 unfolding endBefore
-bound-below b x j v e h = elim (truth (eqb (getD (x .seen) j 0) 0)) [
+bound-below b x j v e h = elim (truth (eqb (getD (x .carried) j 0) 0)) [
   | holds q ↦ rw q (last-below b 0 (x .stamp) (v .ended) (omega (arith, h)) e)
   | fails q ↦ rw q h
 ]
@@ -120,19 +120,19 @@ pub marks-look : (l k : ℕ) (x : Fork) (v w : Level) (b : Arrival) → Marks k 
 marks-look l k x v w b m h a n =
     record {
       own = λ e. absurd (n e);
-      bound = λ _. same (truth (eqb (getD (x .seen) k 0) 0)) (m .closes);
+      bound = λ _. same (truth (eqb (getD (x .carried) k 0) 0)) (m .closes);
       below = λ _ i o f.
           sym (ap (newestTo (boundAt x k v) i o f) (m .versions) ∙ newest-added (boundAt x k v) i o f (m .fresh) (v .versions) (each-map (λ r. writeStamp v ≤ r .stamp) (λ r. boundAt x k v < r .stamp) (λ r g. omega (arith, g, h)) (m .fresh) (m .above)));
     }
   where
-    not-smaller : getD (x .seen) k 0 ≡ 0 → (s : ℕ) → (e : Entry) × ((e .stamp ≡ s) × Later x k e) → x .stamp ≤ s
+    not-smaller : getD (x .carried) k 0 ≡ 0 → (s : ℕ) → (e : Entry) × ((e .stamp ≡ s) × Later x k e) → x .stamp ≤ s
     not-smaller z s (e, (q, younger g t)) = omega (arith, q, g)
     not-smaller z s (e, (q, ancestor g t)) = absurd (g z)
 
-    same : Truth (eqb (getD (x .seen) k 0) 0) → Closes v w → boundAt x k v ≡ boundAt x k w
+    same : Truth (eqb (getD (x .carried) k 0) 0) → Closes v w → boundAt x k v ≡ boundAt x k w
     same (fails q) c = rw q refl
     same (holds q) (kept e) = rw q (ap (endBefore (x .stamp)) (sym e))
     same (holds q) (closed y ys g f t u e) =
         let old : x .stamp ≤ g .stamp =
-        rw t (not-smaller (eqb-true (getD (x .seen) k 0) 0 q) (y .stamp) (first-entry (Later x k) k v y ys f a)) in
+        rw t (not-smaller (eqb-true (getD (x .carried) k 0) 0 q) (y .stamp) (first-entry (Later x k) k v y ys f a)) in
         rw q (sym (ap (endBefore (x .stamp)) e ∙ end-inserted (x .stamp) g old (v .ended)))

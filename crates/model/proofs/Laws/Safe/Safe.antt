@@ -22,19 +22,19 @@ use Rattle.model.proofs.Laws.Invariant.Tree.{Entry, strictly-through, f
 use Rattle.model.proofs.Laws.Invariant.Forest.{rest-each}
 use Rattle.model.proofs.Laws.Steps.Diamond.{MayStep}
 use Rattle.model.proofs.Laws.Invariant.Entries.{runningEntry, waitingEntry, entriesBy, entriesOf, child-entry, arrived-joins}
-use Rattle.model.proofs.Laws.Invariant.Change.{Change, quiet, forks}
-use Rattle.model.proofs.Laws.Invariant.Orderly.{entriesIn, step-change, Orderly}
-use Rattle.model.proofs.Laws.Invariant.Keeps.{first-of}
-use Rattle.model.proofs.Laws.Invariant.Measure.{Tame}
+use Rattle.model.proofs.Laws.Invariant.Change.{Change, internal, forks}
+use Rattle.model.proofs.Laws.Invariant.Forks.{entriesIn, step-change, ForkInvariant}
+use Rattle.model.proofs.Laws.Invariant.Preserved.{first-of}
+use Rattle.model.proofs.Laws.Invariant.Measure.{Bounded}
 use Rattle.model.proofs.Laws.Invariant.WriteStamps.{forksBy, forksOf}
 use Rattle.model.proofs.Laws.Invariant.Became.{Became, own, got, stayed, became}
-use Rattle.model.proofs.Laws.Invariant.Stamped.{Steady}
+use Rattle.model.proofs.Laws.Invariant.State.{StateInvariant}
 
 -- what manager e at level j has still to do comes after the manager of fork x: its next child does, and it is younger itself, or an
 -- ancestor of x ran at its level
 pub data Later (x : Fork) (j : ℕ) (e : Entry) : Type 0 where
   younger : x .stamp < e .stamp → x .stamp < e .next → Later x j e
-  ancestor : (getD (x .seen) j 0 ≡ 0 → ⊥) → x .stamp < e .next → Later x j e
+  ancestor : (getD (x .carried) j 0 ≡ 0 → ⊥) → x .stamp < e .next → Later x j e
 
 pub later-next : {x : Fork} {j : ℕ} {e : Entry} → Later x j e → x .stamp < e .next
 later-next (younger h n) = n
@@ -119,7 +119,7 @@ at-none b u x q e = not-both (isNone b) (ap isNone e) (ap isNone q)
     isNone (at u x) = false
 
 -- a step at level k
-module _ (p : Program) (so : Sound p) (st : State) (o : Orderly p st) (k : ℕ) (hk : k < p .levels) where
+module _ (p : Program) (so : Sound p) (st : State) (o : ForkInvariant p st) (k : ℕ) (hk : k < p .levels) where
   change : Change p k (entriesIn st k) (entriesOf k (moveAt p k st .own)) (moveAt p k st .arrival)
   change = step-change p k st so hk (o .placed k hk)
 
@@ -134,7 +134,7 @@ module _ (p : Program) (so : Sound p) (st : State) (o : Orderly p st) (k : ℕ) 
           (omega (arith, here, later-next t), younger (omega (arith, here, later-next t)) (omega (arith, here, later-next t, more)))
 
       by : {G : List Entry} → Change p k (entriesIn st k) G (moveAt p k st .arrival) → (x .stamp < c .stamp) × Later x u (waitingEntry u c)
-      by (quiet e r) = absurd (at-none (moveAt p k st .arrival) u c q e)
+      by (internal e r) = absurd (at-none (moveAt p k st .arrival) u c q e)
       by (forks w y m message W e g r hu s f) =
           let same : c ≡ childOf k y m message = at-fork u w c (childOf k y m message) (sym q ∙ e) in
           after (runningEntry k y (m .forks)) (ap (waitingEntry u) same ∙ child-entry k u y m message)
@@ -149,7 +149,7 @@ module _ (p : Program) (so : Sound p) (st : State) (o : Orderly p st) (k : ℕ) 
       forked e (ancestor h n) = ancestor h (omega (arith, n))
 
       by : {G : List Entry} {b : Arrival} → Change p k (entriesIn st k) G b → Each (Later x k) G
-      by (quiet e r) = rest-each (Later x k) _ _ r a
+      by (internal e r) = rest-each (Later x k) _ _ r a
       by (forks w y m message W e g r hu s f) =
           rest-each (Later x k) _ _ r (unfold Each in (forked (runningEntry k y (m .forks)) ((rw g at a) .0), (rw g at a) .1))
 
@@ -169,7 +169,7 @@ taken-past (suc r) x c xs h l =
     let one : suc r - 1 ≡ r = omega arith in
     rw one (ap (take (suc r)) (inserted-past (λ y. y .stamp) c x xs (omega arith)))
 
-arrived-first : (x c : Fork) (xs : List Fork) (v : Level) → Tame v → forksOf v ≡ x ∷ xs → x .stamp < c .stamp → (ys : List Fork) × (forksOf (arrived c v) ≡ x ∷ ys)
+arrived-first : (x c : Fork) (xs : List Fork) (v : Level) → Bounded v → forksOf v ≡ x ∷ xs → x .stamp < c .stamp → (ys : List Fork) × (forksOf (arrived c v) ≡ x ∷ ys)
 unfolding arrived
 arrived-first x c xs v t q h = by (v .activity) (v .waiting) q (t .room)
   where
@@ -183,20 +183,20 @@ arrived-first x c xs v t q h = by (v .activity) (v .waiting) q (t .room)
         (rest, ap (λ z. z ∷ rest) (head-same y x ws xs q))
 
 -- Safe steps stay safe, whatever other level steps
-pub safe-stays : (p : Program) → Sound p → (st : State) → Steady p st → (l k : ℕ) → (l ≡ k → ⊥) → Safe p st l → k < p .levels → Safe p (stepAt p k st) l
+pub safe-stays : (p : Program) → Sound p → (st : State) → StateInvariant p st → (l k : ℕ) → (l ≡ k → ⊥) → Safe p st l → k < p .levels → Safe p (stepAt p k st) l
 safe-stays p so st i l k n s hk =
-    let (ys, q) = front (levelAt (stepAt p k st) l) (became p so st (i .orderly) k hk l) in
+    let (ys, q) = front (levelAt (stepAt p k st) l) (became p so st (i .fork-invariant) k hk l) in
     record {
       present = s .present;
       fork = s .fork;
       others = ys;
       first = q;
-      below = λ j hj b. later-kept p so st (i .orderly) k hk (s .fork) j (s .below j hj b) (λ c. s .below k hk (strictly-through (p .levels) (p .dom) (so .lattice .order) l j k (s .present) hj hk b c));
+      below = λ j hj b. later-kept p so st (i .fork-invariant) k hk (s .fork) j (s .below j hj b) (λ c. s .below k hk (strictly-through (p .levels) (p .dom) (so .lattice .order) l j k (s .present) hj hk b c));
     }
   where
     front : (v : Level) → Became p k st l v → (ys : List Fork) × (forksOf v ≡ s .fork ∷ ys)
     front v (own e q) = absurd (n e)
     front v (got c e b q) =
-        let (ys, g) = arrived-first (s .fork) c (s .others) (levelAt st l) (i .tame l) (s .first) (child-later p so st (i .orderly) k hk (s .fork) (s .below k hk b) l c e .0) in
+        let (ys, g) = arrived-first (s .fork) c (s .others) (levelAt st l) (i .bounded l) (s .first) (child-later p so st (i .fork-invariant) k hk (s .fork) (s .below k hk b) l c e .0) in
         (ys, ap forksOf q ∙ g)
     front v (stayed m q) = (s .others, ap forksOf q ∙ s .first)

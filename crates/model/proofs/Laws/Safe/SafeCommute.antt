@@ -18,10 +18,10 @@ use Rattle.model.proofs.Laws.Confluence.{Commuting}
 use Rattle.model.proofs.Laws.Lists.{modify-comm, modify-twice}
 use Rattle.model.proofs.Laws.Steps.Locality.{Above, Misses, delivered-modify, applied-comm}
 use Rattle.model.proofs.Laws.Steps.Diamond.{misses, move-same, step-is, diamond}
-use Rattle.model.proofs.Laws.Invariant.Orderly.{level-target, level-other}
-use Rattle.model.proofs.Laws.Invariant.Keeps.{other-level}
-use Rattle.model.proofs.Laws.Order.Commute.{orderly-above, moves-apart}
-use Rattle.model.proofs.Laws.Invariant.Stamped.{Steady, steady-keeps}
+use Rattle.model.proofs.Laws.Invariant.Forks.{level-target, level-other}
+use Rattle.model.proofs.Laws.Invariant.Preserved.{other-level}
+use Rattle.model.proofs.Laws.Order.Commute.{fork-invariant-above, moves-apart}
+use Rattle.model.proofs.Laws.Invariant.State.{StateInvariant, steady-preserves}
 use Rattle.model.proofs.Laws.Safe.Safe.{Safe, safe-managed, safe-stays, child-later}
 use Rattle.model.proofs.Laws.Safe.Delay.{beside, delayed, delayed-beside}
 
@@ -37,7 +37,7 @@ applied-at : (k l : ℕ) (c : Fork) (m : Moved) (st : State) → m .arrival ≡ 
 unfolding delivered
 applied-at k l c m st q = ap (λ b. delivered b (modify k (λ _. m .own) st)) q
 
-module _ (p : Program) (so : Sound p) (st : State) (i : Steady p st) where
+module _ (p : Program) (so : Sound p) (st : State) (i : StateInvariant p st) where
   -- a safe step at level l and a step at a level k strictly below
   above-comm : (l k : ℕ) → Safe p st l → k < p .levels → strictly (p .dom) l k ≡ true → p .dom k l ≡ false → stepAt p l (stepAt p k st) ≡ stepAt p k (stepAt p l st)
   above-comm l k s hk b kl =
@@ -47,7 +47,7 @@ module _ (p : Program) (so : Sound p) (st : State) (i : Steady p st) where
       lk q = other-level p l k b (sym q)
 
       al : Above p l (moveAt p l st .arrival)
-      al = orderly-above p so st (i .orderly) l (s .present)
+      al = fork-invariant-above p so st (i .fork-invariant) l (s .present)
 
       self : (a : Arrival) → Above p l a → Misses l a
       self none a = tt
@@ -70,13 +70,13 @@ module _ (p : Program) (so : Sound p) (st : State) (i : Steady p st) where
       missed : Misses l (moveAt p k st .arrival) → stepAt p l (stepAt p k st) ≡ stepAt p k (stepAt p l st)
       missed o =
           forth (moveAt p l st) (delayed p so st i l k s hk b (ap (λ t. levelAt t l) (step-is p (so .lattice .order) k st) ∙ level-other (moveAt p k st .arrival) k l (moveAt p k st .own) st (λ q. lk (sym q)) o))
-          ∙ applied-comm l k (moveAt p l st) (moveAt p k st) st lk (misses p (so .lattice .order) l k (moveAt p l st .arrival) kl al) o (moves-apart p so st (i .orderly) l k (s .present) hk lk)
+          ∙ applied-comm l k (moveAt p l st) (moveAt p k st) st lk (misses p (so .lattice .order) l k (moveAt p l st .arrival) kl al) o (moves-apart p so st (i .fork-invariant) l k (s .present) hk lk)
           ∙ sym back
 
       -- where it sends a fork
       sent : (c : Fork) → moveAt p k st .arrival ≡ at l c → stepAt p l (stepAt p k st) ≡ stepAt p k (stepAt p l st)
       sent c q =
-          forth (beside c (moveAt p l st)) (delayed-beside p so st i l k s hk b c gets (child-later p so st (i .orderly) k hk (s .fork) (s .below k hk b) l c q .0))
+          forth (beside c (moveAt p l st)) (delayed-beside p so st i l k s hk b c gets (child-later p so st (i .fork-invariant) k hk (s .fork) (s .below k hk b) l c q .0))
           ∙ ap (applied l (beside c (moveAt p l st))) (applied-at k l c (moveAt p k st) st q)
           ∙ beside-comm l k c (moveAt p l st) (moveAt p k st .own) st lk (misses p (so .lattice .order) l k (moveAt p l st .arrival) kl al) (self (moveAt p l st .arrival) al)
           ∙ sym (applied-at k l c (moveAt p k st) (applied l (moveAt p l st) st) q)
@@ -86,7 +86,7 @@ module _ (p : Program) (so : Sound p) (st : State) (i : Steady p st) where
           gets =
               ap (λ t. levelAt t l) (step-is p (so .lattice .order) k st)
               ∙ ap (λ a. levelAt (delivered a (modify k (λ _. moveAt p k st .own) st)) l) q
-              ∙ level-target l c k (moveAt p k st .own) st (λ e. lk (sym e)) (rw (i .orderly .size) (s .present))
+              ∙ level-target l c k (moveAt p k st .own) st (λ e. lk (sym e)) (rw (i .fork-invariant .size) (s .present))
 
       by : (b : Arrival) → moveAt p k st .arrival ≡ b → stepAt p l (stepAt p k st) ≡ stepAt p k (stepAt p l st)
       by none q = missed (rw q tt)
@@ -109,16 +109,16 @@ module _ (p : Program) (so : Sound p) (st : State) (i : Steady p st) where
       | holds e ↦
           sym (above-comm k l t (s .present) (strictly-is k l (λ q. n (sym q)) e) (one-way k l (t .present) (s .present) (λ q. n (sym q)) e))
       | fails e ↦
-          diamond p (so .lattice .order) st l k n (s .present) (t .present) d e (orderly-above p so st (i .orderly) l (s .present)) (orderly-above p so st (i .orderly) k (t .present))
-          (moves-apart p so st (i .orderly) l k (s .present) (t .present) n)
+          diamond p (so .lattice .order) st l k n (s .present) (t .present) d e (fork-invariant-above p so st (i .fork-invariant) l (s .present)) (fork-invariant-above p so st (i .fork-invariant) k (t .present))
+          (moves-apart p so st (i .fork-invariant) l k (s .present) (t .present) n)
     ]
   ]
 
 -- safe steps commute
-pub safe-commute : (p : Program) → Sound p → Commuting State (stepAt p) (Safe p) (Steady p)
+pub safe-commute : (p : Program) → Sound p → Commuting State (stepAt p) (Safe p) (StateInvariant p)
 safe-commute p so =
     record {
-      keeps = λ st l i s. steady-keeps p so st i l (s .present) (safe-managed s);
+      preserves = λ st l i s. steady-preserves p so st i l (s .present) (safe-managed s);
       stays = λ st l k n i s t. safe-stays p so st i l k n s (t .present);
       commute = λ st l k n i s t. safe-comm p so st i l k n s t;
     }

@@ -1,21 +1,21 @@
--- `scheduler::plain::run_next` meets its contract. The invariant: the words say a state that the steps of the manager have led to since its
+-- `scheduler::plain::run_next` meets its contract. The invariant: the words represent a state that the steps of the manager have led to since its
 -- start, and what is kept of its reads is what it reads. Assumes nothing.
 use mathlib.Core.Path.{_≡_, refl, sym, _∙_, ap}
 use mathlib.Core.Bool.{true}
 use borrow.Author.Needs.{needs}
 use Rattle.scripts.specs.Ending.{isRunning}
 use Rattle.scheduler.proofs.Laws.Asks.{asks-nothing}
-use Rattle.scheduler.proofs.Laws.Going.{stepsLeft, able, able-more}
-use Rattle.scheduler.proofs.Laws.Next.{NextLoop, starts, next-start, next-tells, next-performs, told-less, told-again, done-less, done-again, next-done}
+use Rattle.scheduler.proofs.Laws.Running.{stepsLeft, able, able-more}
+use Rattle.scheduler.proofs.Laws.Next.{NextLoop, starts, next-start, next-reads, next-performs, represents-less, represents-again, done-less, done-again, next-done}
 use Rattle.scheduler.proofs.plain.run_next.Statement.{statement}
 use Rattle.scheduler.proofs.plain.run_next.Tie as tie
 
 abbrev Inv-loop : tie.InvT-loop
-Inv-loop session masks index current₀ ended₀ tallies₀ queue₀ work₀ level seen₀ m₀ ending₀ current ended tallies queue work seen m ending =
-    NextLoop session (record { current = current₀; ended = ended₀; tallies = tallies₀; queue = queue₀; work = work₀ }) (record { current = current; ended = ended; tallies = tallies; queue = queue; work = work }) level m₀ m seen × (ending ≡ m .core .ending)
+Inv-loop session masks index current₀ ended₀ tallies₀ queue₀ work₀ level cache₀ m₀ ending₀ current ended tallies queue work cache m ending =
+    NextLoop session (record { current = current₀; ended = ended₀; tallies = tallies₀; queue = queue₀; work = work₀ }) (record { current = current; ended = ended; tallies = tallies; queue = queue; work = work }) level m₀ m cache × (ending ≡ m .core .ending)
 
 abbrev μ-loop : tie.MeasureT-loop
-μ-loop session masks index current₀ ended₀ tallies₀ queue₀ work₀ level seen₀ m₀ ending₀ current ended tallies queue work seen m ending = stepsLeft session seen m
+μ-loop session masks index current₀ ended₀ tallies₀ queue₀ work₀ level cache₀ m₀ ending₀ current ended tallies queue work cache m ending = stepsLeft session cache m
 
 start-requires : tie.Need-start-requires Inv-loop μ-loop
 start-requires c κs =
@@ -32,13 +32,13 @@ is-running-requires : tie.Need-is-running-requires Inv-loop μ-loop
 is-running-requires c κs = search needs
 
 slice-aggregate-advance : tie.Need-slice-aggregate-advance Inv-loop μ-loop
-slice-aggregate-advance c = search (needs, c .before .before .before .before .loop .inv .0 .seen-long)
+slice-aggregate-advance c = search (needs, c .before .before .before .before .loop .inv .0 .cache-long)
 
 advance-requires : tie.Need-advance-requires Inv-loop μ-loop
 advance-requires c κs =
     let z = c .before .before .before .before .before .before .before .before .before .before .before .before .before .before .before .before .before .before .before .before .before .before in
     let i = c .before .before .before .before .loop .inv in
-    let go = i .0 .goes (ap isRunning (sym (i .1)) ∙ sym (c .before .before .before .is-running .ensures) ∙ c .before .before .if1 .taken) in
+    let go = i .0 .runs-on (ap isRunning (sym (i .1)) ∙ sym (c .before .before .before .is-running .ensures) ∙ c .before .before .if1 .taken) in
     (able (z .pre .0) go, able-more (z .pre .0) go)
 
 -- it ran when it advanced
@@ -50,30 +50,30 @@ enum-known-effect : tie.Need-enum-known-effect Inv-loop μ-loop
 enum-known-effect c = search needs
 
 -- it asks for a field
-slice-aggregate-tell : tie.Need-slice-aggregate-tell Inv-loop μ-loop
-slice-aggregate-tell c = search (needs, c .before .before .before .before .before .before .before .before .before .before .before .before .before .before .before .loop .inv .0 .seen-long)
+slice-aggregate-answer-read : tie.Need-slice-aggregate-answer-read Inv-loop μ-loop
+slice-aggregate-answer-read c = search (needs, c .before .before .before .before .before .before .before .before .before .before .before .before .before .before .before .loop .inv .0 .cache-long)
 
-tell-requires : tie.Need-tell-requires Inv-loop μ-loop
-tell-requires c κs =
+answer-read-requires : tie.Need-answer-read-requires Inv-loop μ-loop
+answer-read-requires c κs =
     let a = c .before .before .before .before .before .before .before .before .before .before in
     let b = a .before .before .before .before .before .before .before .before .before .before .before in
     let z = b .before .before .before .before .before .before .before .before .before .before .before .before in
     let e = c .before .before .before .before .before .before .before .effect .given in
-    (z .pre .0 .leveled, next-tells (z .pre .0) (z .pre .1) (b .start .ensures .0) (b .start .ensures .1) (a .before .before .before .before .before .loop .inv .0) (runs a) (a .advance .ensures) (e .1))
+    (z .pre .0 .leveled, next-reads (z .pre .0) (z .pre .1) (b .start .ensures .0) (b .start .ensures .1) (a .before .before .before .before .before .loop .inv .0) (runs a) (a .advance .ensures) (e .1))
 
 loop-less : tie.Need-loop-less Inv-loop μ-loop
 loop-less c =
     let a = c .before .before .before .before .before .before .before .before .before .before .before .before in
     let b = a .before .before .before .before .before .before .before .before .before .before .before in
     let z = b .before .before .before .before .before .before .before .before .before .before .before .before in
-    told-less (z .pre .0) (z .pre .1) (b .start .ensures .0) (b .start .ensures .1) (a .before .before .before .before .before .loop .inv .0) (runs a) (a .advance .ensures) (c .before .before .before .before .before .before .before .before .before .effect .given .1) (c .before .tell .ensures)
+    represents-less (z .pre .0) (z .pre .1) (b .start .ensures .0) (b .start .ensures .1) (a .before .before .before .before .before .loop .inv .0) (runs a) (a .advance .ensures) (c .before .before .before .before .before .before .before .before .before .effect .given .1) (c .before .answer_read .ensures)
 
 loop-again : tie.Need-loop-again Inv-loop μ-loop
 loop-again c =
     let a = c .before .before .before .before .before .before .before .before .before .before .before .before in
     let b = a .before .before .before .before .before .before .before .before .before .before .before in
     let z = b .before .before .before .before .before .before .before .before .before .before .before .before in
-    (told-again (z .pre .0) (z .pre .1) (b .start .ensures .0) (b .start .ensures .1) (a .before .before .before .before .before .loop .inv .0) (runs a) (a .advance .ensures) (c .before .before .before .before .before .before .before .before .before .effect .given .1) (c .before .tell .ensures) (c .before .tell .kept .1 .1 .1 .1 .1 .1 .1 .0), refl)
+    (represents-again (z .pre .0) (z .pre .1) (b .start .ensures .0) (b .start .ensures .1) (a .before .before .before .before .before .loop .inv .0) (runs a) (a .advance .ensures) (c .before .before .before .before .before .before .before .before .before .effect .given .1) (c .before .answer_read .ensures) (c .before .answer_read .kept .1 .1 .1 .1 .1 .1 .1 .0), refl)
 
 -- it asks for none
 done-requires : tie.Need-done-requires Inv-loop μ-loop
@@ -132,8 +132,8 @@ run-next-spec =
     slice-aggregate-advance
     advance-requires
     enum-known-effect
-    slice-aggregate-tell
-    tell-requires
+    slice-aggregate-answer-read
+    answer-read-requires
     loop-less
     loop-again
     done-requires

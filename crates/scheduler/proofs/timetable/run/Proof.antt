@@ -1,4 +1,4 @@
--- `scheduler::timetable::run` meets its contract. The invariant: the words say a state from which the rest of the timetable ends as the whole
+-- `scheduler::timetable::run` meets its contract. The invariant: the words represent a state from which the rest of the timetable ends as the whole
 -- does; the managers that run are as their steps leave them, and nothing is kept of what they read. Assumes nothing.
 use Prim.Native.Nat.{ℕ, _*_, _-_, _<_}
 use mathlib.Core.Path.{_≡_, refl, sym, _∙_, ap}
@@ -17,13 +17,13 @@ use Rattle.scripts.specs.Ending.{isRunning}
 use Rattle.scripts.specs.declared.Ending.the-variants.{Running}
 use Rattle.managers.specs.declared.Effect.the-variants.{Nothing}
 use Rattle.managers.specs.declared.Manager.{Manager}
-use Rattle.level_managers.specs.Kept.{Words}
+use Rattle.level_managers.specs.Representation.{Words}
 use Rattle.tallies.specs.Permits.{isGiven}
 use Rattle.tallies.specs.declared.Permit.{Permit}
 use Rattle.tallies.specs.declared.Permit.the-variants.{Given, Absent, Idle, Blocked}
 use Rattle.tallies.proofs.Permit as permit
 use Rattle.scheduler.proofs.Laws.Asks.{asks-nothing}
-use Rattle.scheduler.proofs.Laws.Listed.{ListLoop, list-start, list-counted, list-fits, list-ends, list-refused, Permitted, permitted, list-present, list-numbers, list-starts, list-started, list-able, list-made, list-tells, list-able-told, list-forgets, list-answered, list-performs, list-done}
+use Rattle.scheduler.proofs.Laws.Listed.{ListLoop, list-start, list-counted, list-fits, list-ends, list-refused, Permitted, permitted, list-present, list-numbers, list-starts, list-started, list-able, list-made, list-reads, list-able-represents, list-forgets, list-answered, list-performs, list-done}
 use Rattle.scheduler.proofs.timetable.run.Statement.{statement}
 use Rattle.scheduler.proofs.timetable.run.Tie as tie
 
@@ -62,11 +62,11 @@ small : (n : ℕ) → n < 8 → Fits w64 (n * managerBytes)
 small n h = record { fits = omega (arith, h) }
 
 abbrev Inv-loop : tie.InvT-loop
-Inv-loop session timetable masks index current₀ ended₀ tallies₀ queue₀ work₀ managers₀ seen₀ i₀ i-end current ended tallies queue work managers seen i =
-    ListLoop session timetable none (record { current = current₀; ended = ended₀; tallies = tallies₀; queue = queue₀; work = work₀ }) (record { current = current; ended = ended; tallies = tallies; queue = queue; work = work }) managers seen i
+Inv-loop session timetable masks index current₀ ended₀ tallies₀ queue₀ work₀ managers₀ cache₀ i₀ i-end current ended tallies queue work managers cache i =
+    ListLoop session timetable none (record { current = current₀; ended = ended₀; tallies = tallies₀; queue = queue₀; work = work₀ }) (record { current = current; ended = ended; tallies = tallies; queue = queue; work = work }) managers cache i
 
 abbrev μ-loop : tie.MeasureT-loop
-μ-loop session timetable masks index current₀ ended₀ tallies₀ queue₀ work₀ managers₀ seen₀ i₀ i-end current ended tallies queue work managers seen i = length timetable - i
+μ-loop session timetable masks index current₀ ended₀ tallies₀ queue₀ work₀ managers₀ cache₀ i₀ i-end current ended tallies queue work managers cache i = length timetable - i
 
 -- the words that it is called with, and those at the loop's head
 abbrev entry : tie.Start Inv-loop μ-loop → Words
@@ -78,7 +78,7 @@ reached c =
     record { current = c .loop .current; ended = c .loop .ended; tallies = c .loop .tallies; queue = c .loop .queue; work = c .loop .work }
 
 -- a step that is permitted
-here : (c : tie.After-enum-told Inv-loop μ-loop) → Permitted (c .before .before .before .before .before .before .before .before .before .before .before .before .before .before .before .before .before .before .before .args .session .now) (c .before .before .before .before .before .before .before .before .before .before .before .before .before .before .before .before .before .before .before .args .masks .now) (c .before .before .before .before .before .before .before .before .before .before .before .before .before .before .before .before .before .before .before .args .index .now) (c .before .before .before .before .before .before .before .before .before .before .before .before .before .before .before .before .before .before .before .args .timetable .now) none (entry (c .before .before .before .before .before .before .before .before .before .before .before .before .before .before .before .before .before .before .before)) (reached (c .before .before .before .before .before .before .before .before)) (c .before .before .before .before .before .before .before .before .loop .managers) (c .before .before .before .before .before .before .before .before .loop .seen) (c .before .before .before .before .before .before .before .before .loop .i) (c .before .before .before .before .ask .last .1 .0)
+here : (c : tie.After-enum-told Inv-loop μ-loop) → Permitted (c .before .before .before .before .before .before .before .before .before .before .before .before .before .before .before .before .before .before .before .args .session .now) (c .before .before .before .before .before .before .before .before .before .before .before .before .before .before .before .before .before .before .before .args .masks .now) (c .before .before .before .before .before .before .before .before .before .before .before .before .before .before .before .before .before .before .before .args .index .now) (c .before .before .before .before .before .before .before .before .before .before .before .before .before .before .before .before .before .before .before .args .timetable .now) none (entry (c .before .before .before .before .before .before .before .before .before .before .before .before .before .before .before .before .before .before .before)) (reached (c .before .before .before .before .before .before .before .before)) (c .before .before .before .before .before .before .before .before .loop .managers) (c .before .before .before .before .before .before .before .before .loop .cache) (c .before .before .before .before .before .before .before .before .loop .i) (c .before .before .before .before .ask .last .1 .0)
 here c =
     let a = c .before .before .before .before .ask in
     permitted (c .before .before .before .before .before .before .before .before .before .before .before .before .before .before .before .before .before .before .before .pre .0) (c .before .before .before .before .before .before .before .before .loop .inv) (c .before .before .before .before .before .before .before .loop-test .taken) (a .ensures .0) (a .ensures .1) (c .enum-told .given .1)
@@ -169,7 +169,7 @@ array-copy-out-m c = list-present (here (c .before .before .before))
 
 slice-aggregate-step : tie.Need-slice-aggregate-step Inv-loop μ-loop
 slice-aggregate-step c =
-    search (needs, c .before .before .before .before .before .before .before .before .before .before .before .before .before .before .loop .inv .seen-long)
+    search (needs, c .before .before .before .before .before .before .before .before .before .before .before .before .before .before .loop .inv .cache-long)
 
 step-requires : tie.Need-step-requires Inv-loop μ-loop
 step-requires c κs =
@@ -178,37 +178,37 @@ step-requires c κs =
 enum-known-effect : tie.Need-enum-known-effect Inv-loop μ-loop
 enum-known-effect c = search needs
 
-slice-aggregate-tell : tie.Need-slice-aggregate-tell Inv-loop μ-loop
-slice-aggregate-tell c =
-    search (needs, c .before .before .before .before .before .before .before .before .before .before .before .before .before .before .before .before .before .before .before .before .before .before .before .before .before .loop .inv .seen-long)
+slice-aggregate-answer-read : tie.Need-slice-aggregate-answer-read Inv-loop μ-loop
+slice-aggregate-answer-read c =
+    search (needs, c .before .before .before .before .before .before .before .before .before .before .before .before .before .before .before .before .before .before .before .before .before .before .before .before .before .loop .inv .cache-long)
 
-tell-requires : tie.Need-tell-requires Inv-loop μ-loop
-tell-requires c κs =
-    list-tells (here (c .before .before .before .before .before .before .before .before .before .before .before .before .before .before .before .before .before)) (sym (c .before .before .before .before .before .before .before .before .before .before .before .before .before .before .before .is-busy .ensures) ∙ not-false (c .before .before .before .before .before .before .before .before .before .before .before .before .before .before .before .is-busy .result) (c .before .before .before .before .before .before .before .before .before .before .before .before .before .before .if1 .left)) (c .before .before .before .before .before .before .before .before .before .before .step .ensures) (c .before .before .before .before .before .before .before .effect .given .1)
+answer-read-requires : tie.Need-answer-read-requires Inv-loop μ-loop
+answer-read-requires c κs =
+    list-reads (here (c .before .before .before .before .before .before .before .before .before .before .before .before .before .before .before .before .before)) (sym (c .before .before .before .before .before .before .before .before .before .before .before .before .before .before .before .is-busy .ensures) ∙ not-false (c .before .before .before .before .before .before .before .before .before .before .before .before .before .before .before .is-busy .result) (c .before .before .before .before .before .before .before .before .before .before .before .before .before .before .if1 .left)) (c .before .before .before .before .before .before .before .before .before .before .step .ensures) (c .before .before .before .before .before .before .before .effect .given .1)
 
 slice-aggregate-step-2 : tie.Need-slice-aggregate-step-2 Inv-loop μ-loop
 slice-aggregate-step-2 c =
-    search (needs, c .before .before .before .tell .kept .1 .1 .1 .1 .1 .1 .1 .0 ∙ c .before .before .before .before .before .before .before .before .before .before .before .before .before .before .before .before .before .before .before .before .before .before .before .before .before .before .before .before .before .loop .inv .seen-long)
+    search (needs, c .before .before .before .answer_read .kept .1 .1 .1 .1 .1 .1 .1 .0 ∙ c .before .before .before .before .before .before .before .before .before .before .before .before .before .before .before .before .before .before .before .before .before .before .before .before .before .before .before .before .before .loop .inv .cache-long)
 
 step-requires-2 : tie.Need-step-requires-2 Inv-loop μ-loop
 step-requires-2 c κs =
-    list-able-told (here (c .before .before .before .before .before .before .before .before .before .before .before .before .before .before .before .before .before .before .before .before .before)) (sym (c .before .before .before .before .before .before .before .before .before .before .before .before .before .before .before .before .before .before .before .is-busy .ensures) ∙ not-false (c .before .before .before .before .before .before .before .before .before .before .before .before .before .before .before .before .before .before .before .is-busy .result) (c .before .before .before .before .before .before .before .before .before .before .before .before .before .before .before .before .before .before .if1 .left)) (c .before .before .before .before .before .before .before .before .before .before .before .before .before .before .step .ensures) (c .before .before .before .before .before .before .before .before .before .before .before .effect .given .1) (c .before .before .before .tell .ensures)
+    list-able-represents (here (c .before .before .before .before .before .before .before .before .before .before .before .before .before .before .before .before .before .before .before .before .before)) (sym (c .before .before .before .before .before .before .before .before .before .before .before .before .before .before .before .before .before .before .before .is-busy .ensures) ∙ not-false (c .before .before .before .before .before .before .before .before .before .before .before .before .before .before .before .before .before .before .before .is-busy .result) (c .before .before .before .before .before .before .before .before .before .before .before .before .before .before .before .before .before .before .if1 .left)) (c .before .before .before .before .before .before .before .before .before .before .before .before .before .before .step .ensures) (c .before .before .before .before .before .before .before .before .before .before .before .effect .given .1) (c .before .before .before .answer_read .ensures)
 
 slice-aggregate-forget : tie.Need-slice-aggregate-forget Inv-loop μ-loop
 slice-aggregate-forget c =
-    search (needs, c .before .before .before .before .before .tell .kept .1 .1 .1 .1 .1 .1 .1 .0 ∙ c .before .before .before .before .before .before .before .before .before .before .before .before .before .before .before .before .before .before .before .before .before .before .before .before .before .before .before .before .before .before .before .loop .inv .seen-long)
+    search (needs, c .before .before .before .before .before .answer_read .kept .1 .1 .1 .1 .1 .1 .1 .0 ∙ c .before .before .before .before .before .before .before .before .before .before .before .before .before .before .before .before .before .before .before .before .before .before .before .before .before .before .before .before .before .before .before .loop .inv .cache-long)
 
 cast-forget : tie.Need-cast-forget Inv-loop μ-loop
 cast-forget c = search needs
 
 cast-forget-2 : tie.Need-cast-forget-2 Inv-loop μ-loop
 cast-forget-2 c =
-    let there = list-forgets (here (c .before .before .before .before .before .before .before .before .before .before .before .before .before .before .before .before .before .before .before .before .before .before .before)) (sym (c .before .before .before .before .before .before .before .before .before .before .before .before .before .before .before .before .before .before .before .before .before .is-busy .ensures) ∙ not-false (c .before .before .before .before .before .before .before .before .before .before .before .before .before .before .before .before .before .before .before .before .before .is-busy .result) (c .before .before .before .before .before .before .before .before .before .before .before .before .before .before .before .before .before .before .before .before .if1 .left)) (c .before .before .before .before .before .before .before .before .before .before .before .before .before .before .before .before .step .ensures) (c .before .before .before .before .before .before .before .before .before .before .before .before .before .effect .given .1) (c .before .before .before .before .before .tell .ensures) in
+    let there = list-forgets (here (c .before .before .before .before .before .before .before .before .before .before .before .before .before .before .before .before .before .before .before .before .before .before .before)) (sym (c .before .before .before .before .before .before .before .before .before .before .before .before .before .before .before .before .before .before .before .before .before .is-busy .ensures) ∙ not-false (c .before .before .before .before .before .before .before .before .before .before .before .before .before .before .before .before .before .before .before .before .before .is-busy .result) (c .before .before .before .before .before .before .before .before .before .before .before .before .before .before .before .before .before .before .before .before .if1 .left)) (c .before .before .before .before .before .before .before .before .before .before .before .before .before .before .before .before .step .ensures) (c .before .before .before .before .before .before .before .before .before .before .before .before .before .effect .given .1) (c .before .before .before .before .before .answer_read .ensures) in
     omega (arith, there .field)
 
 forget-requires : tie.Need-forget-requires Inv-loop μ-loop
 forget-requires c κs =
-    let there = list-forgets (here (c .before .before .before .before .before .before .before .before .before .before .before .before .before .before .before .before .before .before .before .before .before .before .before)) (sym (c .before .before .before .before .before .before .before .before .before .before .before .before .before .before .before .before .before .before .before .before .before .is-busy .ensures) ∙ not-false (c .before .before .before .before .before .before .before .before .before .before .before .before .before .before .before .before .before .before .before .before .before .is-busy .result) (c .before .before .before .before .before .before .before .before .before .before .before .before .before .before .before .before .before .before .before .before .if1 .left)) (c .before .before .before .before .before .before .before .before .before .before .before .before .before .before .before .before .step .ensures) (c .before .before .before .before .before .before .before .before .before .before .before .before .before .effect .given .1) (c .before .before .before .before .before .tell .ensures) in
+    let there = list-forgets (here (c .before .before .before .before .before .before .before .before .before .before .before .before .before .before .before .before .before .before .before .before .before .before .before)) (sym (c .before .before .before .before .before .before .before .before .before .before .before .before .before .before .before .before .before .before .before .before .before .is-busy .ensures) ∙ not-false (c .before .before .before .before .before .before .before .before .before .before .before .before .before .before .before .before .before .before .before .before .before .is-busy .result) (c .before .before .before .before .before .before .before .before .before .before .before .before .before .before .before .before .before .before .before .before .if1 .left)) (c .before .before .before .before .before .before .before .before .before .before .before .before .before .before .before .before .step .ensures) (c .before .before .before .before .before .before .before .before .before .before .before .before .before .effect .given .1) (c .before .before .before .before .before .answer_read .ensures) in
     record { room = there .room; object = there .object; field = omega (arith, there .field) }
 
 mul-managers-2 : tie.Need-mul-managers-2 Inv-loop μ-loop
@@ -223,7 +223,7 @@ done-requires : tie.Need-done-requires Inv-loop μ-loop
 done-requires c κs =
     let g = here (c .before .before .before .before .before .before .before .before .before .before .before .before .before .before .before .before .before .before .before .before .before .before .before .before .before .before .before .before .before .before .before) in
     let busy = sym (c .before .before .before .before .before .before .before .before .before .before .before .before .before .before .before .before .before .before .before .before .before .before .before .before .before .before .before .before .before .is-busy .ensures) ∙ not-false (c .before .before .before .before .before .before .before .before .before .before .before .before .before .before .before .before .before .before .before .before .before .before .before .before .before .before .before .before .before .is-busy .result) (c .before .before .before .before .before .before .before .before .before .before .before .before .before .before .before .before .before .before .before .before .before .before .before .before .before .before .before .before .if1 .left) in
-    let made = list-answered g busy (c .before .before .before .before .before .before .before .before .before .before .before .before .before .before .before .before .before .before .before .before .before .before .before .before .step .ensures) (c .before .before .before .before .before .before .before .before .before .before .before .before .before .before .before .before .before .before .before .before .before .effect .given .1) (c .before .before .before .before .before .before .before .before .before .before .before .before .before .tell .ensures) (c .before .before .before .before .before .before .before .before .before .step2 .ensures) (c .before .before .before .before .before .before .before .forget .ensures) in
+    let made = list-answered g busy (c .before .before .before .before .before .before .before .before .before .before .before .before .before .before .before .before .before .before .before .before .before .before .before .before .step .ensures) (c .before .before .before .before .before .before .before .before .before .before .before .before .before .before .before .before .before .before .before .before .before .effect .given .1) (c .before .before .before .before .before .before .before .before .before .before .before .before .before .answer_read .ensures) (c .before .before .before .before .before .before .before .before .before .step2 .ensures) (c .before .before .before .before .before .before .before .forget .ensures) in
     list-performs g busy made
 
 add-i-2 : tie.Need-add-i-2 Inv-loop μ-loop
@@ -239,9 +239,9 @@ loop-again-2 : tie.Need-loop-again-2 Inv-loop μ-loop
 loop-again-2 c =
     let g = here (c .before .before .before .before .before .before .before .before .before .before .before .before .before .before .before .before .before .before .before .before .before .before .before .before .before .before .before .before .before .before .before .before .before .before .before .before .before .before .before .before .before .before) in
     let busy = sym (c .before .before .before .before .before .before .before .before .before .before .before .before .before .before .before .before .before .before .before .before .before .before .before .before .before .before .before .before .before .before .before .before .before .before .before .before .before .before .before .before .is-busy .ensures) ∙ not-false (c .before .before .before .before .before .before .before .before .before .before .before .before .before .before .before .before .before .before .before .before .before .before .before .before .before .before .before .before .before .before .before .before .before .before .before .before .before .before .before .before .is-busy .result) (c .before .before .before .before .before .before .before .before .before .before .before .before .before .before .before .before .before .before .before .before .before .before .before .before .before .before .before .before .before .before .before .before .before .before .before .before .before .before .before .if1 .left) in
-    let made = list-answered g busy (c .before .before .before .before .before .before .before .before .before .before .before .before .before .before .before .before .before .before .before .before .before .before .before .before .before .before .before .before .before .before .before .before .before .before .before .step .ensures) (c .before .before .before .before .before .before .before .before .before .before .before .before .before .before .before .before .before .before .before .before .before .before .before .before .before .before .before .before .before .before .before .before .effect .given .1) (c .before .before .before .before .before .before .before .before .before .before .before .before .before .before .before .before .before .before .before .before .before .before .before .before .tell .ensures) (c .before .before .before .before .before .before .before .before .before .before .before .before .before .before .before .before .before .before .before .before .step2 .ensures) (c .before .before .before .before .before .before .before .before .before .before .before .before .before .before .before .before .before .before .forget .ensures) in
+    let made = list-answered g busy (c .before .before .before .before .before .before .before .before .before .before .before .before .before .before .before .before .before .before .before .before .before .before .before .before .before .before .before .before .before .before .before .before .before .before .before .step .ensures) (c .before .before .before .before .before .before .before .before .before .before .before .before .before .before .before .before .before .before .before .before .before .before .before .before .before .before .before .before .before .before .before .before .effect .given .1) (c .before .before .before .before .before .before .before .before .before .before .before .before .before .before .before .before .before .before .before .before .before .before .before .before .answer_read .ensures) (c .before .before .before .before .before .before .before .before .before .before .before .before .before .before .before .before .before .before .before .before .step2 .ensures) (c .before .before .before .before .before .before .before .before .before .before .before .before .before .before .before .before .before .before .forget .ensures) in
     let r = c .before .before .before .before .before .before .before .before .before .before .done in
-    list-done g busy made (r .ensures) (c .before .before .before .before .before .before .before .before .before .before .before .before .before .before .before .before .before .before .forget .kept .0 ∙ c .before .before .before .before .before .before .before .before .before .before .before .before .before .before .before .before .before .before .before .before .before .before .before .before .tell .kept .1 .1 .1 .1 .1 .1 .1 .0) (r .kept .0) (r .kept .1 .0) (r .kept .1 .1 .0) (r .kept .1 .1 .1 .0) (r .kept .1 .1 .1 .1 .0)
+    list-done g busy made (r .ensures) (c .before .before .before .before .before .before .before .before .before .before .before .before .before .before .before .before .before .before .forget .kept .0 ∙ c .before .before .before .before .before .before .before .before .before .before .before .before .before .before .before .before .before .before .before .before .before .before .before .before .answer_read .kept .1 .1 .1 .1 .1 .1 .1 .0) (r .kept .0) (r .kept .1 .0) (r .kept .1 .1 .0) (r .kept .1 .1 .1 .0) (r .kept .1 .1 .1 .1 .0)
 
 mul-managers-3 : tie.Need-mul-managers-3 Inv-loop μ-loop
 mul-managers-3 c =
@@ -302,4 +302,4 @@ returns-2 c =
 pub run-spec : {M : Type 1} → statement M
 run-spec =
     tie.close
-    (tie.spec Inv-loop μ-loop none-requires loop-holds shared-slice-read-level cast-level ask-requires enum-told cast-refused-at refused-at-requires same-length same-length-2 same-length-3 same-length-4 same-length-5 returns is-busy-requires start-requires mul-managers array-set-from-managers add-i loop-less loop-again mul-m array-copy-out-m slice-aggregate-step step-requires enum-known-effect slice-aggregate-tell tell-requires slice-aggregate-step-2 step-requires-2 slice-aggregate-forget cast-forget cast-forget-2 forget-requires mul-managers-2 array-set-from-managers-2 done-requires add-i-2 loop-less-2 loop-again-2 mul-managers-3 array-set-from-managers-3 done-requires-2 add-i-3 loop-less-3 loop-again-3 at-end-requires same-length-6 same-length-7 same-length-8 same-length-9 same-length-10 returns-2)
+    (tie.spec Inv-loop μ-loop none-requires loop-holds shared-slice-read-level cast-level ask-requires enum-told cast-refused-at refused-at-requires same-length same-length-2 same-length-3 same-length-4 same-length-5 returns is-busy-requires start-requires mul-managers array-set-from-managers add-i loop-less loop-again mul-m array-copy-out-m slice-aggregate-step step-requires enum-known-effect slice-aggregate-answer-read answer-read-requires slice-aggregate-step-2 step-requires-2 slice-aggregate-forget cast-forget cast-forget-2 forget-requires mul-managers-2 array-set-from-managers-2 done-requires add-i-2 loop-less-2 loop-again-2 mul-managers-3 array-set-from-managers-3 done-requires-2 add-i-3 loop-less-3 loop-again-3 at-end-requires same-length-6 same-length-7 same-length-8 same-length-9 same-length-10 returns-2)

@@ -16,9 +16,9 @@ use Rattle.model.specs.Level.{Activity, idle, busy, Level, hasManager, s
 use Rattle.model.specs.Step.{State, levelAt, Arrival, at, moveAt, stepAt}
 use Rattle.model.proofs.Laws.Each.{Each, each-map, each-take, each-inserted}
 use Rattle.model.proofs.Laws.Invariant.Forest.{rest-each}
-use Rattle.model.proofs.Laws.Invariant.Orderly.{Orderly}
-use Rattle.model.proofs.Laws.Invariant.Keeps.{other-level, step-keeps}
-use Rattle.model.proofs.Laws.Invariant.Tame.{AllTame, step-tame}
+use Rattle.model.proofs.Laws.Invariant.Forks.{ForkInvariant}
+use Rattle.model.proofs.Laws.Invariant.Preserved.{other-level, step-preserves}
+use Rattle.model.proofs.Laws.Invariant.Bounded.{AllBounded, step-bounded}
 use Rattle.model.proofs.Laws.Invariant.WriteStamps.{writeStamp, forksBy, forksOf, Closes, kept, closed, Child, Sends}
 use Rattle.model.proofs.Laws.Invariant.Became.{Became, own, got, stayed, became, step-marks}
 
@@ -49,11 +49,11 @@ set-below b (suc l) s zero (x ∷ xs) h f = h
 set-below b (suc l) s (suc j) (x ∷ xs) h f = set-below b l s j xs h (λ e. f (ap suc e))
 
 -- the write stamps of ended managers lie below the level's own, and so do those that forks carry for a level
-pub record Stamped (p : Program) (st : State) : Type 0 where
+pub record WriteStampInvariant (p : Program) (st : State) : Type 0 where
   pub ended : (l : ℕ) → l < p .levels → Each (λ h. h .last < writeStamp (levelAt st l)) (levelAt st l .ended)
-  pub carried : (l j : ℕ) → l < p .levels → j < p .levels → Each (λ x. getD (x .seen) j 0 < writeStamp (levelAt st j)) (forksOf (levelAt st l))
+  pub carried : (l j : ℕ) → l < p .levels → j < p .levels → Each (λ x. getD (x .carried) j 0 < writeStamp (levelAt st j)) (forksOf (levelAt st l))
 
-module _ (p : Program) (so : Sound p) (st : State) (o : Orderly p st) (l : ℕ) (hl : l < p .levels) where
+module _ (p : Program) (so : Sound p) (st : State) (o : ForkInvariant p st) (l : ℕ) (hl : l < p .levels) where
   -- no write stamp falls
   pub stamp-rises : (k : ℕ) → writeStamp (levelAt st k) ≤ writeStamp (levelAt (stepAt p l st) k)
   stamp-rises k = by (became p so st o l hl k)
@@ -63,7 +63,7 @@ module _ (p : Program) (so : Sound p) (st : State) (o : Orderly p st) (l : ℕ) 
       by (got c e s q) = rw (ap writeStamp q, arrived-stamp c (levelAt st k)) (omega arith)
       by (stayed n q) = rw (ap writeStamp q) (omega arith)
 
-  stamped-ended : Stamped p st → (k : ℕ) → k < p .levels → Each (λ h. h .last < writeStamp (levelAt (stepAt p l st) k)) (levelAt (stepAt p l st) k .ended)
+  stamped-ended : WriteStampInvariant p st → (k : ℕ) → k < p .levels → Each (λ h. h .last < writeStamp (levelAt (stepAt p l st) k)) (levelAt (stepAt p l st) k .ended)
   stamped-ended i k hk = by (levelAt (stepAt p l st) k) (became p so st o l hl k) (stamp-rises k)
     where
       rises : (b c : ℕ) → b ≤ c → (hs : List History) → Each (λ h. h .last < b) hs → Each (λ h. h .last < c) hs
@@ -79,15 +79,15 @@ module _ (p : Program) (so : Sound p) (st : State) (o : Orderly p st) (l : ℕ) 
       by v (got c e s q) g = rw q (unfold arrived in i .ended k hk)
       by v (stayed n q) g = rw q (i .ended k hk)
 
-  stamped-carried : Stamped p st → (k j : ℕ) → k < p .levels → j < p .levels → Each (λ x. getD (x .seen) j 0 < writeStamp (levelAt (stepAt p l st) j)) (forksOf (levelAt (stepAt p l st) k))
+  stamped-carried : WriteStampInvariant p st → (k j : ℕ) → k < p .levels → j < p .levels → Each (λ x. getD (x .carried) j 0 < writeStamp (levelAt (stepAt p l st) j)) (forksOf (levelAt (stepAt p l st) k))
   stamped-carried i k j hk hj = by (levelAt (stepAt p l st) k) (became p so st o l hl k)
     where
       bound : ℕ
       bound = writeStamp (levelAt (stepAt p l st) j)
 
-      rises : (xs : List Fork) → Each (λ x. getD (x .seen) j 0 < writeStamp (levelAt st j)) xs → Each (λ x. getD (x .seen) j 0 < bound) xs
+      rises : (xs : List Fork) → Each (λ x. getD (x .carried) j 0 < writeStamp (levelAt st j)) xs → Each (λ x. getD (x .carried) j 0 < bound) xs
       rises xs e =
-          each-map (λ x. getD (x .seen) j 0 < writeStamp (levelAt st j)) (λ x. getD (x .seen) j 0 < bound) (λ x t. omega (arith, t, stamp-rises j)) xs e
+          each-map (λ x. getD (x .carried) j 0 < writeStamp (levelAt st j)) (λ x. getD (x .carried) j 0 < bound) (λ x t. omega (arith, t, stamp-rises j)) xs e
 
       first : (P : Fork → Type 0) (x : Fork) (xs ys : List Fork) → ys ≡ x ∷ xs → Each P ys → P x
       first P x xs ys q e = unfold Each in (rw q at e) .0
@@ -100,34 +100,34 @@ module _ (p : Program) (so : Sound p) (st : State) (o : Orderly p st) (l : ℕ) 
           is (got c g s q) = absurd (other-level p j l s (sym e))
           is (stayed n q) = absurd (n e)
 
-      child : (c : Fork) → Child l (levelAt st l) (moveAt p l st .own) c → getD (c .seen) j 0 < bound
+      child : (c : Fork) → Child l (levelAt st l) (moveAt p l st .own) c → getD (c .carried) j 0 < bound
       child c d =
-          let parent = first (λ x. getD (x .seen) j 0 < bound) (d .sender) (d .others) (forksOf (levelAt st l)) (d .first) (rises (forksOf (levelAt st l)) (i .carried l j hl hj)) in
-          rw (d .seen) (set-below bound l (d .past) j (d .sender .seen) parent (λ e. rw (sym (own-stamp e)) (d .below)))
+          let parent = first (λ x. getD (x .carried) j 0 < bound) (d .sender) (d .others) (forksOf (levelAt st l)) (d .first) (rises (forksOf (levelAt st l)) (i .carried l j hl hj)) in
+          rw (d .carried) (set-below bound l (d .past) j (d .sender .carried) parent (λ e. rw (sym (own-stamp e)) (d .below)))
 
       sent : (b : Arrival) (c : Fork) → b ≡ at k c → Sends l (levelAt st l) (moveAt p l st .own) b → Child l (levelAt st l) (moveAt p l st .own) c
       sent b c q s = rw q at s
 
-      by : (v : Level) → Became p l st k v → Each (λ x. getD (x .seen) j 0 < bound) (forksOf v)
-      by v (own e q) = rw q (rest-each (λ x. getD (x .seen) j 0 < bound) (forksOf (levelAt st l)) (forksOf (moveAt p l st .own)) (step-marks p so st o l hl .forks) (rises (forksOf (levelAt st l)) (i .carried l j hl hj)))
+      by : (v : Level) → Became p l st k v → Each (λ x. getD (x .carried) j 0 < bound) (forksOf v)
+      by v (own e q) = rw q (rest-each (λ x. getD (x .carried) j 0 < bound) (forksOf (levelAt st l)) (forksOf (moveAt p l st .own)) (step-marks p so st o l hl .forks) (rises (forksOf (levelAt st l)) (i .carried l j hl hj)))
       by v (got c e s q) =
-          rw q (arrived-forks (λ x. getD (x .seen) j 0 < bound) c (levelAt st k) (child c (sent (moveAt p l st .arrival) c e (step-marks p so st o l hl .child))) (rises (forksOf (levelAt st k)) (i .carried k j hk hj)))
+          rw q (arrived-forks (λ x. getD (x .carried) j 0 < bound) c (levelAt st k) (child c (sent (moveAt p l st .arrival) c e (step-marks p so st o l hl .child))) (rises (forksOf (levelAt st k)) (i .carried k j hk hj)))
       by v (stayed n q) = rw q (rises (forksOf (levelAt st k)) (i .carried k j hk hj))
 
 -- the invariant of runs: the forest of fork stamps, the limits of levels, the order of write stamps
-pub record Steady (p : Program) (st : State) : Type 0 where
-  pub orderly : Orderly p st
-  pub tame : AllTame st
-  pub stamped : Stamped p st
+pub record StateInvariant (p : Program) (st : State) : Type 0 where
+  pub fork-invariant : ForkInvariant p st
+  pub bounded : AllBounded st
+  pub stamped : WriteStampInvariant p st
 
 -- every step of a manager keeps it
-pub steady-keeps : (p : Program) → Sound p → (st : State) → Steady p st → (l : ℕ) → l < p .levels → hasManager (levelAt st l) ≡ true → Steady p (stepAt p l st)
-steady-keeps p so st i l h m =
+pub steady-preserves : (p : Program) → Sound p → (st : State) → StateInvariant p st → (l : ℕ) → l < p .levels → hasManager (levelAt st l) ≡ true → StateInvariant p (stepAt p l st)
+steady-preserves p so st i l h m =
     record {
-      orderly = step-keeps p l st so h (i .orderly);
-      tame = step-tame p so st (i .orderly) (i .tame) l h m;
+      fork-invariant = step-preserves p l st so h (i .fork-invariant);
+      bounded = step-bounded p so st (i .fork-invariant) (i .bounded) l h m;
       stamped = record {
-        ended = stamped-ended p so st (i .orderly) l h (i .stamped);
-        carried = stamped-carried p so st (i .orderly) l h (i .stamped);
+        ended = stamped-ended p so st (i .fork-invariant) l h (i .stamped);
+        carried = stamped-carried p so st (i .fork-invariant) l h (i .stamped);
       };
     }

@@ -24,7 +24,7 @@ use Rattle.queues.specs.Queue.{forkWords, forkPlace, forkAt, ForksRise}
 use Rattle.queues.proofs.Laws.Queue.{forks-same}
 use Rattle.versions.specs.Log.{maxVersions, logStart, logOf}
 use Rattle.tallies.specs.Places.{nextPlace, waitingPlace, versionsPlace, busyPlace}
-use Rattle.level_managers.specs.Kept.{Words, Runs, LevelTold, Roomy, Told}
+use Rattle.level_managers.specs.Representation.{Words, Runs, LevelRepresents, Roomy, Represents}
 use Rattle.level_managers.specs.Steps.{startedOf}
 
 -- a level within its limits
@@ -59,8 +59,8 @@ module _ (n : ℕ) (w w' : Words) (k : ℕ) (m : Manager) (v : Level) (b : Limit
   runs-same (busy x y) q r = (e .busy ∙ r .0, (r .1 .0, e .fork n (length (v .ended)) (busy-fewer v x y q b) ∙ r .1 .1))
 
   -- so they say the same of it
-  pub told-same : LevelTold n w k m v → LevelTold n w' k m v
-  told-same t =
+  pub represents-same : LevelRepresents n w k m v → LevelRepresents n w' k m v
+  represents-same t =
       record {
         ended-count = e .ended-count ∙ t .ended-count;
         ended = e .histories (length (v .ended)) (omega (arith, b .managers)) ∙ t .ended;
@@ -75,7 +75,7 @@ module _ (n : ℕ) (w w' : Words) (k : ℕ) (m : Manager) (v : Level) (b : Limit
       }
 
 -- as many have started as are counted
-pub started-is : (n : ℕ) (w : Words) (k : ℕ) (m : Manager) (v : Level) → LevelTold n w k m v → startedOf (w .tallies) k ≡ startedCount v
+pub started-is : (n : ℕ) (w : Words) (k : ℕ) (m : Manager) (v : Level) → LevelRepresents n w k m v → startedOf (w .tallies) k ≡ startedCount v
 started-is n w k m v t = by (v .activity) refl (t .activity)
   where
     by : (a : Activity) → v .activity ≡ a → Runs n w k m (length (v .ended)) a → startedOf (w .tallies) k ≡ startedCount v
@@ -83,8 +83,8 @@ started-is n w k m v t = by (v .activity) refl (t .activity)
     by (busy x y) q r = rw q (omega (arith, t .ended-count, r .0))
 
 -- what is told of another manager where none runs
-pub told-idle : (n : ℕ) (w : Words) (k : ℕ) (m m' : Manager) (v : Level) → v .activity ≡ idle → LevelTold n w k m v → LevelTold n w k m' v
-told-idle n w k m m' v q t =
+pub represents-idle : (n : ℕ) (w : Words) (k : ℕ) (m m' : Manager) (v : Level) → v .activity ≡ idle → LevelRepresents n w k m v → LevelRepresents n w k m' v
+represents-idle n w k m m' v q t =
     record {
       ended-count = t .ended-count;
       ended = t .ended;
@@ -103,7 +103,7 @@ told-idle n w k m m' v q t =
     by (busy x y) q r = absurd (not-both (isBusy (busy x y)) refl (ap isBusy q))
 
 -- a change of level l alone, whose words then say it, where the words of the others are the same
-module _ (s : List ℕ) (w w' : Words) (ms ms' : ℕ → Manager) (st : State) (t : Told s w ms st) (b : (k : ℕ) → k < levelCount s → Limited (levelAt st k)) (l : ℕ) (h : l < levelCount s) (f : Level → Level) where
+module _ (s : List ℕ) (w w' : Words) (ms ms' : ℕ → Manager) (st : State) (t : Represents s w ms st) (b : (k : ℕ) → k < levelCount s → Limited (levelAt st k)) (l : ℕ) (h : l < levelCount s) (f : Level → Level) where
   pub at-own : levelAt (modify l f st) l ≡ f (levelAt st l)
   at-own = modify-at newLevel l f st (rw (t .levels) h)
 
@@ -119,14 +119,14 @@ module _ (s : List ℕ) (w w' : Words) (ms ms' : ℕ → Manager) (st : State) (
       by (yes e) = rw e (ap (λ v. v .versions) at-own ∙ kept (levelAt st l))
       by (no e) = ap (λ v. v .versions) (at-other (programOf s .level o) e)
 
-  pub told-change : Roomy w'
+  pub represents-change : Roomy w'
       → ((k : ℕ) → k < maxLevels → getD (w' .tallies) k 0 ≤ maxManagers)
       → ((o k : ℕ) → o < objectCount s → k < fields → fieldAt (w' .current) o k ≡ newest (programOf s .field o k) o k (levelAt (modify l f st) (programOf s .level o) .versions))
-      → LevelTold (levelCount s) w' l (ms' l) (f (levelAt st l))
+      → LevelRepresents (levelCount s) w' l (ms' l) (f (levelAt st l))
       → ((k : ℕ) → k < levelCount s → (k ≡ l → ⊥) → SameAt w w' k)
       → ((k : ℕ) → (k ≡ l → ⊥) → ms' k ≡ ms k)
-      → Told s w' ms' (modify l f st)
-  told-change roomy few field own same held =
+      → Represents s w' ms' (modify l f st)
+  represents-change roomy few field own same held =
       record {
         roomy = roomy;
         counts-few = few;
@@ -134,6 +134,6 @@ module _ (s : List ℕ) (w w' : Words) (ms ms' : ℕ → Manager) (st : State) (
         field = field;
         level = λ k hk. elim (ℕ-discrete k l) [
           | yes e ↦ rw (e, at-own) own
-          | no d ↦ rw (at-other k d, held k d) (told-same (levelCount s) w w' k (ms k) (levelAt st k) (b k hk) (same k hk d) (t .level k hk))
+          | no d ↦ rw (at-other k d, held k d) (represents-same (levelCount s) w w' k (ms k) (levelAt st k) (b k hk) (same k hk d) (t .level k hk))
         ];
       }

@@ -1,5 +1,5 @@
--- What the words of a run say of its state. No meaning rests on these. Assumes nothing.
--- Laws (`proofs/Laws/Told`): a change of the words of one level alone (`told-change`).
+-- What the words of a run represent. No meaning rests on these. Assumes nothing.
+-- Laws (`proofs/Laws/Representation`): a change of the words of one level alone (`represents-change`).
 use Prim.Native.Nat.{ℕ, _≤_, _<_}
 use mathlib.Core.Path.{_≡_}
 use mathlib.Core.Bool.{true, cond}
@@ -36,8 +36,8 @@ abbrev pub Runs : ℕ → Words → ℕ → Manager → ℕ → Activity → Typ
 Runs n w l m i idle = getD (w .tallies) (busyPlace l) 0 ≡ 0
 Runs n w l m i (busy x m') = (getD (w .tallies) (busyPlace l) 0 ≡ 1) × ((m ≡ m') × (forkAt n (w .queue) l i ≡ x))
 
--- the words of level l, one of n, say v, with m for the manager that runs there
-pub record LevelTold (n : ℕ) (w : Words) (l : ℕ) (m : Manager) (v : Level) : Type 0 where
+-- the words of level l, one of n, represent v, with m for the manager that runs there
+pub record LevelRepresents (n : ℕ) (w : Words) (l : ℕ) (m : Manager) (v : Level) : Type 0 where
   pub ended-count : getD (w .tallies) l 0 ≡ length (v .ended)
   pub ended : historiesAt (w .ended) l (length (v .ended)) ≡ v .ended
   pub ended-rises : InOrder (v .ended)
@@ -57,21 +57,21 @@ pub record Roomy (w : Words) : Type 0 where
   pub queue : queueWords ≤ length (w .queue)
   pub work : workNumbers ≤ length (w .work)
 
--- the words of a run of session s say the state st, with ms for the managers that run
-pub record Told (s : List ℕ) (w : Words) (ms : ℕ → Manager) (st : State) : Type 0 where
+-- the words of a run of session s represent the state st, with ms for the managers that run
+pub record Represents (s : List ℕ) (w : Words) (ms : ℕ → Manager) (st : State) : Type 0 where
   pub roomy : Roomy w
   pub counts-few : (l : ℕ) → l < maxLevels → getD (w .tallies) l 0 ≤ maxManagers
   pub levels : length st ≡ levelCount s
   pub field : (o k : ℕ) → o < objectCount s → k < fields → fieldAt (w .current) o k ≡ newest (programOf s .field o k) o k (levelAt st (programOf s .level o) .versions)
-  pub level : (l : ℕ) → l < levelCount s → LevelTold (levelCount s) w l (ms l) (levelAt st l)
+  pub level : (l : ℕ) → l < levelCount s → LevelRepresents (levelCount s) w l (ms l) (levelAt st l)
 
 -- some list of allowed steps leads to the state st from the session as read in
 abbrev pub Reached : List ℕ → State → Type 0
 Reached s st = (ls : List ℕ) × Leads (programOf s) (readIn (programOf s) (rootOf s)) ls st
 
--- the words say a state that a run reaches; and where question 14 has said yes of a level, it says so still
-pub record Says (s : List ℕ) (w : Words) (ms : ℕ → Manager) (st : State) : Type 0 where
-  pub told : Told s w ms st
+-- the words represent a state that a run reaches; and where question 14 has said yes of a level, it says so still
+pub record RunInvariant (s : List ℕ) (w : Words) (ms : ℕ → Manager) (st : State) : Type 0 where
+  pub represents : Represents s w ms st
   pub reached : Reached s st
   pub clear : (l : ℕ) → l < levelCount s → (getD (w .tallies) (clearPlace l) 0 ≡ 0 → ⊥) → question14 (programOf s) st l ≡ true
 

@@ -1,10 +1,10 @@
--- `managers::Core::goes_on` meets its contract. Assumes nothing.
+-- `managers::Core::may_advance` meets its contract. Assumes nothing.
 use mathlib.Core.Path.{_≡_, refl, sym, _∙_}
 use mathlib.Core.Bool.{true, false}
 use Rattle.managers.specs.Core.{isNothing}
 use borrow.Author.Needs.{needs}
-use Rattle.managers.proofs.Core.goes_on.Statement.{statement}
-use Rattle.managers.proofs.Core.goes_on.Tie as tie
+use Rattle.managers.proofs.Core.may_advance.Statement.{statement}
+use Rattle.managers.proofs.Core.may_advance.Tie as tie
 
 is-nothing-requires : tie.Need-is-nothing-requires
 is-nothing-requires c κs = search needs
@@ -19,5 +19,5 @@ returns-2 c =
     let something : isNothing (c .before .before .args .self .effect) ≡ false = sym (c .before .is-nothing .ensures) ∙ c .if1 .left in
     rw something (c .if1 .left)
 
-pub goes-on-spec : {M : Type 1} → statement M
-goes-on-spec = tie.close (tie.spec is-nothing-requires returns returns-2)
+pub may-advance-spec : {M : Type 1} → statement M
+may-advance-spec = tie.close (tie.spec is-nothing-requires returns returns-2)

@@ -21,7 +21,7 @@ use Rattle.model.proofs.Laws.Invariant.Rank.{rank, rank-falls}
 use Rattle.model.proofs.Laws.Invariant.Tree.{Entry, forkedFrom, childIn, Fertile}
 use Rattle.model.proofs.Laws.Invariant.Forest.{Forest, Joins, Rest, rest-each, forest-rest, forest-fork}
 use Rattle.model.proofs.Laws.Invariant.Entries.{entriesOf}
-use Rattle.model.proofs.Laws.Invariant.Change.{Change, quiet, forks, moved-change}
+use Rattle.model.proofs.Laws.Invariant.Change.{Change, internal, forks, moved-change}
 use Rattle.model.proofs.Laws.Steps.Moves.{AtLevel, seen-sound}
 use Rattle.model.proofs.Laws.Steps.Diamond.{seen-level}
 use Rattle.model.proofs.Laws.Steps.Locality.{Misses}
@@ -33,7 +33,7 @@ entriesIn st l = entriesOf l (levelAt st l)
 -- what l sees has the same levels
 seen-change : (p : Program) (l : ℕ) (E G : List Entry) (b : Arrival) → Change (seenBy l p) l E G b → Change p l E G b
 unfolding seenBy
-seen-change p l E G b (quiet q r) = quiet q r
+seen-change p l E G b (internal q r) = internal q r
 seen-change p l E G b (forks u x m message W q e r h s f) = forks u x m message W q e r h s f
 
 -- a step's change of its own level
@@ -104,7 +104,7 @@ grown-fork p F G so g l u hl hu lu a W e s f tl tu o =
     deep k hk (no n) (no q) = rw (o k n q) (g .shallow k hk)
 
 -- the invariant of a state
-pub record Orderly (p : Program) (st : State) : Type 0 where
+pub record ForkInvariant (p : Program) (st : State) : Type 0 where
   pub size : length st ≡ p .levels
   pub placed : (l : ℕ) → l < p .levels → AtLevel l (levelAt st l .activity)
   pub grown : Grown p (entriesIn st)

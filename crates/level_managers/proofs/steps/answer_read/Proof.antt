@@ -1,8 +1,8 @@
--- `level_managers::steps::tell` meets its contract: what is read of the field is kept. Assumes nothing.
+-- `level_managers::steps::answer_read` meets its contract: what is read of the field is kept. Assumes nothing.
 use borrow.Author.Needs.{needs}
 use Rattle.level_managers.proofs.Laws.Script.{field-there}
-use Rattle.level_managers.proofs.steps.tell.Statement.{statement}
-use Rattle.level_managers.proofs.steps.tell.Tie as tie
+use Rattle.level_managers.proofs.steps.answer_read.Statement.{statement}
+use Rattle.level_managers.proofs.steps.answer_read.Tie as tie
 
 field-of-requires : tie.Need-field-of-requires
 field-of-requires c κs = search needs
@@ -18,5 +18,5 @@ same-length c = search needs
 returns : tie.Need-returns
 returns c = search needs
 
-pub tell-spec : {M : Type 1} → statement M
-tell-spec = tie.close (tie.spec field-of-requires remember-requires same-length returns)
+pub answer-read-spec : {M : Type 1} → statement M
+answer-read-spec = tie.close (tie.spec field-of-requires remember-requires same-length returns)

@@ -1,5 +1,5 @@
--- What the words of a depth-first run say of it, and what its functions require and promise. No meaning rests on these. Assumes nothing.
--- Laws: what a write and the end of a manager do to the words (`proofs/Laws/Kept`), what a script step did outside its manager done to them
+-- What the words of a depth-first run represent, and what its functions require and promise. No meaning rests on these. Assumes nothing.
+-- Laws: what a write and the end of a manager do to the words (`proofs/Laws/Representation`), what a script step did outside its manager done to them
 -- (`Perform`), a row of steps and what its last one does (`Step`: `SameEnd`), a manager's run as a loop over the steps that concern others
 -- (`Run`: `Looped`).
 use Prim.Native.Nat.{ℕ, _+_, _*_, _-_, _^_, _≤_, _<_}
@@ -34,7 +34,7 @@ use Rattle.tallies.specs.Places.{nextPlace, waitingPlace, tallyNumbers}
 use Rattle.depth_first.specs.declared.forks.Fork.{Fork}
 
 -- an accepted session, its level table and its method index
-pub record Read (s masks index : List ℕ) : Type 0 where
+pub record Tables (s masks index : List ℕ) : Type 0 where
   pub accepted : verdictOf s ≡ Accepted
   pub masks-are : masks ≡ masksOf s
   pub index-is : index ≡ indexOf s
@@ -48,8 +48,8 @@ pub record Counted (g : Progress) (ended tallies : List ℕ) (l : ℕ) : Type 0 
   pub next : getD tallies (nextPlace l) 0 ≡ tallyAt g l .next
   pub pace : tallyAt g l .next ≤ 1 + (maxForks + 1) * length (tallyAt g l .ended)
 
--- the words of a run of session s say g
-pub record Kept (s : List ℕ) (g : Progress) (current ended tallies : List ℕ) : Type 0 where
+-- the words of a run of session s represent g
+pub record RepresentedBy (s : List ℕ) (g : Progress) (current ended tallies : List ℕ) : Type 0 where
   pub fields-there : fieldWords ≤ length current
   pub histories-there : historyWords ≤ length ended
   pub tallies-there : tallyNumbers ≤ length tallies
@@ -59,8 +59,8 @@ pub record Kept (s : List ℕ) (g : Progress) (current ended tallies : List ℕ)
   pub counted : (l : ℕ) → l < levelCount s → Counted g ended tallies l
 
 -- some run's
-abbrev pub Keeps : List ℕ → List ℕ → List ℕ → List ℕ → Type 0
-Keeps s current ended tallies = (g : Progress) × Kept s g current ended tallies
+abbrev pub RepresentsSome : List ℕ → List ℕ → List ℕ → List ℕ → Type 0
+RepresentsSome s current ended tallies = (g : Progress) × RepresentedBy s g current ended tallies
 
 -- a fork to a present level and object, whose stamps, with so many levels left from its own upward, fit 32 bits
 pub record Runnable (s : List ℕ) (left : ℕ) (f : Fork) : Type 0 where
@@ -82,8 +82,8 @@ pub record Words : Type 0 where
   pub ended : List ℕ
   pub tallies : List ℕ
 
-abbrev pub Says : List ℕ → Progress → Words → Type 0
-Says s g w = Kept s g (w .current) (w .ended) (w .tallies)
+abbrev pub Represents : List ℕ → Progress → Words → Type 0
+Represents s g w = RepresentedBy s g (w .current) (w .ended) (w .tallies)
 
 -- of a run's words only the fields of present objects, the histories of present levels, and what is counted of managers that have ended and of
 -- next write stamps may have become others
@@ -109,19 +109,19 @@ abbrev pub Performed : List ℕ → ℕ → Fork → ℕ → Effect → Words �
 Performed s left f forks e w w' =
     Spared s w w'
     × ((g : Progress) (x : model.Fork) (n : Manager)
-    → Says s g w
+    → Represents s g w
     → Same f x
     → Forking e (n .forks) forks
-    → Says s (effected (runFork left (programOf s)) (f .level) x n (effectOf e) g) w')
+    → Represents s (effected (runFork left (programOf s)) (f .level) x n (effectOf e) g) w')
 
 -- what a fork that is made does to the words
 abbrev pub ForkDone : List ℕ → ℕ → Fork → Words → Words → Type 0
 ForkDone s left f w w' =
     Spared s w w'
     × ((g : Progress) (x : model.Fork)
-    → Says s g w
+    → Represents s g w
     → Same f x
-    → Says s (cond (ltb (length (tallyAt g (f .level) .ended)) maxManagers) (runFork left (programOf s) (f .level) x g) g) w')
+    → Represents s (cond (ltb (length (tallyAt g (f .level) .ended)) maxManagers) (runFork left (programOf s) (f .level) x g) g) w')
 
 -- what the run of a fork that is kept does to the words, and what it hands back: the history that the definition keeps of it, so that its
 -- script steps are as many as the definition makes
@@ -129,7 +129,7 @@ abbrev pub RunDone : List ℕ → ℕ → Fork → Words → Words → Ended →
 RunDone s left f w w' r =
     Spared s w w'
     × ((g : Progress) (x : model.Fork)
-    → Says s g w
+    → Represents s g w
     → Same f x
-    → Says s (runFork left (programOf s) (f .level) x g) w'
+    → Represents s (runFork left (programOf s) (f .level) x g) w'
     × (0 < left → tallyAt (runFork left (programOf s) (f .level) x g) (f .level) .ended ≡ inserted (λ h. h .stamp) (historyOf r) (tallyAt g (f .level) .ended)))

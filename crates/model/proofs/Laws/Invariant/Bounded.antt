@@ -15,9 +15,9 @@ use Rattle.model.specs.Step.{State, levelAt, viewOf, Arrival, none, at, 
 use Rattle.model.proofs.Laws.Steps.Locality.{Above, Misses}
 use Rattle.model.proofs.Laws.Steps.Diamond.{seen-level}
 use Rattle.model.proofs.Laws.Steps.Moves.{move-above}
-use Rattle.model.proofs.Laws.Invariant.Orderly.{level-own, level-target, level-other, Orderly}
-use Rattle.model.proofs.Laws.Invariant.Keeps.{other-level}
-use Rattle.model.proofs.Laws.Invariant.Measure.{cost, Tame, Falls, moved-falls, arrived-tame, arrived-cost}
+use Rattle.model.proofs.Laws.Invariant.Forks.{level-own, level-target, level-other, ForkInvariant}
+use Rattle.model.proofs.Laws.Invariant.Preserved.{other-level}
+use Rattle.model.proofs.Laws.Invariant.Measure.{cost, Bounded, Falls, moved-falls, arrived-bounded, arrived-cost}
 
 -- the scheduler steps that a state has left
 unfoldable pub total : State → ℕ
@@ -43,7 +43,7 @@ total-delivered none st = refl
 total-delivered (at u x) st = total-arrived u x st
 
 -- a step of a manager keeps the limits of its level, and leaves it fewer steps
-pub move-falls : (p : Program) (l : ℕ) (st : State) → Sound p → l < p .levels → hasManager (levelAt st l) ≡ true → Tame (levelAt st l) → Falls (levelAt st l) (moveAt p l st .own)
+pub move-falls : (p : Program) (l : ℕ) (st : State) → Sound p → l < p .levels → hasManager (levelAt st l) ≡ true → Bounded (levelAt st l) → Falls (levelAt st l) (moveAt p l st .own)
 unfolding moveAt
 move-falls p l st so h m t =
     let view = viewOf p l st in
@@ -55,11 +55,11 @@ move-falls p l st so h m t =
     by v w q f = rw (sym q) f
 
 -- the levels keep their limits
-abbrev pub AllTame : State → Type 0
-AllTame st = (k : ℕ) → Tame (levelAt st k)
+abbrev pub AllBounded : State → Type 0
+AllBounded st = (k : ℕ) → Bounded (levelAt st k)
 
 -- a step of a manager keeps the limits of all levels
-module _ (p : Program) (so : Sound p) (st : State) (o : Orderly p st) (t : AllTame st) (l : ℕ) (h : l < p .levels) (m : hasManager (levelAt st l) ≡ true) where
+module _ (p : Program) (so : Sound p) (st : State) (o : ForkInvariant p st) (t : AllBounded st) (l : ℕ) (h : l < p .levels) (m : hasManager (levelAt st l) ≡ true) where
   here : l < length st
   here = rw (o .size) h
 
@@ -67,23 +67,23 @@ module _ (p : Program) (so : Sound p) (st : State) (o : Orderly p st) (t : AllTa
   misses none a = tt
   misses (at u x) a = λ q. other-level p u l (a .1) (sym q)
 
-  delivered-tame : (b : Arrival) → Above p l b → (k : ℕ) → Tame (levelAt (delivered b (modify l (λ _. moveAt p l st .own) st)) k)
-  delivered-tame b a k = at-level b a (ℕ-discrete l k)
+  delivered-bounded : (b : Arrival) → Above p l b → (k : ℕ) → Bounded (levelAt (delivered b (modify l (λ _. moveAt p l st .own) st)) k)
+  delivered-bounded b a k = at-level b a (ℕ-discrete l k)
     where
-      own : Tame (moveAt p l st .own)
-      own = move-falls p l st so h m (t l) .tame
+      own : Bounded (moveAt p l st .own)
+      own = move-falls p l st so h m (t l) .bounded
 
-      at-level : (b : Arrival) → Above p l b → Dec (l ≡ k) → Tame (levelAt (delivered b (modify l (λ _. moveAt p l st .own) st)) k)
+      at-level : (b : Arrival) → Above p l b → Dec (l ≡ k) → Bounded (levelAt (delivered b (modify l (λ _. moveAt p l st .own) st)) k)
       at-level b a (yes e) = rw (sym e, level-own b l (moveAt p l st .own) st (misses b a) here) own
       at-level none a (no n) = rw (level-other none l k (moveAt p l st .own) st n tt) (t k)
       at-level (at u x) a (no n) = elim (ℕ-discrete u k) [
-        | yes e ↦ rw (sym e, level-target u x l (moveAt p l st .own) st (other-level p u l (a .1)) (rw (o .size) (a .0))) (arrived-tame x (levelAt st u) (t u))
+        | yes e ↦ rw (sym e, level-target u x l (moveAt p l st .own) st (other-level p u l (a .1)) (rw (o .size) (a .0))) (arrived-bounded x (levelAt st u) (t u))
         | no g ↦ rw (level-other (at u x) l k (moveAt p l st .own) st n g) (t k)
       ]
 
-  pub step-tame : AllTame (stepAt p l st)
+  pub step-bounded : AllBounded (stepAt p l st)
   unfolding stepAt
-  step-tame = delivered-tame (moveAt p l st .arrival) (move-above p l st so h (o .placed l h))
+  step-bounded = delivered-bounded (moveAt p l st .arrival) (move-above p l st so h (o .placed l h))
 
   pub step-less : total (stepAt p l st) < total st
   unfolding stepAt

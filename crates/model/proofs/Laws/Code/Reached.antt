@@ -32,8 +32,8 @@ use Rattle.model.specs.Level.{Version, Activity, idle, busy, Level, hasM
 use Rattle.model.specs.Step.{State, levelAt, readAt, Arrival, none, at, arrivalOf, begun, advanced, moved, moveAt, stepAt}
 use Rattle.model.specs.Schedule.{readIn}
 use Rattle.model.proofs.Laws.Each.{Each, each-take, each-inserted}
-use Rattle.model.proofs.Laws.Invariant.Keeps.{grown-level}
-use Rattle.model.proofs.Laws.Invariant.Measure.{Tame}
+use Rattle.model.proofs.Laws.Invariant.Preserved.{grown-level}
+use Rattle.model.proofs.Laws.Invariant.Measure.{Bounded}
 use Rattle.model.proofs.Laws.Invariant.Became.{Became, own, got, stayed, became}
 use Rattle.model.proofs.Laws.Order.Accepted.{sound}
 use Rattle.model.proofs.Laws.Deep.Root.{each-level}
@@ -51,7 +51,7 @@ Runs s l idle = Unit
 Runs s l (busy x m) = Valid s m × ((m .level ≡ l) × (isRunning (m .ending) ≡ true))
 
 -- a state that a run of session s reaches
-pub record Live (s : List ℕ) (st : State) : Type 0 where
+pub record ReachedState (s : List ℕ) (st : State) : Type 0 where
   pub reachable : Reachable (programOf s) st
   pub waiting : (l : ℕ) → l < levelCount s → Each (Sendable s) (levelAt st l .waiting)
   pub activity : (l : ℕ) → l < levelCount s → Runs s l (levelAt st l .activity)
@@ -62,7 +62,7 @@ unfolding programOf
 present s l h = h
 
 -- the same of one level
-record Held (s : List ℕ) (l : ℕ) (v : Level) : Type 0 where
+record LevelReached (s : List ℕ) (l : ℕ) (v : Level) : Type 0 where
   waiting : Each (Sendable s) (v .waiting)
   activity : Runs s l (v .activity)
 
@@ -72,7 +72,7 @@ next-paced idle next ended versions b = b .0
 next-paced (busy x m) next ended versions b = b .0
 
 -- the first fork that waits may start
-pub next-startable : (s : List ℕ) (l : ℕ) (v : Level) (x : Fork) → l < levelCount s → Tame v → Paced v → Sendable s x → Startable s l (v .next) (x .message)
+pub next-startable : (s : List ℕ) (l : ℕ) (v : Level) (x : Fork) → l < levelCount s → Bounded v → Paced v → Sendable s x → Startable s l (v .next) (x .message)
 next-startable s l v x h t b g =
     record {
       placed = h;
@@ -82,14 +82,14 @@ next-startable s l v x h t b g =
     }
 
 -- the level after a step of the manager of fork x
-after-held : (s : List ℕ) (l : ℕ) (v : Level) (ws : List Fork) (vs : List Version) (x : Fork) (m : Manager) → Each (Sendable s) ws → Valid s m → m .level ≡ l → Held s l (after v ws vs x m)
+after-held : (s : List ℕ) (l : ℕ) (v : Level) (ws : List Fork) (vs : List Version) (x : Fork) (m : Manager) → Each (Sendable s) ws → Valid s m → m .level ≡ l → LevelReached s l (after v ws vs x m)
 unfolding after
 after-held s l v ws vs x m e g t = elim (truth (isRunning (m .ending))) [
   | holds q ↦ rw q (record { waiting = e; activity = (g, (t, q)) })
   | fails q ↦ rw q (record { waiting = e; activity = tt })
 ]
 
-arrived-held : (s : List ℕ) (l : ℕ) (x : Fork) (v : Level) → Sendable s x → Held s l v → Held s l (arrived x v)
+arrived-held : (s : List ℕ) (l : ℕ) (x : Fork) (v : Level) → Sendable s x → LevelReached s l v → LevelReached s l (arrived x v)
 unfolding arrived
 arrived-held s l x v g h =
     record {
@@ -103,7 +103,7 @@ Sends s none = Unit
 Sends s (at u c) = Sendable s c
 
 module _ (s : List ℕ) (a : verdictOf s ≡ Accepted) where
-  begun-held : (l : ℕ) (v : Level) → l < levelCount s → Tame v → Paced v → Held s l v → (ws : List Fork) → Each (Sendable s) ws → Held s l (begun (programOf s) l v ws .own)
+  begun-held : (l : ℕ) (v : Level) → l < levelCount s → Bounded v → Paced v → LevelReached s l v → (ws : List Fork) → Each (Sendable s) ws → LevelReached s l (begun (programOf s) l v ws .own)
   unfolding begun Each
   begun-held l v h t b g [] e = g
   begun-held l v h t b g (x ∷ xs) e =
@@ -111,7 +111,7 @@ module _ (s : List ℕ) (a : verdictOf s ≡ Accepted) where
       (ap (λ c. c .level) (started-counts (programOf s) l (v .next) (x .message)))
 
   -- what a step leaves at its own level
-  moved-held : (st : State) (l : ℕ) (v : Level) (i : Activity) → l < levelCount s → Tame v → Paced v → Held s l v → Runs s l i → Held s l (moved (programOf s) st l v i .own)
+  moved-held : (st : State) (l : ℕ) (v : Level) (i : Activity) → l < levelCount s → Bounded v → Paced v → LevelReached s l v → Runs s l i → LevelReached s l (moved (programOf s) st l v i .own)
   unfolding moved advanced
   moved-held st l v idle h t b g r = begun-held l v h t b g (v .waiting) (g .waiting)
   moved-held st l v (busy x m) h t b g r =
@@ -141,7 +141,7 @@ module _ (s : List ℕ) (a : verdictOf s ≡ Accepted) where
   few = few-levels s (accepted s a .three)
 
   -- the session as read in
-  pub live-start : Live s (readIn (programOf s) (rootOf s))
+  pub live-start : ReachedState s (readIn (programOf s) (rootOf s))
   live-start =
       record {
         reachable = reachable-start (programOf s) (sound s a) few (rootOf s);
@@ -150,29 +150,29 @@ module _ (s : List ℕ) (a : verdictOf s ≡ Accepted) where
         activity = λ l h. each-level (programOf s) (sound s a) few (rootOf s) (λ v. Runs s l (v .activity)) tt tt l;
       }
 
-  module _ (st : State) (i : Live s st) where
-    held : (l : ℕ) → l < levelCount s → Held s l (levelAt st l)
+  module _ (st : State) (i : ReachedState s st) where
+    held : (l : ℕ) → l < levelCount s → LevelReached s l (levelAt st l)
     held l h = record { waiting = i .waiting l h; activity = i .activity l h }
 
-    step-held : (l : ℕ) → l < levelCount s → (k : ℕ) → k < levelCount s → Held s k (levelAt (stepAt (programOf s) l st) k)
+    step-held : (l : ℕ) → l < levelCount s → (k : ℕ) → k < levelCount s → LevelReached s k (levelAt (stepAt (programOf s) l st) k)
     step-held l h k hk =
-        by (levelAt (stepAt (programOf s) l st) k) (became (programOf s) (sound s a) st (i .reachable .steady .orderly) l (present s l h) k)
+        by (levelAt (stepAt (programOf s) l st) k) (became (programOf s) (sound s a) st (i .reachable .steady .fork-invariant) l (present s l h) k)
       where
         made : moveAt (programOf s) l st ≡ moved (programOf s) st l (levelAt st l) (levelAt st l .activity)
-        made = move-direct (programOf s) (sound s a) st (i .reachable .steady .orderly) (i .reachable .contained) l (present s l h)
+        made = move-direct (programOf s) (sound s a) st (i .reachable .steady .fork-invariant) (i .reachable .contained) l (present s l h)
 
         sent : (b : Arrival) (c : Fork) → b ≡ at k c → Sends s b → Sendable s c
         sent b c q g = unfold Sends in rw q at g
 
-        by : (v : Level) → Became (programOf s) l st k v → Held s k v
+        by : (v : Level) → Became (programOf s) l st k v → LevelReached s k v
         by v (own e q) =
-            rw (q, e, ap (λ m. m .own) made) (moved-held st l (levelAt st l) (levelAt st l .activity) h (i .reachable .steady .tame l) (i .reachable .paced l (present s l h)) (held l h) (i .activity l h))
+            rw (q, e, ap (λ m. m .own) made) (moved-held st l (levelAt st l) (levelAt st l .activity) h (i .reachable .steady .bounded l) (i .reachable .paced l (present s l h)) (held l h) (i .activity l h))
         by v (got c e t q) =
             rw q (arrived-held s k c (levelAt st k) (sent (moved (programOf s) st l (levelAt st l) (levelAt st l .activity) .arrival) c (sym (ap (λ m. m .arrival) made) ∙ e) (moved-sends st l (levelAt st l) (levelAt st l .activity) (i .activity l h))) (held k hk))
         by v (stayed n q) = rw q (held k hk)
 
     -- and the state after a step of a manager
-    pub live-step : (l : ℕ) → l < levelCount s → hasManager (levelAt st l) ≡ true → Live s (stepAt (programOf s) l st)
+    pub live-step : (l : ℕ) → l < levelCount s → hasManager (levelAt st l) ≡ true → ReachedState s (stepAt (programOf s) l st)
     live-step l h m =
         record {
           reachable = reachable-step (programOf s) (sound s a) st (i .reachable) l (present s l h) m;

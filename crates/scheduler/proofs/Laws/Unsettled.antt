@@ -31,35 +31,35 @@ use Rattle.model.specs.Level.{Activity, busy, newLevel, after}
 use Rattle.model.specs.Step.{State, levelAt, readAt, delivered, stepAt}
 use Rattle.model.proofs.Laws.Lists.{modify-at, modify-other}
 use Rattle.model.proofs.Laws.Order.Accepted.{sound}
-use Rattle.model.proofs.Laws.Code.Live.{Live, present}
+use Rattle.model.proofs.Laws.Code.Reached.{ReachedState, present}
 use Rattle.model.proofs.Laws.Code.Direct.{step-advance}
 use Rattle.words.specs.Fields.{fieldAt, knownAt}
-use Rattle.words.specs.Reads.{Sees}
-use Rattle.managers.specs.Steps.{Quietly}
+use Rattle.words.specs.Reads.{Agrees}
+use Rattle.managers.specs.Steps.{InternalSteps}
 use Rattle.tallies.specs.Places.{busyPlace}
-use Rattle.level_managers.specs.Kept.{Words, Runs, LevelTold, Says, placed}
+use Rattle.level_managers.specs.Representation.{Words, Runs, LevelRepresents, RunInvariant, placed}
 use Rattle.tallies.specs.Permits.{managed}
 use Rattle.level_managers.specs.Steps.{Busy, Parts, EffectReady, EffectDone, Settled}
-use Rattle.scheduler.specs.Running.{Draining, Recalls}
+use Rattle.scheduler.specs.Running.{Draining, KnownIsRead}
 use Rattle.level_managers.proofs.Laws.Reads.{found-in}
 use Rattle.level_managers.proofs.Laws.Made.{partsOf, settled-on}
-use Rattle.level_managers.proofs.Laws.Ready.{told-runs, effect-ready}
+use Rattle.level_managers.proofs.Laws.Ready.{represents-runs, effect-ready}
 use Rattle.level_managers.proofs.Laws.Settle.{placed-own}
-use Rattle.level_managers.proofs.Laws.Step.{says-live, says-advance}
+use Rattle.level_managers.proofs.Laws.Step.{invariant-live, invariant-advance}
 use Rattle.scheduler.proofs.Laws.Level.{drain-on, drain-on-state, drain-allowed}
 
 -- the level is being run, but that the history of m, if m has ended, is not kept yet
-abbrev pub Lagging : List ℕ → State → Words → ℕ → Manager → Type 0
-Lagging s from w l m =
+abbrev pub Unsettled : List ℕ → State → Words → ℕ → Manager → Type 0
+Unsettled s from w l m =
     (ended' tallies' : List ℕ)
     → Settled (w .ended) ended' (w .tallies) tallies' (w .queue) l m
     → Draining s from (record { current = w .current; ended = ended'; tallies = tallies'; queue = w .queue; work = w .work }) l m
 
 -- one of which a manager that runs is made ran
-pub quiet-runs : (p : Program) (read : ℕ → ℕ → Value) (k : ℕ) (m b : Manager) → Quietly p read k m b → isRunning (b .ending) ≡ true → isRunning (m .ending) ≡ true
-unfolding Quietly
-quiet-runs p read zero m b e r = rw e r
-quiet-runs p read (suc k) m b (h, q) r = h
+pub internal-runs : (p : Program) (read : ℕ → ℕ → Value) (k : ℕ) (m b : Manager) → InternalSteps p read k m b → isRunning (b .ending) ≡ true → isRunning (m .ending) ≡ true
+unfolding InternalSteps
+internal-runs p read zero m b e r = rw e r
+internal-runs p read (suc k) m b (h, q) r = h
 
 -- while m runs
 module _ (s : List ℕ) (a : verdictOf s ≡ Accepted) (l : ℕ) (h : l < levelCount s) (from : State) where
@@ -79,17 +79,17 @@ module _ (s : List ℕ) (a : verdictOf s ≡ Accepted) (l : ℕ) (h : l < levelC
     abbrev st : State
     st = g .drain .state
 
-    says : (ms : ℕ → Manager) → Says s w (placed l m ms) st
-    says = g .drain .says
+    invariant : (ms : ℕ → Manager) → RunInvariant s w (placed l m ms) st
+    invariant = g .drain .invariant
 
-    live : Live s st
-    live = says-live s a w (placed l m (λ _. m)) st (says (λ _. m))
+    live : ReachedState s st
+    live = invariant-live s a w (placed l m (λ _. m)) st (invariant (λ _. m))
 
-    told : LevelTold (levelCount s) w l m (levelAt st l)
-    told = subst (λ y. LevelTold (levelCount s) w l y (levelAt st l)) (placed-own l m (λ _. m)) (says (λ _. m) .told .level l h)
+    represents : LevelRepresents (levelCount s) w l m (levelAt st l)
+    represents = subst (λ y. LevelRepresents (levelCount s) w l y (levelAt st l)) (placed-own l m (λ _. m)) (invariant (λ _. m) .represents .level l h)
 
     counted-busy : getD (w .tallies) (busyPlace l) 0 ≡ 1
-    counted-busy = by (levelAt st l .activity) (g .runs) (told .activity)
+    counted-busy = by (levelAt st l .activity) (g .runs) (represents .activity)
       where
         by : (y : Activity) → y ≡ busy x m → Runs (levelCount s) w l m (length (levelAt st l .ended)) y → getD (w .tallies) (busyPlace l) 0 ≡ 1
         by y e r = (subst (Runs (levelCount s) w l m (length (levelAt st l .ended))) e r) .0
@@ -98,20 +98,20 @@ module _ (s : List ℕ) (a : verdictOf s ≡ Accepted) (l : ℕ) (h : l < levelC
     has = rw counted-busy refl
 
     pub running-busy : (ms : ℕ → Manager) → Busy s w l (placed l m ms) st x m
-    running-busy ms = record { says = says ms; present = h; runs = g .runs }
+    running-busy ms = record { invariant = invariant ms; present = h; runs = g .runs }
 
     pub running-reads : stepped p (readAt p st l x) m ≡ stepped p read m
     running-reads = stepped-reads p (readAt p st l x) read (g .reads) m
 
     pub running-effect : (e : Effect) → stepped p read m .effect ≡ e → EffectReady (w .current) (w .tallies) (w .queue) (w .work) l (m .forks) e
     running-effect e is =
-        effect-ready s a few (object-limit s a) w (placed l m (λ _. m)) st (says (λ _. m) .told) live l h x m (g .runs) read e is
+        effect-ready s a few (object-limit s a) w (placed l m (λ _. m)) st (invariant (λ _. m) .represents) live l h x m (g .runs) read e is
 
     -- a step that it makes, whatever it does
-    pub running-step : (n : Stepped) → stepped p read m ≡ n → (q : Parts) → EffectDone (partsOf w) q l (m .stamp) (m .forks) (n .effect) → Lagging s from (record { current = q .current; ended = w .ended; tallies = q .tallies; queue = q .queue; work = q .work }) l (n .manager)
+    pub running-step : (n : Stepped) → stepped p read m ≡ n → (q : Parts) → EffectDone (partsOf w) q l (m .stamp) (m .forks) (n .effect) → Unsettled s from (record { current = q .current; ended = w .ended; tallies = q .tallies; queue = q .queue; work = q .work }) l (n .manager)
     running-step n is q d ended' tallies' z =
         drain-on s a l h from w m (g .drain) has (record { current = q .current; ended = ended'; tallies = tallies'; queue = q .queue; work = q .work }) (n .manager)
-        (λ ms. says-advance s a few w (placed l m ms) st (says ms) l h (drain-allowed s a l h from w m (g .drain) has) x m (g .runs) n (running-reads ∙ is) q ended' tallies' d z)
+        (λ ms. invariant-advance s a few w (placed l m ms) st (invariant ms) l h (drain-allowed s a l h from w m (g .drain) has) x m (g .runs) n (running-reads ∙ is) q ended' tallies' d z)
 
     pub running-step-state : (n : Stepped) (is : stepped p read m ≡ n) (q : Parts) (d : EffectDone (partsOf w) q l (m .stamp) (m .forks) (n .effect)) (ended' tallies' : List ℕ) (z : Settled (w .ended) ended' (q .tallies) tallies' (q .queue) l (n .manager)) → running-step n is q d ended' tallies' z .state ≡ stepAt p l st
     unfolding running-step
@@ -122,10 +122,10 @@ module _ (s : List ℕ) (a : verdictOf s ≡ Accepted) (l : ℕ) (h : l < levelC
       state-is : stepAt p l st ≡ modify l (λ _. after (levelAt st l) (levelAt st l .waiting) (levelAt st l .versions) x m') st
       unfolding delivered
       state-is =
-          step-advance p (sound s a) st (live .reachable .steady .orderly) (live .reachable .contained) l (present s l h) x m (record { manager = m'; effect = effect.Nothing }) (g .runs) (running-reads ∙ is)
+          step-advance p (sound s a) st (live .reachable .steady .fork-invariant) (live .reachable .contained) l (present s l h) x m (record { manager = m'; effect = effect.Nothing }) (g .runs) (running-reads ∙ is)
 
       there : l < length st
-      there = rw (says (λ _. m) .told .levels) h
+      there = rw (invariant (λ _. m) .represents .levels) h
 
       own : levelAt (stepAt p l st) l ≡ record { waiting = levelAt st l .waiting; activity = busy x m'; ended = levelAt st l .ended; next = levelAt st l .next; versions = levelAt st l .versions }
       unfolding after
@@ -167,52 +167,52 @@ module _ (s : List ℕ) (a : verdictOf s ≡ Accepted) (l : ℕ) (h : l < levelC
           }
 
   -- steps that concern nobody else, up to a manager that runs
-  pub running-quiet : (w : Words) (x : Fork) (read : ℕ → ℕ → Value) (k : ℕ) (m b : Manager) → Running w m x read → Quietly p read k m b → isRunning (b .ending) ≡ true → Running w b x read
-  unfolding Quietly
-  running-quiet w x read zero m b g e r = subst (λ y. Running w y x read) e g
-  running-quiet w x read (suc k) m b g (run, (none, q)) r =
-      running-quiet w x read k (stepped p read m .manager) b
-      (running-on w m x read g (stepped p read m .manager) (ap (λ e. record { manager = stepped p read m .manager; effect = e }) none) (quiet-runs p read k (stepped p read m .manager) b q r))
+  pub running-internal : (w : Words) (x : Fork) (read : ℕ → ℕ → Value) (k : ℕ) (m b : Manager) → Running w m x read → InternalSteps p read k m b → isRunning (b .ending) ≡ true → Running w b x read
+  unfolding InternalSteps
+  running-internal w x read zero m b g e r = subst (λ y. Running w y x read) e g
+  running-internal w x read (suc k) m b g (run, (none, q)) r =
+      running-internal w x read k (stepped p read m .manager) b
+      (running-on w m x read g (stepped p read m .manager) (ap (λ e. record { manager = stepped p read m .manager; effect = e }) none) (internal-runs p read k (stepped p read m .manager) b q r))
       q r
 
   -- and up to any
-  pub lag-quiet : (w : Words) (x : Fork) (read : ℕ → ℕ → Value) (k : ℕ) (m b : Manager) → Lagging s from w l m → (isRunning (m .ending) ≡ true → Running w m x read) → Quietly p read k m b → Lagging s from w l b
-  unfolding Quietly
-  lag-quiet w x read zero m b lag g e = subst (Lagging s from w l) e lag
-  lag-quiet w x read (suc k) m b lag g (run, (none, q)) =
+  pub unsettled-internal : (w : Words) (x : Fork) (read : ℕ → ℕ → Value) (k : ℕ) (m b : Manager) → Unsettled s from w l m → (isRunning (m .ending) ≡ true → Running w m x read) → InternalSteps p read k m b → Unsettled s from w l b
+  unfolding InternalSteps
+  unsettled-internal w x read zero m b unsettled g e = subst (Unsettled s from w l) e unsettled
+  unsettled-internal w x read (suc k) m b unsettled g (run, (none, q)) =
       let m' = stepped p read m .manager in
       let is : stepped p read m ≡ record { manager = m'; effect = effect.Nothing } = ap (λ e. record { manager = stepped p read m .manager; effect = e }) none in
-      lag-quiet w x read k m' b
+      unsettled-internal w x read k m' b
       (running-step w m x read (g run) (record { manager = m'; effect = effect.Nothing }) is (partsOf w) refl)
       (λ r. running-on w m x read (g run) m' is r)
       q
 
   -- the words of a manager that runs do not lag
-  pub lag-none : (w : Words) (m : Manager) → Draining s from w l m → isRunning (m .ending) ≡ true → Lagging s from w l m
-  lag-none w m g r ended' tallies' z = rw (z .0 r .0, z .0 r .1) g
+  pub unsettled-none : (w : Words) (m : Manager) → Draining s from w l m → isRunning (m .ending) ≡ true → Unsettled s from w l m
+  unsettled-none w m g r ended' tallies' z = rw (z .0 r .0, z .0 r .1) g
 
   -- one runs where the words say so
   pub running-start : (w : Words) (m : Manager) (g : Draining s from w l m) → getD (w .tallies) (busyPlace l) 0 ≡ 1 → (x : Fork) × Running w m x (readAt p (g .state) l x)
   running-start w m g one =
-      let told : LevelTold (levelCount s) w l m (levelAt (g .state) l) = subst (λ y. LevelTold (levelCount s) w l y (levelAt (g .state) l)) (placed-own l m (λ _. m)) (g .says (λ _. m) .told .level l h) in
-      let (x, e) = told-runs (levelCount s) w l m (levelAt (g .state) l) told (λ z. omega (arith, z, one)) in
+      let represents : LevelRepresents (levelCount s) w l m (levelAt (g .state) l) = subst (λ y. LevelRepresents (levelCount s) w l y (levelAt (g .state) l)) (placed-own l m (λ _. m)) (g .invariant (λ _. m) .represents .level l h) in
+      let (x, e) = represents-runs (levelCount s) w l m (levelAt (g .state) l) represents (λ z. omega (arith, z, one)) in
       (x, record { drain = g; runs = e; reads = λ o k. refl })
 
   -- at its level it reads what the words of the fields say
   own-read : (w : Words) (m : Manager) (x : Fork) (read : ℕ → ℕ → Value) → Running w m x read → (o k : ℕ) → o < objectCount s → k < fields → levelOf s o ≡ l → read o k ≡ fieldAt (w .current) o k
   unfolding readAt programOf
   own-read w m x read g o k ho hk own =
-      sym (g .reads o k) ∙ rw (eq-eqb (levelOf s o) l own) (sym (g .drain .says (λ _. m) .told .field o k ho hk))
+      sym (g .reads o k) ∙ rw (eq-eqb (levelOf s o) l own) (sym (g .drain .invariant (λ _. m) .represents .field o k ho hk))
 
   -- and at other levels what is kept of its reads
-  pub running-sees : {masks : List ℕ} → Leveled s masks → (w : Words) (m : Manager) (x : Fork) (read : ℕ → ℕ → Value) → Running w m x read → (seen : List ℕ) → Recalls s w l seen → Sees s (w .current) seen false l read
-  running-sees lent w m x read g seen recalls o k ho hk e = elim (truth (eqb (levelOf s o) l)) [
+  pub running-agrees : {masks : List ℕ} → Leveled s masks → (w : Words) (m : Manager) (x : Fork) (read : ℕ → ℕ → Value) → Running w m x read → (cache : List ℕ) → KnownIsRead s w l cache → Agrees s (w .current) cache false l read
+  running-agrees lent w m x read g cache known-read o k ho hk e = elim (truth (eqb (levelOf s o) l)) [
     | holds q ↦ own-read w m x read g o k ho hk (eqb-true (levelOf s o) l q) ∙ rw q refl
     | fails q ↦
         let apart : levelOf s o ≡ l → ⊥ = λ z. not-both (eqb (levelOf s o) l) (eq-eqb (levelOf s o) l z) q in
-        let known : knownAt seen o k ≡ true = rw q at e in
+        let known : knownAt cache o k ≡ true = rw q at e in
         sym (g .reads o k)
         ∙ found-in lent (running-busy w m x read g (λ _. m)) o k ho apart
-        ∙ sym (recalls o k ho hk apart known)
+        ∙ sym (known-read o k ho hk apart known)
         ∙ rw q refl
   ]

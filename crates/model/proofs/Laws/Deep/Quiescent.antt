@@ -21,8 +21,8 @@ use Rattle.model.proofs.Laws.Lists.{inserted-past}
 use Rattle.model.proofs.Laws.Invariant.Entries.{entriesOf}
 
 -- a level at which nothing waits or runs, with its counts and versions; and one at which fork c waits
-abbrev pub resting : Tally → List Version → Level
-resting t vs =
+abbrev pub quiescent-level : Tally → List Version → Level
+quiescent-level t vs =
     record { waiting = []; activity = idle; ended = t .ended; next = t .next; versions = vs }
 
 abbrev pub awaiting : Fork → Tally → List Version → Level
@@ -37,9 +37,9 @@ pub record Past (lo : ℕ) (t : Tally) (vs : List Version) : Type 0 where
   pub written : Each (λ w. w .stamp < t .next) vs
 
 -- nothing waits or runs at a level, and what has ended there is past
-pub record Rests (lo : ℕ) (t : Tally) (v : Level) : Type 0 where
+pub record LevelQuiescent (lo : ℕ) (t : Tally) (v : Level) : Type 0 where
   pub versions : List Version
-  pub is : v ≡ resting t versions
+  pub is : v ≡ quiescent-level t versions
   pub past : Past lo t versions
 
 pub past-raised : (lo hi : ℕ) (t : Tally) (vs : List Version) → lo ≤ hi → Past lo t vs → Past hi t vs
@@ -50,8 +50,8 @@ past-raised lo hi t vs h r =
       written = r .written;
     }
 
-pub rests-raised : (lo hi : ℕ) (t : Tally) (v : Level) → lo ≤ hi → Rests lo t v → Rests hi t v
-rests-raised lo hi t v h r =
+pub quiescent-raised : (lo hi : ℕ) (t : Tally) (v : Level) → lo ≤ hi → LevelQuiescent lo t v → LevelQuiescent hi t v
+quiescent-raised lo hi t v h r =
     record { versions = r .versions; is = r .is; past = past-raised lo hi t (r .versions) h (r .past) }
 
 -- a level j below a manager with stamps from lo to hi that carries s for it
@@ -74,9 +74,9 @@ all-before lo y (h ∷ hs) l e =
     rw (lt-ltb (h .stamp) y (omega (arith, e .0))) (ap (λ t. h ∷ t) (all-before lo y hs l (e .1)))
 
 -- a resting level for which no write stamp is carried
-pub rests-below : (s lo hi j : ℕ) (t : Tally) (v : Level) → s ≡ 0 → Rests lo t v → Below s lo hi j v
+pub quiescent-below : (s lo hi j : ℕ) (t : Tally) (v : Level) → s ≡ 0 → LevelQuiescent lo t v → Below s lo hi j v
 unfolding endBefore
-rests-below s lo hi j t v z r =
+quiescent-below s lo hi j t v z r =
     rw (r .is, z) (record {
       later = unfold Each in tt;
       readable = λ y l.
@@ -103,7 +103,7 @@ last-inserted d h (g ∷ gs) e =
     rw (inserted-past (λ h. h .stamp) h g gs (omega (arith, e .0))) (last-inserted (g .last) h gs (e .1))
 
 -- a fork arrives at a resting level: it waits alone, or is dropped
-pub arrived-kept : (c : Fork) (t : Tally) (vs : List Version) → ltb (length (t .ended)) maxManagers ≡ true → arrived c (resting t vs) ≡ awaiting c t vs
+pub arrived-kept : (c : Fork) (t : Tally) (vs : List Version) → ltb (length (t .ended)) maxManagers ≡ true → arrived c (quiescent-level t vs) ≡ awaiting c t vs
 unfolding arrived inserted
 arrived-kept c t vs e =
     let some : length (t .ended) < maxManagers = ltb-true (length (t .ended)) maxManagers e in
@@ -114,7 +114,7 @@ arrived-kept c t vs e =
     taken (suc zero) h = refl
     taken (suc (suc r)) h = refl
 
-pub arrived-dropped : (c : Fork) (t : Tally) (vs : List Version) → ltb (length (t .ended)) maxManagers ≡ false → arrived c (resting t vs) ≡ resting t vs
+pub arrived-dropped : (c : Fork) (t : Tally) (vs : List Version) → ltb (length (t .ended)) maxManagers ≡ false → arrived c (quiescent-level t vs) ≡ quiescent-level t vs
 unfolding arrived inserted
 arrived-dropped c t vs e =
     let many : maxManagers ≤ length (t .ended) = ltb-false (length (t .ended)) maxManagers e in

@@ -24,7 +24,7 @@ use Rattle.model.proofs.Laws.Invariant.Measure.{inserted-length}
 use Rattle.records.specs.Histories.{historiesAt, historyOf, Added}
 use Rattle.tallies.specs.Places.{nextPlace, tallied}
 use Rattle.tallies.proofs.Laws.Closed.{tallied-length, tallied-other, tallied-count, tallied-next}
-use Rattle.depth_first.specs.Kept.{Counted, Kept}
+use Rattle.depth_first.specs.Representation.{Counted, RepresentedBy}
 
 -- the fields after a write
 abbrev pub wrote : ℕ → ℕ → Value → Progress → Progress
@@ -42,7 +42,7 @@ current-other i o k o' k' v ws n = elim (ℕ-discrete o o') [
   | yes a ↦ rw (eq-eqb o o' a, ne-eqb k k' (λ b. n (sym a) (sym b))) refl
 ]
 
-pub kept-write : (s : List ℕ) (g : Progress) (c c' e t : List ℕ) (o k : ℕ) (v : Value) → Kept s g c e t → o < objectCount s → k < fields → FieldSet c c' o k v → Kept s (wrote o k v g) c' e t
+pub kept-write : (s : List ℕ) (g : Progress) (c c' e t : List ℕ) (o k : ℕ) (v : Value) → RepresentedBy s g c e t → o < objectCount s → k < fields → FieldSet c c' o k v → RepresentedBy s (wrote o k v g) c' e t
 kept-write s g c c' e t o k v q ho hk f =
     record {
       fields-there = rw (f .outside .length-same) (q .fields-there);
@@ -90,7 +90,7 @@ close-fields : (p : Program) (l : ℕ) (x : model.Fork) (m : Manager) (g : Progr
 unfolding close
 close-fields p l x m g o k = refl
 
-module _ (s : List ℕ) (g : Progress) (c e e' t : List ℕ) (q : Kept s g c e t) (few-levels : levelCount s ≤ maxLevels) (l : ℕ) (hl : l < levelCount s) (x : model.Fork) (m : Manager) (r : Ended) (is : historyOf r ≡ history.historyOf x m) (more : length (tallyAt g l .ended) < maxManagers) (a : Added e e' l (getD t l 0) r) (pace : m .stamp ≤ tallyAt g l .next + maxForks) where
+module _ (s : List ℕ) (g : Progress) (c e e' t : List ℕ) (q : RepresentedBy s g c e t) (few-levels : levelCount s ≤ maxLevels) (l : ℕ) (hl : l < levelCount s) (x : model.Fork) (m : Manager) (r : Ended) (is : historyOf r ≡ history.historyOf x m) (more : length (tallyAt g l .ended) < maxManagers) (a : Added e e' l (getD t l 0) r) (pace : m .stamp ≤ tallyAt g l .next + maxForks) where
   abbrev n : ℕ
   n = length (tallyAt g l .ended)
 
@@ -154,7 +154,7 @@ module _ (s : List ℕ) (g : Progress) (c e e' t : List ℕ) (q : Kept s g c e t
         pace = rw same (o .pace);
       }
 
-  pub kept-close : Kept s (close l x m g) c e' t'
+  pub kept-close : RepresentedBy s (close l x m g) c e' t'
   kept-close =
       record {
         fields-there = q .fields-there;

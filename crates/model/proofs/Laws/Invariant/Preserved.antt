@@ -35,8 +35,8 @@ use Rattle.model.proofs.Laws.Invariant.Tree.{Entry, forkedFrom, childIn
 use Rattle.model.proofs.Laws.Invariant.Forest.{Joins, Rest, whole}
 use Rattle.model.proofs.Laws.Steps.Locality.{Misses}
 use Rattle.model.proofs.Laws.Invariant.Entries.{entriesOf, runningEntry, waitingEntry, child-entry, arrived-joins}
-use Rattle.model.proofs.Laws.Invariant.Change.{Change, quiet, forks}
-use Rattle.model.proofs.Laws.Invariant.Orderly.{entriesIn, step-change, level-own, level-target, level-other, delivered-length, grown-rest, grown-fork, Orderly}
+use Rattle.model.proofs.Laws.Invariant.Change.{Change, internal, forks}
+use Rattle.model.proofs.Laws.Invariant.Forks.{entriesIn, step-change, level-own, level-target, level-other, delivered-length, grown-rest, grown-fork, ForkInvariant}
 
 -- a manager that runs on after a step is still one of its level
 after-at : (l : ℕ) (v : Level) (ws : List Fork) (versions : List Version) (x : Fork) (m : Manager) → m .level ≡ l → AtLevel l (after v ws versions x m .activity)
@@ -87,12 +87,12 @@ arrived-at : (u : ℕ) (x : Fork) (v : Level) → AtLevel u (v .activity) → At
 arrived-at u x v t = unfold arrived in t
 
 -- the step that done describes, at level l, in a state with the invariant
-module _ (p : Program) (so : Sound p) (l : ℕ) (h : l < p .levels) (st : State) (o : Orderly p st) (done : Moved) (own-at : AtLevel l (done .own .activity)) where
+module _ (p : Program) (so : Sound p) (l : ℕ) (h : l < p .levels) (st : State) (o : ForkInvariant p st) (done : Moved) (own-at : AtLevel l (done .own .activity)) where
   here : l < length st
   here = rw (o .size) h
 
-  pub quiet-keeps : (b : Arrival) → b ≡ none → Rest (entriesIn st l) (entriesOf l (done .own)) → Orderly p (delivered b (modify l (λ _. done .own) st))
-  quiet-keeps b q r =
+  pub internal-preserves : (b : Arrival) → b ≡ none → Rest (entriesIn st l) (entriesOf l (done .own)) → ForkInvariant p (delivered b (modify l (λ _. done .own) st))
+  internal-preserves b q r =
       record {
         size = delivered-length b _ ∙ modify-length l (λ _. done .own) st ∙ o .size;
         placed = λ k hk. placed k hk (ℕ-discrete l k);
@@ -110,8 +110,8 @@ module _ (p : Program) (so : Sound p) (l : ℕ) (h : l < p .levels) (st : State)
       rest k (yes e) = rw (sym e) (rw (ap (entriesOf l) (level-own b l (done .own) st (misses l) here)) r)
       rest k (no n) = whole (ap (entriesOf k) (level-other b l k (done .own) st n (misses k)))
 
-  pub fork-keeps : (u : ℕ) (c : Fork) (a : Entry) (W : List Entry) → waitingEntry u c ≡ childIn u a → entriesIn st l ≡ a ∷ W → Rest (forkedFrom a ∷ W) (entriesOf l (done .own)) → u < p .levels → strictly (p .dom) u l ≡ true → Fertile a → Orderly p (delivered (at u c) (modify l (λ _. done .own) st))
-  fork-keeps u c a W q e r hu s f =
+  pub fork-preserves : (u : ℕ) (c : Fork) (a : Entry) (W : List Entry) → waitingEntry u c ≡ childIn u a → entriesIn st l ≡ a ∷ W → Rest (forkedFrom a ∷ W) (entriesOf l (done .own)) → u < p .levels → strictly (p .dom) u l ≡ true → Fertile a → ForkInvariant p (delivered (at u c) (modify l (λ _. done .own) st))
+  fork-preserves u c a W q e r hu s f =
       record {
         size = delivered-length (at u c) _ ∙ modify-length l (λ _. done .own) st ∙ o .size;
         placed = λ k hk. placed k hk (ℕ-discrete l k) (ℕ-discrete u k);
@@ -166,18 +166,18 @@ unfolding Each
 first-of P a W E e g = (rw e at g) .0
 
 -- every scheduler step keeps the invariant
-pub step-keeps : (p : Program) (l : ℕ) (st : State) → Sound p → l < p .levels → Orderly p st → Orderly p (stepAt p l st)
+pub step-preserves : (p : Program) (l : ℕ) (st : State) → Sound p → l < p .levels → ForkInvariant p st → ForkInvariant p (stepAt p l st)
 unfolding stepAt
-step-keeps p l st so h o =
-    keeps (moveAt p l st) (move-at p l st so h (o .placed l h)) (step-change p l st so h (o .placed l h))
+step-preserves p l st so h o =
+    preserves (moveAt p l st) (move-at p l st so h (o .placed l h)) (step-change p l st so h (o .placed l h))
   where
-    arriving : (b c : Arrival) (s : State) → b ≡ c → Orderly p (delivered c s) → Orderly p (delivered b s)
+    arriving : (b c : Arrival) (s : State) → b ≡ c → ForkInvariant p (delivered c s) → ForkInvariant p (delivered b s)
     arriving b c s q r = rw q r
 
-    keeps : (done : Moved) → AtLevel l (done .own .activity) → Change p l (entriesIn st l) (entriesOf l (done .own)) (done .arrival) → Orderly p (applied l done st)
-    keeps done t (quiet q r) = quiet-keeps p so l h st o done t (done .arrival) q r
-    keeps done t (forks u x m message W q e r hu s f) =
+    preserves : (done : Moved) → AtLevel l (done .own .activity) → Change p l (entriesIn st l) (entriesOf l (done .own)) (done .arrival) → ForkInvariant p (applied l done st)
+    preserves done t (internal q r) = internal-preserves p so l h st o done t (done .arrival) q r
+    preserves done t (forks u x m message W q e r hu s f) =
         let a = runningEntry l x (m .forks) in
         let d = first-of (λ a. a .depth + rank (p .levels) (p .dom) l ≤ stampDigits + 1) a W (entriesIn st l) e (o .grown .shallow l h) in
         arriving (done .arrival) (at u (childOf l x m message)) (modify l (λ _. done .own) st) q
-        (fork-keeps p so l h st o done t u (childOf l x m message) a W (child-entry l u x m message) e r hu s (fertile p l x (m .forks) so h d f))
+        (fork-preserves p so l h st o done t u (childOf l x m message) a W (child-entry l u x m message) e r hu s (fertile p l x (m .forks) so h d f))
