@@ -12,14 +12,14 @@ use Rattle.managers.proofs.Effect as effect
 
 -- is a READ asked for
 pub data Asking (e : Effect) : Type 0 where
-  asks : (o k : ℕ) → e ≡ Tables o k → Asking e
+  asks : (o k : ℕ) → e ≡ Read o k → Asking e
   not-asks : isAsking e ≡ false → Asking e
 
 pub asked : (e : Effect) → Asking e
 asked Nothing = not-asks refl
 asked End = not-asks refl
 asked (Write o k v) = not-asks refl
-asked (Tables o k) = asks o k refl
+asked (Read o k) = asks o k refl
 asked (Fork u o b v) = not-asks refl
 asked (Call o b a v) = not-asks refl
 asked (Pop v) = not-asks refl

@@ -98,7 +98,7 @@ other : (e : Effect) → OneOf (0 ∷ 1 ∷ 3 ∷ 5 ∷ 6 ∷ []) (tagOf the-typ
 other Nothing h = refl
 other End h = refl
 other (Write object field value) h = absurd (miss (0 ∷ 1 ∷ 3 ∷ 5 ∷ 6 ∷ []) 2 tt h)
-other (Tables object field) h = refl
+other (Read object field) h = refl
 other (Fork level object name parameter) h = absurd (miss (0 ∷ 1 ∷ 3 ∷ 5 ∷ 6 ∷ []) 4 tt h)
 other (Call object name answer parameter) h = refl
 other (Pop reply) h = refl
