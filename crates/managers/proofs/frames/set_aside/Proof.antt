@@ -1,6 +1,6 @@
 -- `managers::frames::set_aside` meets its contract. Assumes nothing.
 use Prim.Native.Nat.{ℕ, _<_}
-use mathlib.Core.Path.{_≡_}
+use mathlib.Core.Path.{_≡_, refl}
 use mathlib.Core.List.{List}
 use native.Mathlib.Omega.{arith}
 use Rattle.session.specs.Questions.{verdictOf}
@@ -34,7 +34,7 @@ cast-t9 c =
     record { fits = next-fits (s .args .session .now) (s .args .f) (s .pre .0) (s .pre .1) }
 
 returns : tie.Need-returns
-returns c = search needs
+returns c = (refl, search needs)
 
 pub set-aside-spec : {M : Type 1} → statement M
 set-aside-spec = tie.close (tie.spec cast-t7 cast-t8 cast-t9 returns)
