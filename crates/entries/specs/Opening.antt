@@ -1,12 +1,12 @@
 -- What every entry does before a run. Assumes nothing.
 use Prim.Native.Nat.{ℕ}
 use mathlib.Core.Path.{_≡_}
-use mathlib.Core.Bool.{Bool, cond}
+use mathlib.Core.Bool.{Bool}
 use mathlib.Core.List.{List, _++_}
-use lib.Dec.{eqb}
 use lib.ListN.{length, drop}
-use Rattle.session.specs.Parts.{levelCount, masksOf}
+use Rattle.session.specs.Parts.{levelCount}
 use Rattle.session.specs.Questions.{verdictOf, numberOfVerdict}
+use Rattle.session.specs.Reading.{tableMade}
 use Rattle.session.specs.declared.Verdict.the-variants.{Accepted}
 use Rattle.model.specs.Entries.{Request, entryRefusal}
 use Rattle.entries.specs.declared.Answer.{Answer}
@@ -20,11 +20,12 @@ Refused number place r = (r .number ≡ number) × (r .place ≡ place) × (r .c
 abbrev pub Finished : ℕ → Answer → Type 0
 Finished count r = (r .number ≡ 0) × (r .place ≡ 0) × (r .count ≡ count)
 
--- "Check uses 1 to 8": its number and, if that is 0, how many levels the session has, and their masks at the front of a table
+-- "Check uses 1 to 8": its number, and the table that the check makes, of so many levels, in front of what was there. Law
+-- (`proofs/Laws/Opening`): where the number is 0 it is the session's level table (`opened`)
 pub record Opens (s before after : List ℕ) (r : Opened) : Type 0 where
   pub number : r .number ≡ numberOfVerdict (verdictOf s)
-  pub levels : r .levels ≡ cond (eqb (r .number) 0) (levelCount s) 0
-  pub table : after ≡ cond (eqb (r .number) 0) (masksOf s ++ drop (levelCount s) before) before
+  pub levels : r .levels ≡ length (tableMade s)
+  pub table : after ≡ tableMade s ++ drop (length (tableMade s)) before
 
 -- the lowest of questions 1 to 11 that says no, or 0, of any request of an accepted session with so many levels, this clearance and a result
 -- buffer of so many bytes; `ten` is what question 10 says, or yes

@@ -2,7 +2,6 @@
 // lent slices are measured; and a refusal is answered.
 use model::RESULT_BYTES;
 use model::WORK_NUMBERS;
-use session::contents;
 ghost use Prim.Native.Nat.{_^_, _≤_, _<_};
 ghost use mathlib.Core.Path.{_≡_};
 ghost use lib.Dec.{leb};
@@ -18,7 +17,8 @@ pub struct Answer {
     pub count: u32,
 }
 
-// What questions 1 to 8 say of a session: the lowest that says no, or 0 and how many levels there are.
+// What questions 1 to 8 say of a session: the lowest that says no, or 0; and how many levels its level table has, 0 where
+// the table is not made.
 pub struct Opened {
     pub number: u32,
     pub levels: usize,
@@ -52,11 +52,10 @@ pub fn open(session: &[u8], masks: &mut [u16]) -> Opened
     requires { ⌜ maxLevels ≤ length (now masks) ⌝ }
     ensures { λ r. ⌜ Opens (now (session .entry)) (now (masks .entry)) (now (masks .exit)) r ⌝ }
 {
-    let number = session::number_of(session::check(session));
-    if number != 0 {
-        return Opened { number, levels: 0 };
-    }
-    let levels = contents::level_table(session, masks);
+    let checked = session::check_into(session, masks);
+    let verdict = checked.verdict;
+    let levels = checked.levels;
+    let number = session::number_of(verdict);
     Opened { number, levels }
 }
 

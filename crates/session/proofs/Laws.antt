@@ -10,6 +10,7 @@ pub mod EmptiedAccepted
 pub mod Scripts
 pub mod Fill
 pub mod Numbering
+pub mod Checked
 pub mod Contents
 pub mod Accepted
 pub mod Program

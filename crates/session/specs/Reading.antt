@@ -3,22 +3,34 @@
 -- (`method-ends`, `method-few`); which step is there (`step-there`), and that the script's end is behind them (`step-over`).
 use Prim.Native.Nat.{ℕ, suc, _+_, _-_, _/_, _%_}
 use mathlib.Core.Path.{_≡_}
-use mathlib.Core.Bool.{not}
-use mathlib.Core.List.{List}
+use mathlib.Core.Bool.{cond, _&&_, not}
+use mathlib.Core.List.{List, [], _++_}
 use lib.Dec.{eqb, ltb}
-use lib.ListN.{length}
+use lib.ListN.{length, drop}
 use Rattle.lattice.specs.Range.{first}
 use Rattle.session.specs.Limits.{names, maxMethods}
 use Rattle.session.specs.Lists.{select, tab}
 use Rattle.session.specs.Record.{Record, recordAt}
-use Rattle.session.specs.Parts.{stepRecords, levelCount, objectCount, stepCount, key, keyOf}
+use Rattle.session.specs.Parts.{stepRecords, levelCount, objectCount, stepCount, masksOf, key, keyOf}
+use Rattle.session.specs.Questions.{question1, question2, question3, verdictOf}
 use Rattle.session.specs.Meaning.{methodOf}
+use Rattle.session.specs.declared.Checked.{Checked}
 
 -- these numbers are a session's
 pub record Counted (s : List ℕ) (levels objects steps : ℕ) : Type 0 where
   pub levels-are : levels ≡ levelCount s
   pub objects-are : objects ≡ objectCount s
   pub steps-are : steps ≡ stepCount s
+
+-- the level table that a check makes: "each put of the whole input before the next", so none unless questions 1 to 3 say yes
+unfoldable pub tableMade : List ℕ → List ℕ
+tableMade s = cond (question1 s && question2 s && question3 s) (masksOf s) []
+
+-- what a check of a session leaves: the verdict, and the table, of so many levels, in front of what was there
+pub record Checks (s before after : List ℕ) (r : Checked) : Type 0 where
+  pub verdict : r .verdict ≡ verdictOf s
+  pub levels : r .levels ≡ length (tableMade s)
+  pub table : after ≡ tableMade s ++ drop (length (tableMade s)) before
 
 -- how many elements are below k by f
 abbrev pub countBelow : {A : Type 0} → (A → ℕ) → ℕ → List A → ℕ

@@ -1,14 +1,13 @@
 // What an accepted session says: its level table, its objects, its methods and its root message.
 //
-// A run makes the level table and the method index once. With them each function below costs a few
-// reads: no record is searched for.
+// A call makes the level table once (`check_into`), and a run the method index. With them each
+// function below costs a few reads: no record is searched for.
 use crate::Message;
 use crate::Method;
 use crate::Step;
 use crate::Value;
 use crate::Verdict;
 use crate::kinds;
-use crate::levels;
 use crate::limits::MAX_METHODS;
 use crate::limits::NAMES;
 use crate::limits::RECORD_BYTES;
@@ -18,21 +17,11 @@ ghost use mathlib.Core.Path.{_≡_};
 ghost use mathlib.Core.List.{_++_};
 ghost use Prim.Native.Nat.{ℕ, _+_, _≤_, _<_};
 ghost use lib.ListN.{length, drop};
-ghost use Rattle.session.specs.Limits.{maxLevels, maxMethods, names, fields};
+ghost use Rattle.session.specs.Limits.{maxMethods, names, fields};
 ghost use Rattle.session.specs.Parts.{levelCount, objectCount, stepCount, masksOf};
 ghost use Rattle.session.specs.Questions.{verdictOf};
 ghost use Rattle.session.specs.Meaning.{levelOf, fieldOf, stepAt, rootOf};
 ghost use Rattle.session.specs.Reading.{methodStart, indexOf, MethodAt, IsMethod};
-
-// Writes the masks of the levels to the front of `masks`, and returns how many levels there are.
-pub fn level_table(session: &[u8], masks: &mut [u16]) -> usize
-    requires { ⌜ (verdictOf (now session) ≡ Verdict.Accepted) × (maxLevels ≤ length (now masks)) ⌝ }
-    ensures { λ r. ⌜ (r ≡ levelCount (now (session .entry))) × (now (masks .exit) ≡ masksOf (now (session .entry)) ++ drop (levelCount (now (session .entry))) (now (masks .entry))) ⌝ }
-{
-    let levels = kinds::count_below(session, 0, kinds::OBJECT_RECORD);
-    levels::fill_masks(session, levels, masks);
-    levels
-}
 
 // How many objects there are.
 pub fn object_count(session: &[u8]) -> usize

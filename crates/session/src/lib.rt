@@ -15,13 +15,13 @@ use crate::limits::MAX_RECORDS;
 use crate::limits::RECORD_BYTES;
 ghost use mathlib.Core.Path.{_≡_};
 ghost use mathlib.Core.Bool.{true};
-ghost use lib.ListN.{drop};
+ghost use mathlib.Core.List.{_++_};
+ghost use lib.ListN.{length, drop};
 ghost use Prim.Native.Nat.{_≤_};
-ghost use Rattle.lattice.specs.Table as table;
 ghost use Rattle.session.specs.Limits.{maxLevels};
 ghost use Rattle.session.specs.Parts.{levelCount, masksOf};
-ghost use Rattle.session.specs.Questions.{kindsRise, question1, question2, asked, firstNo, verdictOf, numberOfVerdict};
-ghost use Rattle.session.specs.Reading.{Counted};
+ghost use Rattle.session.specs.Questions.{question1, question2, question3, asked, firstNo, verdictOf, numberOfVerdict};
+ghost use Rattle.session.specs.Reading.{Counted, Checks};
 
 // A field, a register, a parameter or a reply: NIL or a number.
 pub enum Value {
@@ -86,6 +86,13 @@ pub enum Verdict {
     Root,
 }
 
+// What a check says of a session: the verdict, and how many levels its level table has, 0 where the
+// table is not made.
+pub struct Checked {
+    pub verdict: Verdict,
+    pub levels: usize,
+}
+
 // Questions 6 to 8, of a session of which question 2 said yes.
 fn check_contents(session: &[u8], levels: usize, objects: usize, steps: usize) -> Verdict
     requires { ⌜ question2 (now session) ≡ true ⌝ }
@@ -107,26 +114,22 @@ fn check_contents(session: &[u8], levels: usize, objects: usize, steps: usize) -
     }
 }
 
-// What the questions about a level table say of the session's.
-fn check_table(session: &[u8], levels: usize) -> lattice::Verdict
-    requires { ⌜ (kindsRise (now session) ≡ true) × (levels ≡ levelCount (now session)) × (levels ≤ maxLevels) ⌝ }
-    ensures { λ x. ⌜ x ≡ table.verdictOf (masksOf (now (session .entry))) ⌝ }
-{
-    let mut masks = [0u16; MAX_LEVELS];
-    levels::fill_masks(session, levels, &mut masks);
-    lattice::check(&masks[..levels])
-}
-
-// Questions 3 to 8, of a session of which question 2 said yes.
-fn check_levels(session: &[u8], levels: usize, objects: usize, steps: usize) -> Verdict
-    requires { ⌜ question2 (now session) ≡ true ⌝ }
+// Questions 4 to 8, of a session of which questions 2 and 3 said yes. The masks of its levels are
+// written to the front of `masks`.
+fn check_levels(
+    session: &[u8],
+    levels: usize,
+    objects: usize,
+    steps: usize,
+    masks: &mut [u16],
+) -> Verdict
+    requires { ⌜ (question2 (now session) ≡ true) × (question3 (now session) ≡ true) ⌝ }
     requires { ⌜ Counted (now session) levels objects steps ⌝ }
-    ensures { λ x. ⌜ x ≡ firstNo (drop 2 (asked (now (session .entry)))) ⌝ }
+    requires { ⌜ maxLevels ≤ length (now masks) ⌝ }
+    ensures { λ x. ⌜ (x ≡ firstNo (drop 3 (asked (now (session .entry))))) × (now (masks .exit) ≡ masksOf (now (session .entry)) ++ drop (levelCount (now (session .entry))) (now (masks .entry))) ⌝ }
 {
-    if !levels::are_numbered(session, levels, objects, steps) {
-        return Verdict::Numbering;
-    }
-    let table = check_table(session, levels);
+    levels::fill_masks(session, levels, masks);
+    let table = lattice::check(&masks[..levels]);
     match table {
         lattice::Verdict::Passed => check_contents(session, levels, objects, steps),
         lattice::Verdict::NotOrdered => Verdict::NotOrdered,
@@ -148,25 +151,46 @@ fn is_whole(session: &[u8]) -> bool
     n / RECORD_BYTES <= MAX_RECORDS
 }
 
-// Checks a session: what questions 1 to 8 say of any bytes, of any length and content.
-pub fn check(session: &[u8]) -> Verdict
-    ensures { λ x. ⌜ x ≡ verdictOf (now (session .entry)) ⌝ }
+// What is said of a session whose level table is not made.
+fn untabled(verdict: Verdict) -> Checked
+    ensures { λ r. ⌜ (r .verdict ≡ verdict) × (r .levels ≡ 0) ⌝ }
+{
+    Checked { verdict, levels: 0 }
+}
+
+// Checks a session: what questions 1 to 8 say of any bytes, of any length and content. Where 1 to 3
+// say yes the level table is made at the front of `masks`. Nothing else there changes.
+pub fn check_into(session: &[u8], masks: &mut [u16]) -> Checked
+    requires { ⌜ maxLevels ≤ length (now masks) ⌝ }
+    ensures { λ r. ⌜ Checks (now (session .entry)) (now (masks .entry)) (now (masks .exit)) r ⌝ }
 {
     if !is_whole(session) {
-        return Verdict::Length;
+        return untabled(Verdict::Length);
     }
     if !kinds::kinds_rise(session) {
-        return Verdict::Kinds;
+        return untabled(Verdict::Kinds);
     }
     let layout = kinds::count_kinds(session);
     let levels = layout.levels;
     let objects = layout.objects;
     let steps = layout.steps;
-    if kinds::are_present(session, levels, objects, steps) {
-        check_levels(session, levels, objects, steps)
-    } else {
-        Verdict::Kinds
+    if !kinds::are_present(session, levels, objects, steps) {
+        return untabled(Verdict::Kinds);
     }
+    if !levels::are_numbered(session, levels, objects, steps) {
+        return untabled(Verdict::Numbering);
+    }
+    let verdict = check_levels(session, levels, objects, steps, masks);
+    Checked { verdict, levels }
+}
+
+// Checks a session, as `check_into` does, and keeps no level table.
+pub fn check(session: &[u8]) -> Verdict
+    ensures { λ x. ⌜ x ≡ verdictOf (now (session .entry)) ⌝ }
+{
+    let mut masks = [0u16; MAX_LEVELS];
+    let checked = check_into(session, &mut masks);
+    checked.verdict
 }
 
 // Document 01's number of a verdict.

@@ -2,18 +2,18 @@
 use Prim.Native.Nat.{ℕ, _≤_, _<_}
 use mathlib.Core.Path.{_≡_, refl, sym, _∙_, ap}
 use mathlib.Core.Bool.{Bool, true, false}
-use mathlib.Core.List.{List, [], _++_}
+use mathlib.Core.List.{List, []}
 use native.Mathlib.Omega.{arith}
-use borrow.Author.Tests.{eq-eqb, ne-eqb, lt-ltb, le-ltb, le-leb, lt-leb}
+use borrow.Author.Tests.{ne-eqb, lt-ltb, le-ltb, le-leb, lt-leb}
 use lib.ListN.{length, take, drop, length-append}
 use lib.Seq.{length-take-le, take-at}
-use Rattle.session.specs.Parts.{levelCount, masksOf}
+use Rattle.session.specs.Parts.{levelCount}
 use Rattle.session.specs.Meaning.{rootOf}
 use Rattle.session.specs.Program.{programOf}
-use Rattle.session.specs.Questions.{verdictOf, numberOfVerdict}
-use Rattle.session.specs.declared.Verdict.{Verdict}
+use Rattle.session.specs.Questions.{verdictOf}
+use Rattle.session.specs.Reading.{tableMade}
 use Rattle.session.specs.declared.Verdict.the-variants.{Accepted}
-use Rattle.session.proofs.Laws.Contents.{masks-length}
+use Rattle.session.proofs.Laws.Checked.{accepted-table, accepted-count}
 use Rattle.scripts.specs.Valid.{Leveled}
 use Rattle.model.specs.Limits.{resultBytes}
 use Rattle.model.specs.Schedule.{plainOrder}
@@ -47,18 +47,6 @@ module _ (levels clearance : ℕ) (ten : Bool) (bytes : ℕ) where
     unfolding entryRefusal
     refused-none t m q a l c b = rw (a, l, c, b, t, lt-ltb clearance levels h, le-leb resultBytes bytes m) refl
 
--- a session with a verdict of this number is opened, or is not
-module _ (s masks : List ℕ) (number : ℕ) (v : Verdict) (e : number ≡ numberOfVerdict v) (i : v ≡ verdictOf s) where
-  pub opens-not : (number ≡ 0 → ⊥) → Opens s masks masks (record { number = number; levels = 0 })
-  opens-not n =
-      let no' = ne-eqb number 0 n in
-      record { number = e ∙ ap numberOfVerdict i; levels = rw no' refl; table = rw no' refl }
-
-  pub opens : number ≡ 0 → (levels : ℕ) (masks' : List ℕ) → levels ≡ levelCount s → masks' ≡ masksOf s ++ drop (levelCount s) masks → Opens s masks masks' (record { number = number; levels = levels })
-  opens z levels masks' l m =
-      let yes = eq-eqb number 0 z in
-      record { number = e ∙ ap numberOfVerdict i; levels = rw yes l; table = rw yes m }
-
 -- an opened session: its level table, from the front of the masks
 pub record Table (s masks : List ℕ) (levels : ℕ) : Type 0 where
   pub count : levelCount s ≡ levels
@@ -71,17 +59,17 @@ module _ {s before after : List ℕ} {r : Opened} (o : Opens s before after r) w
   pub opened : r .number ≡ 0 → Table s after (r .levels)
   opened z =
       let a : verdictOf s ≡ Accepted = number-accepted (verdictOf s) (sym (o .number) ∙ z) in
-      let yes = eq-eqb (r .number) 0 z in
-      let count : r .levels ≡ levelCount s = rw yes at (o .levels) in
-      let table : after ≡ masksOf s ++ drop (levelCount s) before = rw yes at (o .table) in
-      let within : r .levels ≤ length after = omega (arith, count, ap length table, length-append (masksOf s) (drop (levelCount s) before), masks-length s a) in
+      let count : r .levels ≡ levelCount s = o .levels ∙ accepted-count s a in
+      let front : take (r .levels) after ≡ tableMade s =
+      ap (take (r .levels)) (o .table) ∙ take-at (tableMade s) (drop (length (tableMade s)) before) (r .levels) (sym (o .levels)) in
+      let within : r .levels ≤ length after = omega (arith, o .levels, ap length (o .table), length-append (tableMade s) (drop (length (tableMade s)) before)) in
       record {
         count = sym count;
         within = within;
         long = sym (length-take-le (r .levels) after within);
         leveled = record {
           accepted = a;
-          masks-are = ap (take (r .levels)) table ∙ take-at (masksOf s) (drop (levelCount s) before) (r .levels) (masks-length s a ∙ sym count);
+          masks-are = front ∙ accepted-table s a;
         };
       }
 

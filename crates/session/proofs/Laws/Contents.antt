@@ -12,8 +12,8 @@ use lib.Seq.{drop-length}
 use Rattle.lattice.proofs.Laws.Range.{and-left}
 use Rattle.session.specs.Limits.{names, maxMethods, maxObjects}
 use Rattle.session.specs.Lists.{risingFrom}
-use Rattle.session.specs.Record.{recordAt, recordCount, numberOf, nameOf, maskOf, stepOf}
-use Rattle.session.specs.Parts.{levelRecords, objectRecords, stepRecords, levelCount, objectCount, stepCount, masksOf, key, keyOf, methodRecords, rootRecord}
+use Rattle.session.specs.Record.{recordAt, recordCount, numberOf, nameOf, stepOf}
+use Rattle.session.specs.Parts.{objectRecords, stepRecords, levelCount, objectCount, stepCount, masksOf, key, keyOf, methodRecords, rootRecord}
 use Rattle.session.specs.Questions.{scriptValid, methodsValid, scriptsValid, kindsRise, verdictOf}
 use Rattle.session.specs.Meaning.{methodOf, stepAt}
 use Rattle.session.specs.Reading.{methodStart, indexOf, countBelow}
@@ -25,6 +25,7 @@ use Rattle.session.proofs.Laws.Choice.{select-same}
 use Rattle.session.proofs.Laws.Verdict.{AllYes, accepted}
 use Rattle.session.proofs.Laws.Parts.{kinds-rise, object-is, step-is, root-is, records-are}
 use Rattle.session.proofs.Laws.Numbering.{few-levels, few-objects, few-steps}
+use Rattle.session.proofs.Laws.Checked.{masks-count}
 use Rattle.session.proofs.Laws.Emptied.{steps-valid, step-name, method-is}
 use Rattle.session.proofs.Laws.Scripts.{keyAt}
 
@@ -70,8 +71,7 @@ module _ (s : List ℕ) (a : verdictOf s ≡ Accepted) where
 
   -- the level table has a mask for each level
   pub masks-length : length (masksOf s) ≡ levelCount s
-  unfolding masksOf
-  masks-length = length-map (levelRecords s) maskOf
+  masks-length = masks-count s
 
   -- an object's record, and the root's
   pub object-record : (o : ℕ) → o < objectCount s → getD (objectRecords s) o [] ≡ recordAt s (levelCount s + o)
