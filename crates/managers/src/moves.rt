@@ -9,7 +9,7 @@ use scripts::MAX_FORKS;
 use scripts::MAX_FRAMES;
 use scripts::MAX_WRITES;
 use session::Value;
-ghost use Prim.Native.Nat.{_+_, _≤_, _<_};
+ghost use Prim.Native.Nat.{_≤_, _<_};
 ghost use mathlib.Core.Path.{_≡_};
 ghost use mathlib.Core.Bool.{cond};
 ghost use Rattle.session.specs.Limits.{maxObjects, fields, registers};

@@ -16,10 +16,10 @@ use Rattle.session.specs.declared.Verdict.the-variants.{Accepted, Length, Kinds
 use Rattle.session.proofs.Laws.Lists.{Truth, holds, fails, truth}
 use Rattle.session.proofs.Laws.Verdict.{verdict-chain}
 use Rattle.model.specs.Step.{State, stepAt}
-use Rattle.model.specs.Schedule.{question15, stepRefusal, Outcome, finished, refused, runFrom, runOf, plainOrder}
+use Rattle.model.specs.Schedule.{initialState, question15, stepRefusal, Outcome, finished, refused, runFrom, runOf, plainOrder}
 use Rattle.model.specs.Entries.{Request, question9, question10, question11, entryRefusal, answerOf, timetabled, plain, deep}
 use Rattle.model.specs.Faults as faults
-use Rattle.model.specs.Faults.{Question, asks, checkAsks, runAsks, deepAsks, stepAsks, AllYes, LowestNo, Put, ends, Demand1Check, Made, initialState, StopsAt, ListMade, Listed, stops, unended, ended, Demand1Timetabled, Demand1Plain, Demand1DepthFirst}
+use Rattle.model.specs.Faults.{Question, asks, checkAsks, runAsks, deepAsks, stepAsks, AllYes, LowestNo, Put, ends, Demand1Check, Made, StopsAt, ListMade, Listed, stops, unended, ended, Demand1Timetabled, Demand1Plain, Demand1DepthFirst}
 use Rattle.model.proofs.Laws.Order.PlainRun.{accepted-plain}
 use Rattle.model.proofs.Laws.Reader.Answers.{passes, timetabled-is, deep-is}
 use Rattle.model.proofs.Laws.Code.Progress.{run-made, run-stops, run-ends, run-unended}

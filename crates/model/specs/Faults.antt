@@ -12,7 +12,7 @@ use Rattle.session.specs.Questions as session
 use Rattle.session.specs.Meaning.{rootOf}
 use Rattle.session.specs.Program.{Program, programOf}
 use Rattle.model.specs.Step.{State, stepAt}
-use Rattle.model.specs.Schedule.{readIn, question12, question13, question14, question15, plainOrder}
+use Rattle.model.specs.Schedule.{initialState, question12, question13, question14, question15, plainOrder}
 use Rattle.model.specs.DepthFirst.{depthFirst}
 use Rattle.model.specs.Result.{resultOf, resultOfDepthFirst}
 use Rattle.model.specs.Entries.{Request, Answer, question9, question10, question11, cleared, bytesFor, timetabled, plain, deep}
@@ -78,10 +78,6 @@ pub record Demand1Check : Type 0 where
 unfoldable pub Made : Program → State → List ℕ → State → Type 0
 Made p a [] b = a ≡ b
 Made p a (l ∷ ls) b = AllYes (stepAsks p a l) × Made p (stepAt p l a) ls b
-
--- "The first starts from the session as read in"
-abbrev pub initialState : List ℕ → State
-initialState s = readIn (programOf s) (rootOf s)
 
 -- question k is the lowest of 12 to 14 that says no of the byte at position i, and the steps before it are made
 pub record StopsAt (s ls : List ℕ) (k i : ℕ) : Type 0 where

@@ -10,7 +10,8 @@ use lib.Dec.{eqb, ltb}
 use lib.ListN.{replicate}
 use Rattle.lattice.specs.Range.{all, first, implies}
 use Rattle.lattice.specs.Order.{strictly}
-use Rattle.session.specs.Program.{Program}
+use Rattle.session.specs.Meaning.{rootOf}
+use Rattle.session.specs.Program.{Program, programOf}
 use Rattle.session.specs.declared.Message.{Message}
 use Rattle.model.specs.Limits.{maxSchedule}
 use Rattle.model.specs.Lists.{modify}
@@ -23,6 +24,10 @@ use Rattle.model.specs.Step.{State, levelAt, stepAt}
 unfoldable pub readIn : Program → Message → State
 readIn p root =
     modify (p .level (root .object)) (arrived (rootFork (p .levels) root)) (replicate (p .levels) newLevel)
+
+-- of a session
+abbrev pub initialState : List ℕ → State
+initialState s = readIn (programOf s) (rootOf s)
 
 -- 12. is it a present level?
 abbrev pub question12 : Program → ℕ → Bool

@@ -16,7 +16,7 @@ use Rattle.scripts.specs.State.{Manager}
 use Rattle.model.specs.Limits.{workNumbers, resultBytes}
 use Rattle.model.specs.Level.{idle, hasManager}
 use Rattle.model.specs.Step.{State, levelAt}
-use Rattle.model.specs.Schedule.{finished, refused, readIn, stepRefusal, runOf, plainOrder, Leads}
+use Rattle.model.specs.Schedule.{initialState, finished, refused, stepRefusal, runOf, plainOrder, Leads}
 use Rattle.model.specs.Result.{byNumber}
 use Rattle.model.specs.Entries.{answerOf}
 use Rattle.words.specs.Limits.{fieldWords}
@@ -30,10 +30,6 @@ use Rattle.tallies.specs.Permits.{numberOfPermit}
 use Rattle.scheduler.specs.declared.Outcome.{Outcome}
 use Rattle.scheduler.specs.declared.Outcome.the-variants as outcome
 use Rattle.tallies.specs.declared.Permit.{Permit}
-
--- the session as read in
-abbrev pub initialState : List ℕ → State
-initialState s = readIn (programOf s) (rootOf s)
 
 -- the words represent the state st, and no manager runs in it: so they represent it whatever managers are held
 pub record Quiescent (s : List ℕ) (w : Words) (st : State) : Type 0 where

@@ -14,9 +14,10 @@ use words::fields::FIELD_WORDS;
 ghost use Rattle.session.specs.Meaning.{levelOf, rootObject};
 ghost use Rattle.scripts.specs.Valid.{Leveled};
 ghost use Rattle.model.specs.Entries.{timetabled, plain as plainly, Answers};
+ghost use Rattle.model.specs.Schedule.{initialState};
 ghost use Rattle.records.specs.Writing.{Ready};
-ghost use Rattle.level_managers.specs.Steps.{Read};
-ghost use Rattle.scheduler.specs.Runs.{initialState, listOf, Quiescent, Fresh, InitialWords, Ends, SameRest, Shows, RunReady, ListDone};
+ghost use Rattle.level_managers.specs.Steps.{Tables};
+ghost use Rattle.scheduler.specs.Runs.{listOf, Quiescent, Fresh, InitialWords, Ends, SameRest, Shows, RunReady, ListDone};
 
 // How the scheduler steps of a run end.
 pub enum Outcome {

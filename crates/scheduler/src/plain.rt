@@ -6,9 +6,10 @@ use tallies::Permit;
 use tallies::WAITING;
 use words::fields::FIELD_WORDS;
 ghost use mathlib.Core.Path.{_≡_};
+ghost use Rattle.model.specs.Schedule.{initialState};
 ghost use Rattle.tallies.specs.Permits.{isGiven};
-ghost use Rattle.level_managers.specs.Steps.{Read};
-ghost use Rattle.scheduler.specs.Runs.{initialState, Quiescent, LevelReady, LevelDone, Done, SameRest};
+ghost use Rattle.level_managers.specs.Steps.{Tables};
+ghost use Rattle.scheduler.specs.Runs.{Quiescent, LevelReady, LevelDone, Done, SameRest};
 ghost use Rattle.scheduler.specs.Running.{NextReady, NextDone};
 
 // Starts the fork of smallest stamp that waits at a level that may step, and makes the steps of its manager

@@ -8,9 +8,10 @@ use tallies::Permit;
 use words::fields;
 use words::fields::FIELD_WORDS;
 ghost use mathlib.Core.Path.{_≡_};
+ghost use Rattle.model.specs.Schedule.{initialState};
 ghost use Rattle.tallies.specs.Permits.{numberOfPermit, endedOf, Countable};
-ghost use Rattle.level_managers.specs.Steps.{Read};
-ghost use Rattle.scheduler.specs.Runs.{initialState, Quiescent, RefusedAt, endOf, Ends, SameRest};
+ghost use Rattle.level_managers.specs.Steps.{Tables};
+ghost use Rattle.scheduler.specs.Runs.{Quiescent, RefusedAt, endOf, Ends, SameRest};
 
 // Document 01's number of what questions 12 to 14 say.
 fn number_of(permit: Permit) -> u32

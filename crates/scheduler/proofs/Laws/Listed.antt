@@ -30,7 +30,7 @@ use Rattle.managers.specs.declared.Manager as code
 use Rattle.managers.specs.declared.Effect.the-variants as act
 use Rattle.model.specs.Limits.{maxSchedule}
 use Rattle.model.specs.Step.{State, stepAt}
-use Rattle.model.specs.Schedule.{finished, stepRefusal, runFrom, runOf}
+use Rattle.model.specs.Schedule.{initialState, finished, stepRefusal, runFrom, runOf}
 use Rattle.model.proofs.Laws.Order.Accepted.{sound}
 use Rattle.model.proofs.Laws.Order.PlainRun.{read-in-total}
 use Rattle.model.proofs.Laws.Invariant.Bounded.{total, step-less}
@@ -38,8 +38,8 @@ use Rattle.model.proofs.Laws.Code.Progress.{allowed, run-made, run-stops, run-e
 use Rattle.tallies.specs.Places.{busyPlace, clearPlace, tallyNumbers}
 use Rattle.level_managers.specs.Representation.{Words, RunInvariant, placed}
 use Rattle.tallies.specs.Permits.{numberOfPermit, busyIn, endedOf, permitOf, noted, Countable}
-use Rattle.level_managers.specs.Steps.{Read, IsBusy, ReadReady, Answered, PerformReady, SettleReady, StepDone, StartReady, Started}
-use Rattle.scheduler.specs.Runs.{initialState, Quiescent, SameRest, endOf, Ends}
+use Rattle.level_managers.specs.Steps.{Tables, IsBusy, ReadReady, Answered, PerformReady, SettleReady, StepDone, StartReady, Started}
+use Rattle.scheduler.specs.Runs.{Quiescent, SameRest, endOf, Ends}
 use Rattle.scheduler.specs.declared.Outcome.{Outcome}
 use Rattle.scheduler.specs.declared.Outcome.the-variants as outcome
 use Rattle.tallies.specs.declared.Permit.{Permit}

@@ -31,7 +31,7 @@ use Rattle.model.proofs.Laws.Code.Progress.{allowed}
 use Rattle.tallies.specs.Places.{nextPlace, waitingPlace, busyPlace, tallyNumbers}
 use Rattle.level_managers.specs.Representation.{Words, Roomy, Runs, placed}
 use Rattle.tallies.specs.Permits.{managed}
-use Rattle.level_managers.specs.Steps.{Read, IsBusy, ReadReady, Answered, Parts, PerformReady, SettleReady, Closed, Settled, CoreSettled, StepDone, begunTallies, StartReady, Started}
+use Rattle.level_managers.specs.Steps.{Tables, IsBusy, ReadReady, Answered, Parts, PerformReady, SettleReady, Closed, Settled, CoreSettled, StepDone, begunTallies, StartReady, Started}
 use Rattle.scheduler.specs.Runs.{SameRest, LevelReady, LevelDone}
 use Rattle.scheduler.specs.Running.{Draining, KnownIsRead, NextReady, NextDone}
 use Rattle.level_managers.proofs.Laws.Ready.{represents-quiescent, waits-some, start-ready}

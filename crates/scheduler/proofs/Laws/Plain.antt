@@ -19,7 +19,7 @@ use Rattle.scripts.specs.Valid.{Leveled}
 use Rattle.model.specs.Limits.{maxManagers}
 use Rattle.model.specs.Level.{idle, Level, isBusy, hasManager}
 use Rattle.model.specs.Step.{State, levelAt, stepAt}
-use Rattle.model.specs.Schedule.{finished, question15, stepRefusal, runOf, Leads}
+use Rattle.model.specs.Schedule.{initialState, finished, question15, stepRefusal, runOf, Leads}
 use Rattle.model.proofs.Laws.Order.Accepted.{sound}
 use Rattle.model.proofs.Laws.Invariant.Measure.{left, cost}
 use Rattle.model.proofs.Laws.Invariant.Bounded.{total, step-less}
@@ -28,7 +28,7 @@ use Rattle.model.proofs.Laws.Code.Progress.{allowed, all-ended, leads-none, lea
 use Rattle.tallies.specs.Places.{clearPlace}
 use Rattle.level_managers.specs.Representation.{Words, RunInvariant}
 use Rattle.tallies.specs.Permits.{numberOfPermit, permitOf, noted, Countable, isGiven}
-use Rattle.scheduler.specs.Runs.{initialState, Quiescent, SameRest, LevelReady, LevelDone, Done}
+use Rattle.scheduler.specs.Runs.{Quiescent, SameRest, LevelReady, LevelDone, Done}
 use Rattle.tallies.specs.declared.Permit.{Permit}
 use Rattle.tallies.specs.declared.Permit.the-variants.{Given, Absent, Idle, Blocked}
 use Rattle.level_managers.proofs.Laws.Step.{invariant-live}

@@ -41,7 +41,7 @@ use Rattle.model.specs.Step.{State, readAt}
 use Rattle.model.proofs.Laws.Code.Needs.{live-runs, live-fork}
 use Rattle.tallies.specs.Places.{waitingPlace, versionsPlace, busyPlace, tallyNumbers}
 use Rattle.level_managers.specs.Representation.{Words, placed}
-use Rattle.level_managers.specs.Steps.{Read, IsBusy, foundIn, ReadReady, Answered, Parts, EffectReady, EffectDone, PerformReady, Performed, SettleReady}
+use Rattle.level_managers.specs.Steps.{Tables, IsBusy, foundIn, ReadReady, Answered, Parts, EffectReady, EffectDone, PerformReady, Performed, SettleReady}
 use Rattle.scheduler.specs.Runs.{SameRest}
 use Rattle.scheduler.specs.Running.{Draining, KnownIsRead}
 use Rattle.level_managers.proofs.Laws.Reads.{found-in, read-few}
@@ -307,7 +307,7 @@ module _ {s masks index : List ℕ} (rd : Tables s masks index) {w : Words} {l :
     -- where no step is made it asks
     stays : (e : Outside) → r .core .effect ≡ e → isRunning (r .core .ending) ≡ true → r .core .steps ≡ m .core .steps → isDone e ≡ true → effectOf e ≡ effect.Nothing → isAsking e ≡ false → ⊥
     stays outside.Nothing is run same done internal-then ask =
-        let all = ad .quiescent (ap isNothing is) run in
+        let all = ad .at-limit (ap isNothing is) run in
         omega (arith, all, same, go .held .few (go .running))
     stays outside.End is run same done internal-then ask = not-both (isRunning (r .core .ending)) run (ad .over is)
     stays (outside.Write o k v) is run same done internal-then ask = let z : _≡_ {A = ℕ} 0 1 = cc in omega arith

@@ -20,7 +20,7 @@ use Rattle.scripts.specs.State.{Manager}
 use Rattle.model.specs.Lists.{modify}
 use Rattle.model.specs.Level.{idle, newLevel, arrived, newest}
 use Rattle.model.specs.Step.{State, levelAt}
-use Rattle.model.specs.Schedule.{readIn}
+use Rattle.model.specs.Schedule.{initialState, readIn}
 use Rattle.model.proofs.Laws.Order.Accepted.{sound}
 use Rattle.model.proofs.Laws.Deep.Root.{each-level}
 use Rattle.model.proofs.Laws.Code.Progress.{leads-none}
@@ -33,7 +33,7 @@ use Rattle.versions.specs.Log.{logStart}
 use Rattle.versions.proofs.Laws.Log.{log-none}
 use Rattle.tallies.specs.Places.{nextPlace, waitingPlace, versionsPlace, busyPlace, clearPlace, startTallies}
 use Rattle.level_managers.specs.Representation.{Words, LevelRepresents, Roomy, Represents}
-use Rattle.scheduler.specs.Runs.{initialState, Quiescent, Fresh, InitialWords}
+use Rattle.scheduler.specs.Runs.{Quiescent, Fresh, InitialWords}
 use Rattle.tallies.proofs.Laws.First.{first-ended, first-next, first-waiting, first-versions, first-busy, first-clear}
 use Rattle.level_managers.proofs.Laws.Representation.{Limited}
 use Rattle.level_managers.proofs.Laws.Arrive.{represents-arrive}

@@ -16,7 +16,6 @@ use Rattle.session.specs.Reading.{tableMade, Checks}
 use Rattle.session.specs.declared.Checked.{Checked}
 use Rattle.session.specs.declared.Verdict.{Verdict}
 use Rattle.session.specs.declared.Verdict.the-variants.{Accepted, Length, Kinds, Numbering, NotOrdered, NoJoin}
-use Rattle.session.proofs.Laws.Lists.{length-tab}
 use Rattle.session.proofs.Laws.Numbering.{masks-are}
 use Rattle.session.proofs.Laws.Verdict.{accepted}
 

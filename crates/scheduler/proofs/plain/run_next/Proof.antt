@@ -66,14 +66,14 @@ loop-less c =
     let a = c .before .before .before .before .before .before .before .before .before .before .before .before in
     let b = a .before .before .before .before .before .before .before .before .before .before .before in
     let z = b .before .before .before .before .before .before .before .before .before .before .before .before in
-    represents-less (z .pre .0) (z .pre .1) (b .start .ensures .0) (b .start .ensures .1) (a .before .before .before .before .before .loop .inv .0) (runs a) (a .advance .ensures) (c .before .before .before .before .before .before .before .before .before .effect .given .1) (c .before .answer_read .ensures)
+    represents-less (z .pre .0) (z .pre .1) (b .start .ensures .0) (b .start .ensures .1) (a .before .before .before .before .before .loop .inv .0) (runs a) (a .advance .ensures) (c .before .before .before .before .before .before .before .before .before .effect .given .1) (c .before .answer-read .ensures)
 
 loop-again : tie.Need-loop-again Inv-loop μ-loop
 loop-again c =
     let a = c .before .before .before .before .before .before .before .before .before .before .before .before in
     let b = a .before .before .before .before .before .before .before .before .before .before .before in
     let z = b .before .before .before .before .before .before .before .before .before .before .before .before in
-    (represents-again (z .pre .0) (z .pre .1) (b .start .ensures .0) (b .start .ensures .1) (a .before .before .before .before .before .loop .inv .0) (runs a) (a .advance .ensures) (c .before .before .before .before .before .before .before .before .before .effect .given .1) (c .before .answer_read .ensures) (c .before .answer_read .kept .1 .1 .1 .1 .1 .1 .1 .0), refl)
+    (represents-again (z .pre .0) (z .pre .1) (b .start .ensures .0) (b .start .ensures .1) (a .before .before .before .before .before .loop .inv .0) (runs a) (a .advance .ensures) (c .before .before .before .before .before .before .before .before .before .effect .given .1) (c .before .answer-read .ensures) (c .before .answer-read .kept .1 .1 .1 .1 .1 .1 .1 .0), refl)
 
 -- it asks for none
 done-requires : tie.Need-done-requires Inv-loop μ-loop
