@@ -1,6 +1,7 @@
 -- How the code finds its way through a session: what its own contracts cite. No question and no meaning rests on these. Assumes nothing.
 -- Laws (`proofs/Laws/Accepted`): the steps of a method of which it is known where they stand are within the session and at most 16
 -- (`method-ends`, `method-few`); which step is there (`step-there`), and that the script's end is behind them (`step-over`).
+-- `proofs/Laws/Checked`: the table that the check of an accepted session makes is its level table (`accepted-table`).
 use Prim.Native.Nat.{ℕ, suc, _+_, _-_, _/_, _%_}
 use mathlib.Core.Path.{_≡_}
 use mathlib.Core.Bool.{cond, _&&_, not}

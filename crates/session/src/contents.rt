@@ -1,7 +1,7 @@
-// What an accepted session says: its level table, its objects, its methods and its root message.
+// What an accepted session says: its objects, its methods and its root message.
 //
-// A call makes the level table once (`check_into`), and a run the method index. With them each
-// function below costs a few reads: no record is searched for.
+// The check makes the level table (`check_into`), and a run makes the method index once. With them
+// each function below costs a few reads: no record is searched for.
 use crate::Message;
 use crate::Method;
 use crate::Step;

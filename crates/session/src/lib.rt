@@ -159,7 +159,7 @@ fn untabled(verdict: Verdict) -> Checked
 }
 
 // Checks a session: what questions 1 to 8 say of any bytes, of any length and content. Where 1 to 3
-// say yes the level table is made at the front of `masks`. Nothing else there changes.
+// say yes the level table stands at the front of `masks` afterwards. Nothing else in `masks` changes.
 pub fn check_into(session: &[u8], masks: &mut [u16]) -> Checked
     requires { ⌜ maxLevels ≤ length (now masks) ⌝ }
     ensures { λ r. ⌜ Checks (now (session .entry)) (now (masks .entry)) (now (masks .exit)) r ⌝ }
@@ -184,7 +184,8 @@ pub fn check_into(session: &[u8], masks: &mut [u16]) -> Checked
     Checked { verdict, levels }
 }
 
-// Checks a session, as `check_into` does, and keeps no level table.
+// Checks a session, for a caller that needs no level table: what questions 1 to 8 say of any bytes, of
+// any length and content.
 pub fn check(session: &[u8]) -> Verdict
     ensures { λ x. ⌜ x ≡ verdictOf (now (session .entry)) ⌝ }
 {
