@@ -63,7 +63,10 @@ fn run_next(
             );
             continue;
         }
-        steps::done(current, ended, tallies, queue, work, level, core);
+        let first = core.first;
+        let forks = core.forks;
+        steps::perform(current, tallies, queue, work, level, first, forks, effect);
+        steps::settle(ended, tallies, queue, level, core);
     }
 }
 

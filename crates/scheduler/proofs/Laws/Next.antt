@@ -1,5 +1,5 @@
 -- The managers of a level run one after the other, each from its start to its end. Assumes nothing.
-use Prim.Native.Nat.{ℕ, _+_, _-_, _≤_, _<_}
+use Prim.Native.Nat.{ℕ, _+_, _-_, _^_, _≤_, _<_}
 use mathlib.Core.Path.{_≡_, refl, sym, _∙_, ap, subst}
 use mathlib.Core.Bool.{true, false, cond}
 use mathlib.Core.List.{List, []}
@@ -31,15 +31,15 @@ use Rattle.model.proofs.Laws.Code.Progress.{allowed}
 use Rattle.tallies.specs.Places.{nextPlace, waitingPlace, busyPlace, tallyNumbers}
 use Rattle.level_managers.specs.Representation.{Words, Roomy, Runs, placed}
 use Rattle.tallies.specs.Permits.{managed}
-use Rattle.level_managers.specs.Steps.{Tables, IsBusy, ReadReady, Answered, Parts, PerformReady, SettleReady, Closed, Settled, CoreSettled, StepDone, begunTallies, StartReady, Started}
+use Rattle.level_managers.specs.Steps.{Tables, IsBusy, ReadReady, Answered, Parts, PerformReady, Performed, SettleReady, Closed, Settled, CoreSettled, begunTallies, StartReady, Started}
 use Rattle.scheduler.specs.Runs.{SameRest, LevelReady, LevelDone}
 use Rattle.scheduler.specs.Running.{Draining, KnownIsRead, NextReady, NextDone}
 use Rattle.level_managers.proofs.Laws.Ready.{represents-quiescent, waits-some, start-ready}
 use Rattle.level_managers.proofs.Laws.Step.{invariant-start}
-use Rattle.level_managers.proofs.Laws.Made.{settled-of}
+use Rattle.level_managers.proofs.Laws.Made.{partsOf, settled-of, held-fits}
 use Rattle.scheduler.proofs.Laws.Listed.{anyManager, blank-zeros}
 use Rattle.scheduler.proofs.Laws.Level.{LevelLoop, drain-represents, drain-has, drain-live, drain-allowed, drain-on, level-start, level-done}
-use Rattle.scheduler.proofs.Laws.Running.{RunningManager, stepsLeft, OutsideDone, represents-outside, performed-outside, outside-performs, outside-reads, outside-settles, outside-counted, outside-drains, outside-known-read, outside-count, outside-busy, outside-rest, steps-less}
+use Rattle.scheduler.proofs.Laws.Running.{RunningManager, stepsLeft, OutsideDone, represents-outside, performed-outside, outside-performs, outside-reads, outside-settles, outside-drains, outside-known-read, outside-count, outside-busy, outside-rest, steps-less}
 
 -- a manager has ended: none runs at its level then, and one more has ended there
 closed-counts : (ended ended' tallies tallies' queue : List ℕ) (l : ℕ) (m : Manager) → l < maxLevels → tallyNumbers ≤ length tallies → Closed ended ended' tallies tallies' queue l m → (getD tallies' (busyPlace l) 0 ≡ 0) × (getD tallies' l 0 ≡ getD tallies l 0 + 1)
@@ -204,9 +204,8 @@ module _ {s masks index : List ℕ} (rd : Tables s masks index) {w₀ : Words} {
         pub next-reads : {o k : ℕ} → r .core .effect ≡ outside.Read o k → IsBusy s w l × ReadReady s cache o k
         next-reads {o} {k} = outside-reads rd (i .runs-on run) ad next-drains o k
 
-        pub next-performs : PerformReady (w .current) (w .tallies) (w .queue) (w .work) l (r .core .first) (r .core .forks) (effectOf (r .core .effect)) × SettleReady (w .ended) (w .tallies) (w .queue) l
-        next-performs =
-            (outside-performs rd (i .runs-on run) ad next-drains, outside-settles rd (i .runs-on run) ad next-drains)
+        pub next-performs : PerformReady (w .current) (w .tallies) (w .queue) (w .work) l (r .core .first) (r .core .forks) (effectOf (r .core .effect))
+        next-performs = outside-performs rd (i .runs-on run) ad next-drains
 
         module _ {q : Parts} {cache' : List ℕ} (out : OutsideDone s w q cache cache' l (r .core)) where
           next-less : stepsLeft s cache' r < stepsLeft s cache m'
@@ -219,7 +218,7 @@ module _ {s masks index : List ℕ} (rd : Tables s masks index) {w₀ : Words} {
 
             counts-then : (getD tallies'' (busyPlace l) 0 ≡ bit r) × (getD tallies'' l 0 + bit r ≡ getD (q .tallies) l 0 + 1)
             counts-then =
-                settled-counts r small (outside-counted rd (i .runs-on run) ad next-drains out) (outside-busy rd (i .runs-on run) ad next-drains out) (settled-of r e)
+                settled-counts r small (outside-settles rd (i .runs-on run) ad next-drains out .counted) (outside-busy rd (i .runs-on run) ad next-drains out) (settled-of r e)
 
             known-read-then : isRunning (r .core .ending) ≡ true → KnownIsRead s then l cache'
             known-read-then on =
@@ -261,13 +260,18 @@ module _ {s masks index : List ℕ} (rd : Tables s masks index) {w₀ : Words} {
           represents-again c0 =
               next-again (represents-outside e represents) (λ fs. (λ _. (refl, refl), λ over. absurd (not-both (isRunning (r .core .ending)) (ad .asks o k e .0) over))) c0 refl refl refl refl refl
 
-        -- what its last step did outside it is done, and its history kept where it has ended
-        module _ (no' : isAsking (r .core .effect) ≡ false) {w' : Words} (x : StepDone w w' l (r .core)) where
-          pub done-less : stepsLeft s cache r < stepsLeft s cache m'
-          done-less = next-less (performed-outside no' (x .performed))
+        -- what its last step did outside it is done
+        module _ (no' : isAsking (r .core .effect) ≡ false) (q : Parts) (x : Performed (partsOf w) q l (r .core .first) (r .core .forks) (effectOf (r .core .effect))) where
+          pub done-settles : SettleReady (w .ended) (q .tallies) (q .queue) l × (r .core .first + r .core .forks < 2 ^ 16)
+          done-settles =
+              (outside-settles rd (i .runs-on run) ad next-drains (performed-outside no' x), held-fits (ad .held))
 
-          pub done-again : length (w' .current) ≡ length (w .current) → length (w' .ended) ≡ length (w .ended) → length (w' .tallies) ≡ length (w .tallies) → length (w' .queue) ≡ length (w .queue) → length (w' .work) ≡ length (w .work) → NextLoop s begunWords w' l m r cache
-          done-again = next-again (performed-outside no' (x .performed)) (x .settled) refl
+          pub done-less : stepsLeft s cache r < stepsLeft s cache m'
+          done-less = next-less (performed-outside no' x)
+
+          -- and its history is kept where it has ended
+          pub done-again : {ended'' tallies'' : List ℕ} → CoreSettled (w .ended) ended'' (q .tallies) tallies'' (q .queue) l (r .core) → length (q .current) ≡ length (w .current) → length ended'' ≡ length (w .ended) → length tallies'' ≡ length (w .tallies) → length (q .queue) ≡ length (w .queue) → length (q .work) ≡ length (w .work) → NextLoop s begunWords (record { current = q .current; ended = ended''; tallies = tallies''; queue = q .queue; work = q .work }) l m r cache
+          done-again e = next-again (performed-outside no' x) e refl
 
 -- the managers in turn
 pub record Turns (s : List ℕ) (w₀ w : Words) (l : ℕ) : Type 0 where

@@ -39,7 +39,7 @@ use Rattle.managers.specs.declared.Manager as code
 use Rattle.model.specs.Fork.{Fork}
 use Rattle.model.specs.Step.{State, readAt}
 use Rattle.model.proofs.Laws.Code.Needs.{live-runs, live-fork}
-use Rattle.tallies.specs.Places.{waitingPlace, versionsPlace, busyPlace, tallyNumbers}
+use Rattle.tallies.specs.Places.{waitingPlace, versionsPlace, busyPlace}
 use Rattle.level_managers.specs.Representation.{Words, placed}
 use Rattle.level_managers.specs.Steps.{Tables, IsBusy, foundIn, ReadReady, Answered, Parts, EffectReady, EffectDone, PerformReady, Performed, SettleReady}
 use Rattle.scheduler.specs.Runs.{SameRest}
@@ -256,22 +256,18 @@ module _ {s masks index : List ℕ} (rd : Tables s masks index) {w : Words} {l :
           let (x, begun) = begins g in
           (is-busy g begun, record { present = present o k e .0; field = present o k e .1; there = go .cache-there })
 
-      -- there is room for its history
-      pub outside-settles : SettleReady (w .ended) (w .tallies) (w .queue) l
-      outside-settles =
-          let (x, begun) = begins g in
-          let busy = running-busy s acc l h from w (managerOf m) x (readAt p (g .state) l x) begun (λ _. managerOf m) in
-          let live = invariant-live s acc w (placed l (managerOf m) (λ _. managerOf m)) (begun .drain .state) (busy .invariant) in
-          busy-settles s acc (level-limit s acc) (object-limit s acc) w (placed l (managerOf m) (λ _. managerOf m)) (begun .drain .state) (busy .invariant .represents) live l h x (managerOf m) (busy .runs)
-
       -- what the last one did outside it is done, or what the next one asks for is read
       module _ {q : Parts} {cache' : List ℕ} (out : OutsideDone s w q cache cache' l (r .core)) where
         done : EffectDone (partsOf w) q l (came .stamp) (came .made) (effectOf (r .core .effect))
         done = came .done q (out .performed)
 
-        pub outside-counted : tallyNumbers ≤ length (q .tallies)
-        outside-counted =
-            settle-after (partsOf w) q (w .ended) l (came .stamp) (came .made) (effectOf (r .core .effect)) done outside-settles .counted
+        pub outside-settles : SettleReady (w .ended) (q .tallies) (q .queue) l
+        outside-settles =
+            let (x, begun) = begins g in
+            let busy = running-busy s acc l h from w (managerOf m) x (readAt p (g .state) l x) begun (λ _. managerOf m) in
+            let live = invariant-live s acc w (placed l (managerOf m) (λ _. managerOf m)) (begun .drain .state) (busy .invariant) in
+            settle-after (partsOf w) q (w .ended) l (came .stamp) (came .made) (effectOf (r .core .effect)) done
+            (busy-settles s acc (level-limit s acc) (object-limit s acc) w (placed l (managerOf m) (λ _. managerOf m)) (begun .drain .state) (busy .invariant .represents) live l h x (managerOf m) (busy .runs))
 
         pub outside-drains : Unsettled s from (withParts w q) l (managerOf r)
         outside-drains = came .unsettled q done

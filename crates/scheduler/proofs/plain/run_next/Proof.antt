@@ -6,7 +6,7 @@ use borrow.Author.Needs.{needs}
 use Rattle.scripts.specs.Ending.{isRunning}
 use Rattle.scheduler.proofs.Laws.Asks.{asks-nothing}
 use Rattle.scheduler.proofs.Laws.Running.{stepsLeft, able, able-more}
-use Rattle.scheduler.proofs.Laws.Next.{NextLoop, starts, next-start, next-reads, next-performs, represents-less, represents-again, done-less, done-again, next-done}
+use Rattle.scheduler.proofs.Laws.Next.{NextLoop, starts, next-start, next-reads, next-performs, represents-less, represents-again, done-settles, done-less, done-again, next-done}
 use Rattle.scheduler.proofs.plain.run_next.Statement.{statement}
 use Rattle.scheduler.proofs.plain.run_next.Tie as tie
 
@@ -76,27 +76,37 @@ loop-again c =
     (represents-again (z .pre .0) (z .pre .1) (b .start .ensures .0) (b .start .ensures .1) (a .before .before .before .before .before .loop .inv .0) (runs a) (a .advance .ensures) (c .before .before .before .before .before .before .before .before .before .effect .given .1) (c .before .answer-read .ensures) (c .before .answer-read .kept .1 .1 .1 .1 .1 .1 .1 .0), refl)
 
 -- it asks for none
-done-requires : tie.Need-done-requires Inv-loop μ-loop
-done-requires c κs =
-    let a = c .before .before .before .before .before .before .before in
+perform-requires : tie.Need-perform-requires Inv-loop μ-loop
+perform-requires c κs =
+    let a = c .before .before .before .before .before .before in
     let b = a .before .before .before .before .before .before .before .before .before .before .before in
     let z = b .before .before .before .before .before .before .before .before .before .before .before .before in
     next-performs (z .pre .0) (z .pre .1) (b .start .ensures .0) (b .start .ensures .1) (a .before .before .before .before .before .loop .inv .0) (runs a) (a .advance .ensures)
 
-loop-less-2 : tie.Need-loop-less-2 Inv-loop μ-loop
-loop-less-2 c =
+settle-requires : tie.Need-settle-requires Inv-loop μ-loop
+settle-requires c κs =
     let a = c .before .before .before .before .before .before .before .before .before .before .before .before .before .before .before .before .before .before in
     let b = a .before .before .before .before .before .before .before .before .before .before .before in
     let z = b .before .before .before .before .before .before .before .before .before .before .before .before in
-    done-less (z .pre .0) (z .pre .1) (b .start .ensures .0) (b .start .ensures .1) (a .before .before .before .before .before .loop .inv .0) (runs a) (a .advance .ensures) (asks-nothing (a .advance .result .core .effect) (c .before .before .before .before .before .before .before .before .before .before .before .before .before .before .before .before .match .keys2)) (c .before .before .before .before .before .before .before .before .before .before .done .ensures)
+    let p = c .before .before .before .before .before .before .before .before .before .before .before .perform in
+    done-settles (z .pre .0) (z .pre .1) (b .start .ensures .0) (b .start .ensures .1) (a .before .before .before .before .before .loop .inv .0) (runs a) (a .advance .ensures) (asks-nothing (a .advance .result .core .effect) (c .before .before .before .before .before .before .before .before .before .before .before .before .before .before .before .before .match .keys2)) (record { current = p .last .0; tallies = p .last .1 .0; queue = p .last .1 .1 .0; work = p .last .1 .1 .1 .0 }) (p .ensures)
+
+loop-less-2 : tie.Need-loop-less-2 Inv-loop μ-loop
+loop-less-2 c =
+    let a = c .before .before .before .before .before .before .before .before .before .before .before .before .before .before .before .before .before .before .before .before .before .before .before in
+    let b = a .before .before .before .before .before .before .before .before .before .before .before in
+    let z = b .before .before .before .before .before .before .before .before .before .before .before .before in
+    let p = c .before .before .before .before .before .before .before .before .before .before .before .before .before .before .before .before .perform in
+    done-less (z .pre .0) (z .pre .1) (b .start .ensures .0) (b .start .ensures .1) (a .before .before .before .before .before .loop .inv .0) (runs a) (a .advance .ensures) (asks-nothing (a .advance .result .core .effect) (c .before .before .before .before .before .before .before .before .before .before .before .before .before .before .before .before .before .before .before .before .before .match .keys2)) (record { current = p .last .0; tallies = p .last .1 .0; queue = p .last .1 .1 .0; work = p .last .1 .1 .1 .0 }) (p .ensures)
 
 loop-again-2 : tie.Need-loop-again-2 Inv-loop μ-loop
 loop-again-2 c =
-    let a = c .before .before .before .before .before .before .before .before .before .before .before .before .before .before .before .before .before .before in
+    let a = c .before .before .before .before .before .before .before .before .before .before .before .before .before .before .before .before .before .before .before .before .before .before .before in
     let b = a .before .before .before .before .before .before .before .before .before .before .before in
     let z = b .before .before .before .before .before .before .before .before .before .before .before .before in
-    let d = c .before .before .before .before .before .before .before .before .before .before .done in
-    (done-again (z .pre .0) (z .pre .1) (b .start .ensures .0) (b .start .ensures .1) (a .before .before .before .before .before .loop .inv .0) (runs a) (a .advance .ensures) (asks-nothing (a .advance .result .core .effect) (c .before .before .before .before .before .before .before .before .before .before .before .before .before .before .before .before .match .keys2)) (d .ensures) (d .kept .0) (d .kept .1 .0) (d .kept .1 .1 .0) (d .kept .1 .1 .1 .0) (d .kept .1 .1 .1 .1 .0), refl)
+    let p = c .before .before .before .before .before .before .before .before .before .before .before .before .before .before .before .before .perform in
+    let d = c .before .before .before .before .settle in
+    (done-again (z .pre .0) (z .pre .1) (b .start .ensures .0) (b .start .ensures .1) (a .before .before .before .before .before .loop .inv .0) (runs a) (a .advance .ensures) (asks-nothing (a .advance .result .core .effect) (c .before .before .before .before .before .before .before .before .before .before .before .before .before .before .before .before .before .before .before .before .before .match .keys2)) (record { current = p .last .0; tallies = p .last .1 .0; queue = p .last .1 .1 .0; work = p .last .1 .1 .1 .0 }) (p .ensures) (d .ensures) (p .kept .0) (d .kept .0) (d .kept .1 .0 ∙ p .kept .1 .0) (p .kept .1 .1 .0) (p .kept .1 .1 .1 .0), refl)
 
 same-length : tie.Need-same-length Inv-loop μ-loop
 same-length c = c .before .before .loop .inv .0 .current-long
@@ -136,7 +146,8 @@ run-next-spec =
     answer-read-requires
     loop-less
     loop-again
-    done-requires
+    perform-requires
+    settle-requires
     loop-less-2
     loop-again-2
     same-length
