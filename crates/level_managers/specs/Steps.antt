@@ -14,7 +14,7 @@ use Rattle.session.specs.Meaning.{levelOf, fieldOf}
 use Rattle.session.specs.Program.{programOf}
 use Rattle.session.specs.declared.Value.{Value}
 use Rattle.session.specs.declared.Message.{Message}
-use Rattle.scripts.specs.Limits.{maxForks}
+use Rattle.scripts.specs.Limits.{maxForks, writeStamps}
 use Rattle.scripts.specs.Ending.{isRunning}
 use Rattle.scripts.specs.Effect.{Effect}
 use Rattle.scripts.specs.Effect as effect
@@ -64,7 +64,7 @@ pub record BoundReady (ended tallies queue : List ℕ) (l j : ℕ) : Type 0 wher
   pub level : j < maxLevels
   pub histories : HistoriesThere ended j (getD tallies j 0)
   pub counted : tallyNumbers ≤ length tallies
-  pub fits : endBefore (runningFork 0 tallies queue l .stamp) (historiesAt ended j (getD tallies j 0)) < 2 ^ 16
+  pub fits : endBefore (runningFork 0 tallies queue l .stamp) (historiesAt ended j (getD tallies j 0)) < writeStamps
 
 -- that write stamp, among n levels
 abbrev pub boundIn : ℕ → List ℕ → List ℕ → List ℕ → ℕ → ℕ → ℕ
@@ -158,7 +158,7 @@ pub record PerformReady (current tallies queue work : List ℕ) (l first forks :
   pub made : ℕ
   pub forks-are : forks ≡ forksAfter e made
   pub ready : EffectReady current tallies queue work l made e
-  pub fits : first + forks < 2 ^ 16
+  pub fits : first + forks < writeStamps
 
 -- it is done: with the write stamp that the manager had before it
 abbrev pub Performed : Parts → Parts → ℕ → ℕ → ℕ → Effect → Type 0

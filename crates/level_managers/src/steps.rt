@@ -11,7 +11,8 @@ use tallies::RUNNING;
 use tallies::VERSIONS;
 use tallies::WAITING;
 use words::fields;
-ghost use Prim.Native.Nat.{_+_, _^_, _<_};
+ghost use Prim.Native.Nat.{_+_, _<_};
+ghost use Rattle.scripts.specs.Limits.{writeStamps};
 ghost use Rattle.scripts.specs.Valid.{Leveled};
 ghost use Rattle.managers.specs.Core.{managerOf, effectOf};
 ghost use Rattle.managers.specs.Steps.{WellFormed};
@@ -145,7 +146,7 @@ pub fn perform(
 // there any more.
 pub fn settle(ended: &mut [u32], tallies: &mut [usize], queue: &[u32], level: usize, core: Core)
     requires { ⌜ SettleReady (now ended) (now tallies) (now queue) level ⌝ }
-    requires { ⌜ core .first + core .forks < 2 ^ 16 ⌝ }
+    requires { ⌜ core .first + core .forks < writeStamps ⌝ }
     ensures { λ _. ⌜ CoreSettled (now (ended .entry)) (now (ended .exit)) (now (tallies .entry)) (now (tallies .exit)) (now (queue .entry)) level core ⌝ }
 {
     let ending = core.ending;

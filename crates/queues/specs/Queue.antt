@@ -13,6 +13,7 @@ use lib.ListN.{length, getD, set, take, replicate}
 use Rattle.session.specs.Limits.{maxLevels}
 use Rattle.session.specs.Lists.{tab}
 use Rattle.session.specs.declared.Message.{Message}
+use Rattle.scripts.specs.Limits.{writeStamps}
 use Rattle.scripts.specs.Value.{tag, numberIn}
 use Rattle.words.specs.Outside.{Outside}
 use Rattle.words.specs.Fields.{valueOf}
@@ -60,7 +61,7 @@ forkOfRow n row =
     record {
       stamp = getD row stampPlace 0;
       depth = getD row depthPlace 0 % 2 ^ 8;
-      carried = tab n (λ j. getD row (carriedPlace + j) 0 % 2 ^ 16);
+      carried = tab n (λ j. getD row (carriedPlace + j) 0 % writeStamps);
       message =
           record {
             object = getD row objectPlace 0 % 2 ^ 8;

@@ -14,7 +14,7 @@ ghost use Rattle.session.specs.Reading.{countBelow};
 // "Kind 1, level", "Kind 2, object", "Kind 3, script step", "Kind 4, root message".
 const LEVEL_RECORD: u8 = 1;
 
-pub const OBJECT_RECORD: u8 = 2;
+const OBJECT_RECORD: u8 = 2;
 
 const STEP_RECORD: u8 = 3;
 
@@ -36,7 +36,7 @@ pub fn kinds_rise(session: &[u8]) -> bool
 }
 
 // How many records have a kind below `kind`, at least `start` of them. They stand first.
-pub fn count_below(session: &[u8], start: usize, kind: u8) -> usize
+fn count_below(session: &[u8], start: usize, kind: u8) -> usize
     requires { ⌜ kindsRise (now session) ≡ true ⌝ }
     requires { ⌜ start ≤ countBelow kindOf kind (recordsOf (now session)) ⌝ }
     ensures { λ x. ⌜ x ≡ countBelow kindOf kind (recordsOf (now (session .entry))) ⌝ }

@@ -5,7 +5,7 @@ use Prim.Native.Nat.{ℕ, zero, suc, _+_, _*_, _/_, _%_, _^_, _≤_, _<_}
 use mathlib.Core.List.{List, [], _∷_}
 use lib.ListN.{length, getD}
 use Rattle.session.specs.Limits.{maxLevels, fields}
-use Rattle.scripts.specs.Limits.{maxWrites}
+use Rattle.scripts.specs.Limits.{maxWrites, writeStamps}
 use Rattle.scripts.specs.Value.{tag, numberIn}
 use Rattle.words.specs.Fields.{valueOf}
 use Rattle.model.specs.Limits.{maxManagers, workNumbers}
@@ -34,7 +34,7 @@ abbrev pub stampUnit : ℕ
 stampUnit = 2
 
 abbrev pub fieldUnit : ℕ
-fieldUnit = stampUnit * 2 ^ 16
+fieldUnit = stampUnit * writeStamps
 
 abbrev pub objectUnit : ℕ
 objectUnit = fieldUnit * 2 ^ 2
@@ -44,7 +44,7 @@ objectUnit = fieldUnit * 2 ^ 2
 unfoldable pub versionOf : ℕ → ℕ → Version
 versionOf packed number =
     record {
-      stamp = packed / stampUnit % 2 ^ 16;
+      stamp = packed / stampUnit % writeStamps;
       object = packed / objectUnit;
       field = packed / fieldUnit % 2 ^ 2;
       value = valueOf (packed % stampUnit) number;

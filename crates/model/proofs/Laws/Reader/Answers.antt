@@ -32,10 +32,6 @@ number-accepted Object e = absurd (omega (arith, e))
 number-accepted Script e = absurd (omega (arith, e))
 number-accepted Root e = absurd (omega (arith, e))
 
--- a session whose verdict has the number 0
-pub accepted-by : (s : List ℕ) (number : ℕ) (v : Verdict) → number ≡ numberOfVerdict v → v ≡ verdictOf s → number ≡ 0 → verdictOf s ≡ Accepted
-accepted-by s number v e i z = sym i ∙ number-accepted v (sym e ∙ z)
-
 -- questions 1 to 11 all say yes, 10 where it is put
 pub record Passes (ten : Bool) (q : Request) : Type 0 where
   pub accepted : verdictOf (q .session) ≡ Accepted
