@@ -9,13 +9,20 @@ ghost use Rattle.session.specs.Questions.{verdictOf, answerOf};
 ghost use Rattle.model.specs.Entries.{timetabled, plain, deep};
 ghost use Rattle.exports.specs.Calls.{reported, Call};
 
-// Tells an answer: its place and count to the front of `place_and_count`, its number as the result.
+// Where place and count stand in `place_and_count`, and how many numbers they are.
+const PLACE: usize = 0;
+
+const COUNT: usize = 1;
+
+const NUMBERS: usize = 2;
+
+// Reports an answer: its place and count to the front of `place_and_count`, its number as the result.
 fn report(place_and_count: &mut [u32], answer: Answer) -> u32
     ensures { λ r. ⌜ (r ≡ answer .number) × (now («place_and_count» .exit) ≡ reported (answer .place) (answer .count) (now («place_and_count» .entry))) ⌝ }
 {
-    if place_and_count.len() >= 2 {
-        place_and_count[0] = answer.place;
-        place_and_count[1] = answer.count;
+    if place_and_count.len() >= NUMBERS {
+        place_and_count[PLACE] = answer.place;
+        place_and_count[COUNT] = answer.count;
     }
     answer.number
 }

@@ -27,8 +27,8 @@ use Rattle.queues.specs.Queue.{queueWords}
 use Rattle.tallies.specs.Places.{startTallies}
 use Rattle.level_managers.specs.Representation.{Words, Represents, RunInvariant}
 use Rattle.tallies.specs.Permits.{numberOfPermit}
-use Rattle.scheduler.specs.declared.Outcome.{Outcome}
-use Rattle.scheduler.specs.declared.Outcome.the-variants as outcome
+use Rattle.scheduler.specs.declared.RunEnd.{RunEnd}
+use Rattle.scheduler.specs.declared.RunEnd.the-variants as runEnd
 use Rattle.tallies.specs.declared.Permit.{Permit}
 
 -- the words represent the state st, and no manager runs in it: so they represent it whatever managers are held
@@ -54,13 +54,13 @@ abbrev pub SameRest : List ℕ → List ℕ → Type 0
 SameRest work work' = drop workNumbers work' ≡ drop workNumbers work
 
 -- a step that is not permitted ends a run
-abbrev pub RefusedAt : Permit → ℕ → Outcome → Type 0
-RefusedAt permit place r = r ≡ outcome.Refused (numberOfPermit permit) place
+abbrev pub RefusedAt : Permit → ℕ → RunEnd → Type 0
+RefusedAt permit place r = r ≡ runEnd.Refused (numberOfPermit permit) place
 
 -- "At the timetable's end: have all managers ended?"
-abbrev pub endOf : Bool → Outcome
-endOf true = outcome.Finished
-endOf false = outcome.Refused 15 0
+abbrev pub endOf : Bool → RunEnd
+endOf true = runEnd.Finished
+endOf false = runEnd.Refused 15 0
 
 -- the scheduler steps of a run: those of a timetable, if it is listed, or the plain ones
 abbrev pub listOf : List ℕ → List ℕ → Bool → List ℕ
@@ -68,10 +68,10 @@ listOf s ls true = ls
 listOf s ls false = plainOrder (programOf s) (rootOf s)
 
 -- a list of scheduler steps of session s has ended: refused, or in a state that the words represent
-abbrev pub Ends : List ℕ → List ℕ → Words → Outcome → Type 0
-Ends s ls w outcome.Finished =
+abbrev pub Ends : List ℕ → List ℕ → Words → RunEnd → Type 0
+Ends s ls w runEnd.Finished =
     (ms : ℕ → Manager) × ((st : State) × ((runOf (programOf s) (rootOf s) ls ≡ finished st) × Represents s w ms st))
-Ends s ls w (outcome.Refused number place) = runOf (programOf s) (rootOf s) ls ≡ refused number place
+Ends s ls w (runEnd.Refused number place) = runOf (programOf s) (rootOf s) ls ≡ refused number place
 
 -- a level may step, and no manager runs
 abbrev pub LevelReady : List ℕ → Words → ℕ → Type 0
@@ -91,7 +91,7 @@ pub record LevelDone (s : List ℕ) (w w' : Words) (level : ℕ) : Type 0 where
 
 -- the words represent the state in which some list of scheduler steps of session s finishes
 abbrev pub Done : List ℕ → Words → Type 0
-Done s w = (ls : List ℕ) × Ends s ls w outcome.Finished
+Done s w = (ls : List ℕ) × Ends s ls w runEnd.Finished
 
 -- the records of the words' result for a clearance are written
 pub record Shows (s current ended tallies : List ℕ) (clearance level : ℕ) (before after : List ℕ) (r : Answer) : Type 0 where

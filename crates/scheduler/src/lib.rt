@@ -20,7 +20,7 @@ ghost use Rattle.level_managers.specs.Steps.{Tables};
 ghost use Rattle.scheduler.specs.Runs.{listOf, Quiescent, Fresh, InitialWords, Ends, SameRest, Shows, RunReady, ListDone};
 
 // How the scheduler steps of a run end.
-pub enum Outcome {
+pub enum RunEnd {
     Finished,
     // By a question, 12 to 15, and its place.
     Refused { number: u32, place: u32 },
@@ -89,7 +89,7 @@ fn make_steps(
     tallies: &mut [usize],
     queue: &mut [u32],
     work: &mut [u32],
-) -> Outcome
+) -> RunEnd
     requires { ⌜ Tables (now session) (now masks) (now index) ⌝ }
     requires { ⌜ Quiescent (now session) (record { current = now current; ended = now ended; tallies = now tallies; queue = now queue; work = now work }) (initialState (now session)) ⌝ }
     ensures { λ r. ⌜ Ends (now (session .entry)) (listOf (now (session .entry)) (now (timetable .entry)) listed) (record { current = now (current .exit); ended = now (ended .exit); tallies = now (tallies .exit); queue = now (queue .exit); work = now (work .exit) }) r × SameRest (now (work .entry)) (now (work .exit)) ⌝ }
@@ -108,7 +108,7 @@ fn make_steps(
         );
     }
     plain::run(session, masks, index, current, ended, tallies, queue, work);
-    Outcome::Finished
+    RunEnd::Finished
 }
 
 // Runs an accepted session, by a timetable or plainly, and writes the records that a clearance is shown.
@@ -137,7 +137,7 @@ fn run_accepted(
         &mut tallies,
         &mut queue,
     );
-    let outcome = make_steps(
+    let end = make_steps(
         session,
         timetable,
         listed,
@@ -150,7 +150,7 @@ fn run_accepted(
         work,
     );
     versions::clear(work);
-    if let Outcome::Refused { number, place } = outcome {
+    if let RunEnd::Refused { number, place } = end {
         return entries::refused(number, place);
     }
     show(

@@ -1,5 +1,5 @@
 // A run by a timetable: one scheduler step for each of its bytes.
-use crate::Outcome;
+use crate::RunEnd;
 use level_managers::steps;
 use managers::Effect;
 use managers::Manager;
@@ -26,27 +26,27 @@ fn number_of(permit: Permit) -> u32
 }
 
 // The end of a run at the step at a place, which was not permitted.
-fn refused_at(permit: Permit, place: u32) -> Outcome
+fn refused_at(permit: Permit, place: u32) -> RunEnd
     ensures { λ r. ⌜ RefusedAt permit place r ⌝ }
 {
-    Outcome::Refused {
+    RunEnd::Refused {
         number: number_of(permit),
         place,
     }
 }
 
 // The end of a run whose timetable has no more bytes: question 15.
-fn at_end(masks: &[u16], tallies: &[usize]) -> Outcome
+fn at_end(masks: &[u16], tallies: &[usize]) -> RunEnd
     requires { ⌜ Countable (now masks) (now tallies) ⌝ }
     ensures { λ r. ⌜ r ≡ endOf (endedOf (now (masks .entry)) (now (tallies .entry))) ⌝ }
 {
     if !tallies::all_ended(masks, tallies) {
-        return Outcome::Refused {
+        return RunEnd::Refused {
             number: 15,
             place: 0,
         };
     }
-    Outcome::Finished
+    RunEnd::Finished
 }
 
 // Makes the scheduler steps of a timetable, from the session as read in. The first that is not permitted
@@ -63,7 +63,7 @@ pub fn run(
     tallies: &mut [usize],
     queue: &mut [u32],
     work: &mut [u32],
-) -> Outcome
+) -> RunEnd
     requires { ⌜ Tables (now session) (now masks) (now index) ⌝ }
     requires { ⌜ Quiescent (now session) (record { current = now current; ended = now ended; tallies = now tallies; queue = now queue; work = now work }) (initialState (now session)) ⌝ }
     ensures { λ r. ⌜ Ends (now (session .entry)) (now (timetable .entry)) (record { current = now (current .exit); ended = now (ended .exit); tallies = now (tallies .exit); queue = now (queue .exit); work = now (work .exit) }) r × SameRest (now (work .entry)) (now (work .exit)) ⌝ }

@@ -34,8 +34,8 @@ use Rattle.entries.specs.Opening.{Refused, LentRefusal}
 use Rattle.versions.proofs.Laws.Cleared.{cleared-rest}
 use Rattle.level_managers.specs.Representation.{Words, Represents}
 use Rattle.scheduler.specs.Runs.{SameRest, Ends, Done, Shows, RunReady, ListDone}
-use Rattle.scheduler.specs.declared.Outcome as code
-use Rattle.scheduler.specs.declared.Outcome.the-variants as outcome
+use Rattle.scheduler.specs.declared.RunEnd as code
+use Rattle.scheduler.specs.declared.RunEnd.the-variants as runEnd
 
 module _ (s : List ℕ) (a : verdictOf s ≡ Accepted) where
   root-level : levelOf s (rootObject s) < levelCount s
@@ -78,7 +78,7 @@ module _ (s : List ℕ) (a : verdictOf s ≡ Accepted) where
     emptied = zero ∙ cleared-rest work work1 same
 
     -- the list was refused
-    pub list-refused : (w : Words) (o : code.Outcome) (number place : ℕ) (r : Answer) → Ends s ls w o → o ≡ outcome.Refused number place → Refused number place r → buffer' ≡ buffer → ListDone s ls c work work' buffer buffer' r
+    pub list-refused : (w : Words) (o : code.RunEnd) (number place : ℕ) (r : Answer) → Ends s ls w o → o ≡ runEnd.Refused number place → Refused number place r → buffer' ≡ buffer → ListDone s ls c work work' buffer buffer' r
     list-refused w o number place r e is (i, j, k) b =
         let ends : runOf (programOf s) (rootOf s) ls ≡ refused number place = rw is at e in
         rw (i, j, k, emptied, b) (sym (ap (answerOf q (byNumber (programOf s) c)) ends ∙ answer number place))
@@ -87,7 +87,7 @@ module _ (s : List ℕ) (a : verdictOf s ≡ Accepted) where
         answer number place = unfold answerOf in refl
 
     -- it finished, and the records are written
-    pub list-finished : (w : Words) (level : ℕ) (r : Answer) → Ends s ls w outcome.Finished → level ≡ levelOf s (rootObject s) → Shows s (w .current) (w .ended) (w .tallies) c level buffer buffer' r → ListDone s ls c work work' buffer buffer' r
+    pub list-finished : (w : Words) (level : ℕ) (r : Answer) → Ends s ls w runEnd.Finished → level ≡ levelOf s (rootObject s) → Shows s (w .current) (w .ended) (w .tallies) c level buffer buffer' r → ListDone s ls c work work' buffer buffer' r
     list-finished w level r (ms, (st, (run, t))) e shows =
         let bytes = bytesIn s (resultOf (programOf s) st) c (levelOf s (rootObject s)) in
         let is : bytesIn s (resultIn (w .current) (w .ended) (w .tallies)) c level ≡ bytesIn s (resultOf (programOf s) st) c (levelOf s (rootObject s)) =
@@ -99,7 +99,7 @@ module _ (s : List ℕ) (a : verdictOf s ≡ Accepted) where
         answer st = unfold answerOf in refl
 
   -- any list that finishes ends as the plain order does
-  pub plain-ends : (w : Words) → Done s w → Ends s (plainOrder (programOf s) (rootOf s)) w outcome.Finished
+  pub plain-ends : (w : Words) → Done s w → Ends s (plainOrder (programOf s) (rootOf s)) w runEnd.Finished
   plain-ends w (ls, (ms, (st, (run, t)))) =
       let (u, e) = accepted-plain s a in
       let same : st ≡ u = any-order s a ls (plainOrder (programOf s) (rootOf s)) st u run e in
@@ -145,13 +145,13 @@ module _ (s : List ℕ) (c : ℕ) (work buffer : List ℕ) where
 pub zeros-long : (n : ℕ) → n ≤ length {A = ℕ} (replicate n 0)
 zeros-long n = rw (length-replicate {A = ℕ} n 0) (omega arith)
 
--- a list that finished, by the outcome that the code has of it
-pub finished-by : (s ls : List ℕ) (w : Words) (o : code.Outcome) → o ≡ outcome.Finished → Ends s ls w o → Ends s ls w outcome.Finished
+-- a list that finished, by the end that the code has of it
+pub finished-by : (s ls : List ℕ) (w : Words) (o : code.RunEnd) → o ≡ runEnd.Finished → Ends s ls w o → Ends s ls w runEnd.Finished
 finished-by s ls w o e x =
-    let y : Ends s ls w outcome.Finished = rw e at x in
+    let y : Ends s ls w runEnd.Finished = rw e at x in
     y
 
-pub show-ready : (s masks ls : List ℕ) (w : Words) (level : ℕ) (buffer : List ℕ) → Leveled s masks → Ends s ls w outcome.Finished → level ≡ levelOf s (rootObject s) → resultBytes ≤ length buffer → Ready s masks (w .current) (w .ended) (w .tallies) level buffer
+pub show-ready : (s masks ls : List ℕ) (w : Words) (level : ℕ) (buffer : List ℕ) → Leveled s masks → Ends s ls w runEnd.Finished → level ≡ levelOf s (rootObject s) → resultBytes ≤ length buffer → Ready s masks (w .current) (w .ended) (w .tallies) level buffer
 show-ready s masks ls w level buffer y (ms, (st, (run, t))) e room =
     write-ready s (y .accepted) w ms st t masks level buffer y e room
 

@@ -40,8 +40,8 @@ use Rattle.level_managers.specs.Representation.{Words, RunInvariant, placed}
 use Rattle.tallies.specs.Permits.{numberOfPermit, busyIn, endedOf, permitOf, noted, Countable}
 use Rattle.level_managers.specs.Steps.{Tables, IsBusy, ReadReady, Answered, PerformReady, SettleReady, StepDone, StartReady, Started}
 use Rattle.scheduler.specs.Runs.{Quiescent, SameRest, endOf, Ends}
-use Rattle.scheduler.specs.declared.Outcome.{Outcome}
-use Rattle.scheduler.specs.declared.Outcome.the-variants as outcome
+use Rattle.scheduler.specs.declared.RunEnd.{RunEnd}
+use Rattle.scheduler.specs.declared.RunEnd.the-variants as runEnd
 use Rattle.tallies.specs.declared.Permit.{Permit}
 use Rattle.tallies.specs.declared.Permit.the-variants.{Given, Absent, Idle, Blocked}
 use Rattle.level_managers.proofs.Laws.Settle.{placed-own, placed-other}
@@ -138,7 +138,7 @@ module _ (s : List ℕ) (a : verdictOf s ≡ Accepted) (few : levelCount s ≤ m
 
     module _ (masks : List ℕ) (table : masks ≡ masksOf s) (long : length masks ≡ levelCount s) where
       -- at its end
-      pub steps-made-ends : i ≡ length ls → endedOf masks (w .tallies) ≡ true → Ends s ls w outcome.Finished
+      pub steps-made-ends : i ≡ length ls → endedOf masks (w .tallies) ≡ true → Ends s ls w runEnd.Finished
       steps-made-ends e z = (ms, (g .state, (over, g .invariant .represents)))
         where
           over : runOf (programOf s) (rootOf s) ls ≡ finished (g .state)
@@ -148,7 +148,7 @@ module _ (s : List ℕ) (a : verdictOf s ≡ Accepted) (few : levelCount s ≤ m
               ∙ ap (λ xs. runFrom i (programOf s) xs (g .state)) (drop-length ls)
               ∙ run-ends i (programOf s) (g .state) (sym (ended-is s masks table long w ms (g .state) (g .invariant .represents)) ∙ z)
 
-      pub steps-made-unended : i ≡ length ls → endedOf masks (w .tallies) ≡ false → Ends s ls w (outcome.Refused 15 0)
+      pub steps-made-unended : i ≡ length ls → endedOf masks (w .tallies) ≡ false → Ends s ls w (runEnd.Refused 15 0)
       steps-made-unended e z =
           sym (g .run)
           ∙ ap (λ k. runFrom i (programOf s) (drop k ls) (g .state)) e
@@ -163,7 +163,7 @@ module _ (s : List ℕ) (a : verdictOf s ≡ Accepted) (few : levelCount s ≤ m
         next = sym (g .run) ∙ ap (λ xs. runFrom i (programOf s) xs (g .state)) (drop-cons ls i 0 h)
 
         -- a step that is not permitted
-        pub steps-made-stops : (p : Permit) → p ≡ permitOf masks (w .tallies) l → (p ≡ Given → ⊥) → Ends s ls w (outcome.Refused (numberOfPermit p) i)
+        pub steps-made-stops : (p : Permit) → p ≡ permitOf masks (w .tallies) l → (p ≡ Given → ⊥) → Ends s ls w (runEnd.Refused (numberOfPermit p) i)
         steps-made-stops p e d =
             next
             ∙ run-stops i (programOf s) l (drop (suc i) ls) (g .state) (numberOfPermit p) (sym (asked-is s masks table long w ms (g .state) (g .invariant) l) ∙ ap numberOfPermit (sym e)) (none p d)
@@ -251,7 +251,7 @@ module _ {s masks : List ℕ} (y : Leveled s masks) {ls : List ℕ} {d : code.Ma
   list-fits = steps-made-fits s (y .accepted) few ls i w (heldIn managers d) (g .steps-made)
 
   -- question 15
-  pub list-ends : length ls ≤ i → {r : Outcome} → r ≡ endOf (endedOf masks (w .tallies)) → Ends s ls w r
+  pub list-ends : length ls ≤ i → {r : RunEnd} → r ≡ endOf (endedOf masks (w .tallies)) → Ends s ls w r
   list-ends h q =
       let e : i ≡ length ls = omega (arith, h, g .low) in
       elim (truth (endedOf masks (w .tallies))) [
@@ -263,7 +263,7 @@ module _ {s masks : List ℕ} (y : Leveled s masks) {ls : List ℕ} {d : code.Ma
 
   module _ (h : i < length ls) {p : Permit} (e : p ≡ permitOf masks (w .tallies) (getD ls i 0)) {t : List ℕ} (n : t ≡ noted p (getD ls i 0) (w .tallies)) where
     -- the step is not permitted
-    pub list-refused : (p ≡ Given → ⊥) → (w' : Words) {r : Outcome} → r ≡ outcome.Refused (numberOfPermit p) i → Ends s ls w' r
+    pub list-refused : (p ≡ Given → ⊥) → (w' : Words) {r : RunEnd} → r ≡ runEnd.Refused (numberOfPermit p) i → Ends s ls w' r
     list-refused z w' q =
         rw q (steps-made-stops s (y .accepted) few ls i w (heldIn managers d) (g .steps-made) masks (y .masks-are) long h p e z)
 

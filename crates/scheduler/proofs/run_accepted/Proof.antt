@@ -48,8 +48,8 @@ make-steps-requires c κs =
 clear-requires : tie.Need-clear-requires
 clear-requires c κs = search needs
 
-enum-known-outcome : tie.Need-enum-known-outcome
-enum-known-outcome c = search needs
+enum-known-end : tie.Need-enum-known-end
+enum-known-end c = search needs
 
 refused-requires : tie.Need-refused-requires
 refused-requires c κs = search needs
@@ -63,7 +63,7 @@ returns c =
     let m = k .before .before .before .before .before .before .before .before in
     let z = m .before .before .before .before .before .before .before .before .before .before .before .before .before .before .before .before .before .before .before .before .before .before in
     let r = m .make-steps in
-    list-refused (z .args .session .now) (z .pre .leveled .accepted) (listOf (z .args .session .now) (z .args .timetable .now) (z .args .listed)) (z .args .clearance) (z .args .work .now) (r .last .1 .1 .1 .1 .1 .1 .1 .1 .1 .0) (k .clear .last .0) (z .args .result .now) (z .args .result .now) (r .ensures .1) (k .clear .ensures) (record { current = r .last .1 .1 .1 .1 .1 .0; ended = r .last .1 .1 .1 .1 .1 .1 .0; tallies = r .last .1 .1 .1 .1 .1 .1 .1 .0; queue = r .last .1 .1 .1 .1 .1 .1 .1 .1 .0; work = r .last .1 .1 .1 .1 .1 .1 .1 .1 .1 .0 }) (r .result) _ _ (c .refused .result) (r .ensures .0) (c .before .before .outcome .given .1) (c .refused .ensures) refl
+    list-refused (z .args .session .now) (z .pre .leveled .accepted) (listOf (z .args .session .now) (z .args .timetable .now) (z .args .listed)) (z .args .clearance) (z .args .work .now) (r .last .1 .1 .1 .1 .1 .1 .1 .1 .1 .0) (k .clear .last .0) (z .args .result .now) (z .args .result .now) (r .ensures .1) (k .clear .ensures) (record { current = r .last .1 .1 .1 .1 .1 .0; ended = r .last .1 .1 .1 .1 .1 .1 .0; tallies = r .last .1 .1 .1 .1 .1 .1 .1 .0; queue = r .last .1 .1 .1 .1 .1 .1 .1 .1 .0; work = r .last .1 .1 .1 .1 .1 .1 .1 .1 .1 .0 }) (r .result) _ _ (c .refused .result) (r .ensures .0) (c .before .before .end .given .1) (c .refused .ensures) refl
 
 enum-told : tie.Need-enum-told
 enum-told c = search needs
@@ -120,7 +120,7 @@ run-accepted-spec =
     slice-aggregate-make-steps-5
     make-steps-requires
     clear-requires
-    enum-known-outcome
+    enum-known-end
     refused-requires
     same-length
     returns
