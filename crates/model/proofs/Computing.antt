@@ -29,14 +29,14 @@ use Rattle.model.specs.Fork.{childOf}
 use Rattle.model.specs.History.{endBefore}
 use Rattle.model.specs.Level.{arrived, after, newest, newestTo}
 use Rattle.model.specs.Step.{viewOf, readAt, advanced, begun, moved, delivered, moveAt, stepAt}
-use Rattle.model.specs.Schedule.{Outcome, finished, refused, readIn, question14, question15, stepRefusal, runFrom, runOf, lowest, plainFrom, plainOrder}
+use Rattle.model.specs.Schedule.{Outcome, finished, refused, readIn, isFree, question14, question15, refusalUnder, runUnder, runOf, lowest, chosenFrom, plainOrder}
 use Rattle.model.specs.DepthFirst.{current, close, effected, finish, runFork, depthFirst}
 use Rattle.model.specs.Result.{resultOf, resultOfDepthFirst, byNumber, objectRecord, historyRecord, replyRecord, objectsShown, historiesShown, replyShown, bytesOf, ordersShown}
 use Rattle.model.specs.Entries.{Request, Answer, entryRefusal, cleared, answerOf, timetabled, plain, deep}
 use Rattle.model.specs.Reader.{bytesWritten}
 
 unfoldable pub computing : Unit {0}
-unfolding table.verdictOf all first reflexive antisymmetric transitive isOrder isLeast join hasJoins dominates namesPresent isOrdered every select risingFrom countsFrom tab joined recordAt recordsOf wordOf zeroAt stepOf ofKind masksOf methodRecords question1 kindsRise question2 question3 objectValid question6 operandsFit unusedBytes stepValid scriptValid scriptsValid rootValid firstNo verdictOf methodOf emptied blanked stays sessionW programOf seenBy fateOf sum isNilOr0 withRegister popped settled concluded started written called forked sent operated stepped inserted modify lastOr childOf endBefore arrived after newest newestTo viewOf readAt advanced begun moved delivered moveAt stepAt readIn question14 question15 stepRefusal runFrom runOf lowest plainFrom plainOrder current close effected finish runFork depthFirst objectRecord historyRecord replyRecord objectsShown historiesShown replyShown bytesOf ordersShown entryRefusal cleared answerOf timetabled plain deep
+unfolding table.verdictOf all first reflexive antisymmetric transitive isOrder isLeast join hasJoins dominates namesPresent isOrdered every select risingFrom countsFrom tab joined recordAt recordsOf wordOf zeroAt stepOf ofKind masksOf methodRecords question1 kindsRise question2 question3 objectValid question6 operandsFit unusedBytes stepValid scriptValid scriptsValid rootValid firstNo verdictOf methodOf emptied blanked stays sessionW programOf seenBy fateOf sum isNilOr0 withRegister popped settled concluded started written called forked sent operated stepped inserted modify lastOr childOf endBefore arrived after newest newestTo viewOf readAt advanced begun moved delivered moveAt stepAt readIn isFree question14 question15 refusalUnder runUnder runOf lowest chosenFrom plainOrder current close effected finish runFork depthFirst objectRecord historyRecord replyRecord objectsShown historiesShown replyShown bytesOf ordersShown entryRefusal cleared answerOf timetabled plain deep
 computing = tt
 
 -- a session run for a clearance, lent so many numbers, each 7, and so many bytes, each 9

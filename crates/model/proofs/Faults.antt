@@ -16,7 +16,7 @@ use Rattle.session.specs.declared.Verdict.the-variants.{Accepted, Length, Kinds
 use Rattle.session.proofs.Laws.Lists.{Truth, holds, fails, truth}
 use Rattle.session.proofs.Laws.Verdict.{verdict-chain}
 use Rattle.model.specs.Step.{State, stepAt}
-use Rattle.model.specs.Schedule.{initialState, question15, stepRefusal, Outcome, finished, refused, runFrom, runOf, plainOrder}
+use Rattle.model.specs.Schedule.{initialState, question15, refusalUnder, stepRefusal, Outcome, finished, refused, runFrom, runOf, plainOrder}
 use Rattle.model.specs.Entries.{Request, question9, question10, question11, entryRefusal, answerOf, timetabled, plain, deep}
 use Rattle.model.specs.Faults as faults
 use Rattle.model.specs.Faults.{Question, asks, checkAsks, runAsks, deepAsks, stepAsks, AllYes, LowestNo, Put, ends, Demand1Check, Made, StopsAt, ListMade, Listed, stops, unended, ended, Demand1Timetabled, Demand1Plain, Demand1DepthFirst}
@@ -151,7 +151,7 @@ demand-1-check =
 
 -- questions 12 to 14 of a byte
 step-lowest : (p : Program) (st : State) (l : ℕ) → stepRefusal p st l ≡ lowestOf (stepAsks p st l)
-unfolding stepRefusal lowestOf
+unfolding refusalUnder lowestOf
 step-lowest p st l = refl
 
 -- steps that are made bring a run to the rest of its list

@@ -10,3 +10,4 @@ pub mod Examples
 pub mod Layouts
 pub mod Refusals
 pub mod Runs
+pub mod Orders

@@ -53,7 +53,8 @@ pub record ProvedCases : Type 0 where
   m2-depth-first : answered (deep (lent sessionW 1) (0 ∷ 1 ∷ [])) ≡ for1
   m3 : answered (timetabledW sixAndSix) ≡ for1
   m4 : answered (timetabledW (1 ∷ sixAndSix)) ≡ 13 ∷ 0 ∷ 0 ∷ []
-  m5 : answered (timetabledW (0 ∷ 0 ∷ 0 ∷ 1 ∷ [])) ≡ 14 ∷ 3 ∷ 0 ∷ []
+  m5 : answered (timetabledW (0 ∷ 0 ∷ 0 ∷ 1 ∷ [])) ≡ 15 ∷ 0 ∷ 0 ∷ []
+  m5-early : answered (timetabledW (replicate 3 0 ++ replicate 6 1 ++ replicate 3 0)) ≡ for1
   m6 : answered (timetabledW (sixAndSix ++ 0 ∷ [])) ≡ 13 ∷ 12 ∷ 0 ∷ []
   m7 : answered (timetabledW (replicate 6 0)) ≡ 15 ∷ 0 ∷ 0 ∷ []
   m8 : answered (timetabled (lent [] 0) [] []) ≡ 1 ∷ 0 ∷ 0 ∷ []
@@ -76,6 +77,7 @@ provedCases =
       m3 = refl;
       m4 = refl;
       m5 = refl;
+      m5-early = refl;
       m6 = refl;
       m7 = refl;
       m8 = refl;

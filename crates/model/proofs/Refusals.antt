@@ -8,12 +8,13 @@ use lib.Dec.{eqb}
 use lib.ListN.{length, take, drop, set, replicate}
 use Rattle.session.specs.Lists.{every}
 use Rattle.session.specs.Meaning.{rootOf}
-use Rattle.session.specs.Program.{programOf}
+use Rattle.session.specs.Program.{Program, programOf}
 use Rattle.session.specs.SessionW.{sessionW}
+use Rattle.session.specs.declared.Step.the-variants.{Send}
 use Rattle.model.specs.Limits.{workNumbers}
 use Rattle.model.specs.Schedule.{Outcome, refused, runOf}
 use Rattle.model.specs.Entries.{Request, Answer, timetabled, plain, deep}
-use Rattle.model.proofs.Computing.{computing, lending, lent}
+use Rattle.model.proofs.Computing.{computing, lending, lent, eachLevel, message}
 
 -- number, place and count
 abbrev answered : Answer → List ℕ
@@ -32,6 +33,10 @@ ranW = runOf (programOf sessionW) (rootOf sessionW)
 
 abbrev byTimetable : List ℕ → Answer
 byTimetable ls = timetabled (lent sessionW 1) groups ls
+
+-- Levels in a chain, an object at each, with empty methods but for the root's, at 0, which sends to 1 and to 2
+abbrev siblings : Program
+siblings = eachLevel (0x01 ∷ 0x03 ∷ 0x07 ∷ []) (((Send 1 0 1 ∷ Send 1 0 2 ∷ []) ∷ []) ∷ [])
 
 -- session W with level 1's mask naming an absent level: question 4 says no
 abbrev unordered : List ℕ
@@ -87,8 +92,10 @@ pub record Refusals : Type 0 where
   -- 13. "Has that level a manager that hasn't ended?"
   thirteen : ranW (0 ∷ 0 ∷ 1 ∷ []) ≡ refused 13 2
   thirteen-ended : ranW (replicate 7 0) ≡ refused 13 6
-  -- 14. "Have all managers ended at levels it strictly dominates?"
-  fourteen : ranW (replicate 5 0 ++ 1 ∷ []) ≡ refused 14 5
+  -- 14. "have all managers ended that sit at the named level or one it dominates, have a smaller fork stamp than the manager about to step, and
+  -- are not its ancestors?" The root of session W is the ancestor of its only fork; more in `Orders`
+  fourteen : runOf siblings (message 0) (0 ∷ 0 ∷ 0 ∷ 2 ∷ []) ≡ refused 14 3
+  fourteen-ancestor : ranW (replicate 5 0 ++ 1 ∷ []) ≡ refused 15 0
   -- "12 to 14 are put of one timetable byte, its step is made, then the next byte follows"
   first-byte-decides : ranW (0 ∷ 1 ∷ 2 ∷ []) ≡ refused 13 1
   -- 15. "At the timetable's end: have all managers ended?"
@@ -136,6 +143,7 @@ refusals =
       thirteen = refl;
       thirteen-ended = refl;
       fourteen = refl;
+      fourteen-ancestor = refl;
       first-byte-decides = refl;
       fifteen-empty = refl;
       fifteen = refl;

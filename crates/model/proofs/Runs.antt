@@ -98,6 +98,10 @@ hanging =
     (0x0F ∷ 0x0A ∷ 0x0C ∷ 0x08 ∷ [])
     ([] ∷ ((Set 0 1 ∷ []) ∷ []) ∷ ((Set 0 1 ∷ []) ∷ []) ∷ ((Send 1 0 0 ∷ Send 1 0 2 ∷ Send 1 0 1 ∷ []) ∷ []) ∷ [])
 
+-- Levels in a chain: 0 over 2, 2 over 1. The root, at 1, sends to 2, where one step is made, and to 0, which must wait for it
+abbrev topmost : Program
+topmost = eachLevel (0x07 ∷ 0x02 ∷ 0x06 ∷ []) ([] ∷ ((Send 1 0 2 ∷ Send 1 0 0 ∷ []) ∷ []) ∷ ((Set 0 1 ∷ []) ∷ []) ∷ [])
+
 pub record Runs : Type 0 where
   -- "For levels the clearance dominates"; "Kind 7, if the root's level is dominated"
   above-hidden : answered (plain (lent fromAbove 0) (0 ∷ [])) ≡ aboveFor0
@@ -117,7 +121,8 @@ pub record Runs : Type 0 where
   -- "each scheduler step by the lowest-numbered level that may step"
   order-W : plainOrder (programOf sessionW) (rootOf sessionW) ≡ 0 ∷ 0 ∷ 0 ∷ 0 ∷ 0 ∷ 0 ∷ 1 ∷ 1 ∷ 1 ∷ 1 ∷ 1 ∷ 1 ∷ []
   order-diamond : plainOrder diamond (message 0) ≡ 0 ∷ 0 ∷ 0 ∷ 0 ∷ 1 ∷ 1 ∷ 2 ∷ 2 ∷ 3 ∷ []
-  order-hanging : plainOrder hanging (message 3) ≡ 3 ∷ 3 ∷ 3 ∷ 3 ∷ 1 ∷ 1 ∷ 2 ∷ 2 ∷ 0 ∷ []
+  order-hanging : plainOrder hanging (message 3) ≡ 3 ∷ 3 ∷ 0 ∷ 3 ∷ 2 ∷ 2 ∷ 3 ∷ 1 ∷ 1 ∷ []
+  order-topmost : plainOrder topmost (message 1) ≡ 1 ∷ 1 ∷ 1 ∷ 2 ∷ 2 ∷ 0 ∷ []
 
 pub runs : Runs
 unfolding computing
@@ -138,4 +143,5 @@ runs =
       order-W = refl;
       order-diamond = refl;
       order-hanging = refl;
+      order-topmost = refl;
     }

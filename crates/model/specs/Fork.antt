@@ -3,7 +3,9 @@
 -- `child-next`); of two managers that have not ended the intervals are disjoint, or one is the other's ancestor (`Tree`: `Related`; of all
 -- levels together `Forest`).
 use Prim.Native.Nat.{ℕ, _+_, _*_, _-_, _^_}
+use mathlib.Core.Bool.{Bool, _&&_}
 use mathlib.Core.List.{List}
+use lib.Dec.{ltb}
 use lib.ListN.{replicate, set}
 use Rattle.session.specs.declared.Message.{Message}
 use Rattle.scripts.specs.State.{Manager}
@@ -34,3 +36,11 @@ childOf level x m message =
       carried = set (x .carried) level (m .stamp);
       message = message;
     }
+
+-- how many stamps a manager d forks deep has for itself and its descendants: each child has a part of its own
+abbrev pub span : ℕ → ℕ
+span d = 16 ^ (stampDigits + 1 - d)
+
+-- y's manager is an ancestor of the one with this fork stamp: the stamp lies behind y's own in y's interval
+abbrev pub isAncestor : Fork → ℕ → Bool
+isAncestor y stamp = ltb (y .stamp) stamp && ltb stamp (y .stamp + span (y .depth))

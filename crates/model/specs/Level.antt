@@ -54,6 +54,14 @@ isEmpty (x ∷ xs) = false
 abbrev pub hasManager : Level → Bool
 hasManager v = isBusy (v .activity) || not (isEmpty (v .waiting))
 
+-- the forks of the managers that have not ended, that of the running one first: the first is that of the manager about to step
+abbrev pub forksBy : Activity → List Fork → List Fork
+forksBy idle ws = ws
+forksBy (busy x m) ws = x ∷ ws
+
+abbrev pub forksOf : Level → List Fork
+forksOf v = forksBy (v .activity) (v .waiting)
+
 -- the managers that started at a level
 abbrev pub startedCount : Level → ℕ
 startedCount v = length (v .ended) + cond (isBusy (v .activity)) 1 0

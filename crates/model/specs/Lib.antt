@@ -14,3 +14,5 @@ pub mod Isolation
 pub mod Faults
 pub mod Demands
 pub mod Calls
+pub mod Rules
+pub mod Ancestors

@@ -13,6 +13,7 @@ ghost use Rattle.session.specs.Limits.{maxLevels};
 ghost use Rattle.scripts.specs.Limits.{maxForks};
 ghost use Rattle.model.specs.Limits.{maxManagers, stampDigits};
 ghost use Rattle.model.specs.Fork.{childStamp};
+ghost use Rattle.model.specs.Schedule.{holdsBack};
 ghost use Rattle.queues.specs.Queue.{rowOf, rowOfChild, forkPlace, forkAt, forksAt, There, RootRow, ChildRow, Room, isDropped, Arrived};
 
 // Which of a fork's words is what, under the names that the definitions give the places: stampPlace,
@@ -115,6 +116,17 @@ pub fn child_stamp(stamp: u32, depth: u8, forks: u8) -> u32
 {
     let place = DIGIT_BITS * (STAMP_DIGITS - depth as u32);
     stamp + ((forks as u32 + 1) << place)
+}
+
+// Whether fork `i` of a level holds back a manager of this fork stamp: it has a smaller one, and is no
+// ancestor. So all of its interval of stamps lies before.
+pub fn holds_back(queue: &[u32], level: usize, i: usize, stamp: u32) -> bool
+    requires { ⌜ There (now queue) level i × ((n : ℕ) → forkAt n (now queue) level i .depth ≤ stampDigits + 1) ⌝ }
+    ensures { λ r. ⌜ ((n : ℕ) → holdsBack (forkAt n (now (queue .entry)) level i) stamp ≡ r) ⌝ }
+{
+    let depth = depth_at(queue, level, i);
+    let place = DIGIT_BITS * (STAMP_DIGITS + 1 - depth as u32);
+    stamp_at(queue, level, i) as u64 + (1u64 << place) <= stamp as u64
 }
 
 // The fork of the root message.

@@ -2,12 +2,10 @@
 use level_managers::steps;
 use managers::Effect;
 use scripts::MAX_SCRIPT_STEPS;
-use tallies::Permit;
 use tallies::WAITING;
 use words::fields::FIELD_WORDS;
 ghost use mathlib.Core.Path.{_≡_};
 ghost use Rattle.model.specs.Schedule.{initialState};
-ghost use Rattle.tallies.specs.Permits.{isGiven};
 ghost use Rattle.level_managers.specs.Steps.{Tables};
 ghost use Rattle.scheduler.specs.Runs.{Quiescent, LevelReady, LevelDone, Done, SameRest};
 ghost use Rattle.scheduler.specs.Running.{NextReady, NextDone};
@@ -102,18 +100,6 @@ fn run_level(
     }
 }
 
-// Whether a step is permitted.
-fn is_given(permit: Permit) -> bool
-    ensures { λ r. ⌜ r ≡ isGiven permit ⌝ }
-{
-    match permit {
-        Permit::Given => true,
-        Permit::Absent => false,
-        Permit::Idle => false,
-        Permit::Blocked => false,
-    }
-}
-
 // Makes scheduler steps from the session as read in until all managers have ended.
 pub fn run(
     session: &[u8],
@@ -131,7 +117,7 @@ pub fn run(
 {
     let mut level = 0;
     while level < masks.len() {
-        if is_given(tallies::ask(masks, tallies, level)) {
+        if tallies::is_lowest(masks, tallies, level) {
             run_level(
                 session,
                 masks,

@@ -72,7 +72,7 @@ pub fn run(
     let mut cache = [0u32; FIELD_WORDS];
     for i in 0..timetable.len() {
         let level = timetable[i] as usize;
-        let permit = tallies::ask(masks, tallies, level);
+        let permit = tallies::ask(masks, tallies, queue, level);
         let Permit::Given = permit else {
             return refused_at(permit, i as u32);
         };

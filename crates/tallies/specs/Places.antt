@@ -8,7 +8,7 @@ use Rattle.scripts.specs.declared.Ended.{Ended}
 use Rattle.records.specs.Histories.{Added}
 
 -- of level l: how many managers have ended stands at l itself; then the write stamp of the next one; the forks that wait; the versions; 1 where
--- a manager runs; 1 where question 14 has said yes
+-- a manager runs
 abbrev pub nextPlace : ℕ → ℕ
 nextPlace l = maxLevels + l
 
@@ -21,15 +21,12 @@ versionsPlace l = 3 * maxLevels + l
 abbrev pub busyPlace : ℕ → ℕ
 busyPlace l = 4 * maxLevels + l
 
-abbrev pub clearPlace : ℕ → ℕ
-clearPlace l = 5 * maxLevels + l
-
 abbrev pub tallyNumbers : ℕ
-tallyNumbers = 6 * maxLevels
+tallyNumbers = 5 * maxLevels
 
 -- what is counted before any manager started: "A level's write stamp starts at 1"
 abbrev pub startTallies : List ℕ
-startTallies = replicate maxLevels 0 ++ replicate maxLevels 1 ++ replicate (4 * maxLevels) 0
+startTallies = replicate maxLevels 0 ++ replicate maxLevels 1 ++ replicate (3 * maxLevels) 0
 
 -- the counts once a manager of level l has ended: so many have, and the next write stamp is this one
 abbrev pub tallied : ℕ → ℕ → ℕ → List ℕ → List ℕ

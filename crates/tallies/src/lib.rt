@@ -1,10 +1,11 @@
 // What is counted of each level, in lent numbers of one layout for every run; and questions 12 to 15, which
-// look at these alone.
+// look at these and at the forks.
 use model::MAX_MANAGERS;
 use records::histories;
 use scripts::Ended;
 use session::limits::MAX_LEVELS;
 ghost use mathlib.Core.Path.{_≡_};
+ghost use mathlib.Core.Bool.{true};
 ghost use Prim.Native.Nat.{_≤_, _<_};
 ghost use lib.Dec.{ltb};
 ghost use lib.ListN.{length, getD};
@@ -12,7 +13,7 @@ ghost use Rattle.session.specs.Limits.{maxLevels};
 ghost use Rattle.model.specs.Limits.{maxManagers};
 ghost use Rattle.records.specs.Histories.{HistoryRoom};
 ghost use Rattle.tallies.specs.Places.{tallyNumbers, startTallies, Closed};
-ghost use Rattle.tallies.specs.Permits.{busyIn, managed, clearOf, endedOf, permitOf, noted, Countable};
+ghost use Rattle.tallies.specs.Permits.{busyIn, managed, lowestOf, freeOf, endedOf, permitOf, Countable, Askable};
 
 // Where the parts stand, a number for each level in each. How many managers have ended at a level stands at
 // its own number, where `records::write` looks for it. Then the write stamp of its next manager.
@@ -27,11 +28,8 @@ pub const VERSIONS: usize = 3 * MAX_LEVELS;
 // 1 while a manager runs.
 pub const RUNNING: usize = 4 * MAX_LEVELS;
 
-// 1 once question 14 has said yes of the level: from then on it always says so.
-pub const CLEAR: usize = 5 * MAX_LEVELS;
-
 // How many numbers there are.
-pub const TALLIES: usize = 6 * MAX_LEVELS;
+pub const TALLIES: usize = 5 * MAX_LEVELS;
 
 // What questions 12 to 14 say of a scheduler step.
 pub enum Permit {
@@ -40,7 +38,7 @@ pub enum Permit {
     Absent,
     // Question 13: it has no manager that hasn't ended.
     Idle,
-    // Question 14: one at a level that it strictly dominates has not ended.
+    // Question 14: one holds back the manager about to step.
     Blocked,
 }
 
@@ -92,14 +90,36 @@ pub fn has_manager(tallies: &[usize], level: usize) -> bool
     is_busy(tallies, level) || tallies[WAITING + level] > 0
 }
 
-// Question 14: have all managers ended at the levels that a level strictly dominates?
-fn is_clear(masks: &[u16], tallies: &[usize], level: usize) -> bool
-    requires { ⌜ Countable (now masks) (now tallies) ⌝ }
-    ensures { λ r. ⌜ r ≡ clearOf (now (masks .entry)) (now (tallies .entry)) level ⌝ }
+// Whether a level has a manager, and all managers have ended at the levels that it strictly dominates: the
+// conservative rule. The plain run goes by it.
+pub fn is_lowest(masks: &[u16], tallies: &[usize], level: usize) -> bool
+    requires { ⌜ Countable (now masks) (now tallies) × (level < length (now masks)) ⌝ }
+    ensures { λ r. ⌜ r ≡ lowestOf (now (masks .entry)) (now (tallies .entry)) level ⌝ }
 {
+    if !has_manager(tallies, level) {
+        return false;
+    }
     for j in 0..masks.len() {
         if j != level && has_manager(tallies, j) && lattice::dominates(masks, level, j) {
             return false;
+        }
+    }
+    true
+}
+
+// Question 14 of a level where no manager runs: does none hold back the first that waits? Of each level the
+// first manager that has not ended is asked; the others of that level have greater stamps and are no
+// ancestors.
+fn is_free(masks: &[u16], tallies: &[usize], queue: &[u32], level: usize) -> bool
+    requires { ⌜ Askable (now masks) (now tallies) (now queue) × (level < length (now masks)) × (managed (now tallies) level ≡ true) ⌝ }
+    ensures { λ r. ⌜ r ≡ freeOf (now (masks .entry)) (now (tallies .entry)) (now (queue .entry)) level ⌝ }
+{
+    let stamp = queues::stamp_at(queue, level, tallies[level]);
+    for j in 0..masks.len() {
+        if has_manager(tallies, j) && lattice::dominates(masks, level, j) {
+            if queues::holds_back(queue, j, tallies[j], stamp) {
+                return false;
+            }
         }
     }
     true
@@ -118,21 +138,23 @@ pub fn all_ended(masks: &[u16], tallies: &[usize]) -> bool
     true
 }
 
-// Questions 12 to 14 of a step at a level. What 14 looks at never gets a manager again, so where it has
-// said yes it is not put again.
-pub fn ask(masks: &[u16], tallies: &mut [usize], level: usize) -> Permit
-    requires { ⌜ Countable (now masks) (now tallies) ⌝ }
-    ensures { λ r. ⌜ (r ≡ permitOf (now (masks .entry)) (now (tallies .entry)) level) × (now (tallies .exit) ≡ noted r level (now (tallies .entry))) ⌝ }
+// Questions 12 to 14 of a step at a level. Of one where a manager runs 14 is not put again: it said yes of
+// that manager's start, and says so until the manager has ended.
+pub fn ask(masks: &[u16], tallies: &[usize], queue: &[u32], level: usize) -> Permit
+    requires { ⌜ Askable (now masks) (now tallies) (now queue) ⌝ }
+    ensures { λ r. ⌜ r ≡ permitOf (now (masks .entry)) (now (tallies .entry)) (now (queue .entry)) level ⌝ }
 {
     if level >= masks.len() {
         return Permit::Absent;
     }
-    if !has_manager(tallies, level) {
+    if is_busy(tallies, level) {
+        return Permit::Given;
+    }
+    if tallies[WAITING + level] == 0 {
         return Permit::Idle;
     }
-    if tallies[CLEAR + level] == 0 && !is_clear(masks, tallies, level) {
+    if !is_free(masks, tallies, queue, level) {
         return Permit::Blocked;
     }
-    tallies[CLEAR + level] = 1;
     Permit::Given
 }

@@ -1,9 +1,14 @@
 -- What holds of each element of a list, and of each two, when one is put in or the end is cut off. Assumes nothing.
-use Prim.Native.Nat.{ℕ, zero, suc}
+use Prim.Native.Nat.{ℕ, zero, suc, _≤_}
 use mathlib.Core.Path.{_≡_, refl, ap}
+use mathlib.Core.Bool.{Bool, true}
 use mathlib.Core.List.{List, [], _∷_, map}
+use native.Mathlib.Omega.{arith}
+use borrow.Author.Tests.{ltb-true, ltb-false}
 use lib.Dec.{ltb}
 use lib.ListN.{take}
+use Rattle.lattice.proofs.Laws.Range.{and-left, and-right, and-both}
+use Rattle.session.specs.Lists.{every}
 use Rattle.session.proofs.Laws.Lists.{holds, fails, truth}
 use Rattle.model.specs.Lists.{inserted}
 
@@ -22,6 +27,12 @@ module _ {A : Type 0} where
   unfolding Each
   each-map P Q f [] e = tt
   each-map P Q f (x ∷ xs) e = (f x (e .0), each-map P Q f xs (e .1))
+
+  -- two facts of each element
+  pub each-both : (P Q R : A → Type 0) → ((x : A) → P x → Q x → R x) → (xs : List A) → Each P xs → Each Q xs → Each R xs
+  unfolding Each
+  each-both P Q R f [] e g = tt
+  each-both P Q R f (x ∷ xs) e g = (f x (e .0) (g .0), each-both P Q R f xs (e .1) (g .1))
 
   -- of each element of one list and each of another, in either order
   pub each-swap : (R S : A → A → Type 0) → ((x y : A) → R x y → S y x) → (xs ys : List A) → Each (λ x. Each (R x) ys) xs → Each (λ y. Each (S y) xs) ys
@@ -60,6 +71,29 @@ module _ {A : Type 0} where
       | holds h ↦ rw h (e, w)
       | fails h ↦ rw h (each-inserted (R y) x (s x y (e .0)) ys (w .0), pairwise-inserted R s x ys (e .1) (w .1))
     ]
+
+-- a list that rises still does when an element is put in
+pub rising-inserted : {A : Type 0} (key : A → ℕ) (x : A) (ys : List A) → Pairwise (λ a b. key a ≤ key b) ys → Pairwise (λ a b. key a ≤ key b) (inserted key x ys)
+unfolding Each Pairwise inserted
+rising-inserted key x [] w = (tt, tt)
+rising-inserted key x (y ∷ ys) w = elim (truth (ltb (key x) (key y))) [
+  | holds h ↦
+      let less = ltb-true (key x) (key y) h in
+      rw h ((omega (arith, less), each-map (λ b. key y ≤ key b) (λ b. key x ≤ key b) (λ b g. omega (arith, less, g)) ys (w .0)), w)
+  | fails h ↦
+      rw h (each-inserted key (λ b. key y ≤ key b) x (ltb-false (key x) (key y) h) ys (w .0), rising-inserted key x ys (w .1))
+]
+
+-- each element passes a test
+pub every-is : {A : Type 0} (t : A → Bool) (P : A → Type 0) → ((x : A) → t x ≡ true → P x) → (xs : List A) → every t xs ≡ true → Each P xs
+unfolding Each every
+every-is t P f [] e = tt
+every-is t P f (x ∷ xs) e = (f x (and-left (t x) (every t xs) e), every-is t P f xs (and-right (t x) (every t xs) e))
+
+pub is-every : {A : Type 0} (t : A → Bool) (P : A → Type 0) → ((x : A) → P x → t x ≡ true) → (xs : List A) → Each P xs → every t xs ≡ true
+unfolding Each every
+is-every t P f [] e = refl
+is-every t P f (x ∷ xs) e = and-both (t x) (every t xs) (f x (e .0)) (is-every t P f xs (e .1))
 
 -- a list put in order and then mapped, or mapped first
 pub inserted-map : {A B : Type 0} (key : A → ℕ) (key' : B → ℕ) (f : A → B) → ((x : A) → key' (f x) ≡ key x) → (x : A) (ys : List A) → map f (inserted key x ys) ≡ inserted key' (f x) (map f ys)

@@ -3,3 +3,4 @@ pub mod Arrivals
 pub mod Locality
 pub mod Diamond
 pub mod Moves
+pub mod May

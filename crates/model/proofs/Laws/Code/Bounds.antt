@@ -39,28 +39,27 @@ Fits32 a = upTo a ≤ 16 ^ (stampDigits + 1)
 
 module _ (p : Program) (so : Sound p) (st : State) (o : ForkInvariant p st) (i : (l : ℕ) → l < p .levels → Each Fits32 (entriesIn st l)) (l : ℕ) (h : l < p .levels) where
   change : Change p l (entriesIn st l) (entriesOf l (moveAt p l st .own)) (moveAt p l st .arrival)
-  change = step-change p l st so h (o .placed l h)
+  change = step-change p l st so h (o .placed l h) (o .positive l h)
 
   own-fits : Each Fits32 (entriesOf l (moveAt p l st .own))
   own-fits = by change
     where
       by : {G : List Entry} {b : Arrival} → Change p l (entriesIn st l) G b → Each Fits32 G
       by (internal e r) = rest-each Fits32 _ _ r (i l h)
-      by (forks u y m message W e g r hu s f) = rest-each Fits32 _ _ r (unfold Each in ((rw g at (i l h)) .0, (rw g at (i l h)) .1))
+      by (forks u y m message W e g r hu s f z) = rest-each Fits32 _ _ r (unfold Each in ((rw g at (i l h)) .0, (rw g at (i l h)) .1))
 
   child-fits : (u : ℕ) (c : Fork) → moveAt p l st .arrival ≡ at u c → Fits32 (waitingEntry u c)
   child-fits u c q = by change
     where
-      within : (e : Entry) → Fertile e → Fits32 e → waitingEntry u c ≡ childIn u e → Fits32 (waitingEntry u c)
-      within e f b g = rw (ap upTo g) (omega (arith, f .room, b))
+      within : (e : Entry) (w : ℕ) → Fertile e → Fits32 e → waitingEntry u c ≡ childIn u w e → Fits32 (waitingEntry u c)
+      within e w f b g = rw (ap upTo g) (omega (arith, f .room, b))
 
       by : {G : List Entry} → Change p l (entriesIn st l) G (moveAt p l st .arrival) → Fits32 (waitingEntry u c)
       by (internal e r) = absurd (at-none (moveAt p l st .arrival) u c q e)
-      by (forks w y m message W e g r hu s f) =
+      by (forks w y m message W e g r hu s f z) =
           let same : c ≡ childOf l y m message = at-fork u w c (childOf l y m message) (sym q ∙ e) in
           let a = runningEntry l y (m .forks) in
-          let d = first-of (λ a. a .depth + rank (p .levels) (p .dom) l ≤ stampDigits + 1) a W (entriesIn st l) g (o .grown .shallow l h) in
-          within a (fertile p l y (m .forks) so h d f) (first-of Fits32 a W (entriesIn st l) g (i l h)) (ap (waitingEntry u) same ∙ child-entry l u y m message)
+          within a (m .stamp) (fertile p so st o l h y (m .forks) W g f) (first-of Fits32 a W (entriesIn st l) g (i l h)) (ap (waitingEntry u) same ∙ child-entry l u y m message)
 
   -- every step keeps fork stamps within 32 bits
   pub step-fits : (k : ℕ) → k < p .levels → Each Fits32 (entriesIn (stepAt p l st) k)

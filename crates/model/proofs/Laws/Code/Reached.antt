@@ -28,13 +28,14 @@ use Rattle.scripts.proofs.Laws.Valid.{started-valid, stepped-valid, stepped-pre
 use Rattle.model.specs.Limits.{maxManagers}
 use Rattle.model.specs.Lists.{inserted}
 use Rattle.model.specs.Fork.{Fork, childOf}
-use Rattle.model.specs.Level.{Version, Activity, idle, busy, Level, hasManager, startedCount, arrived, after}
+use Rattle.model.specs.Level.{Version, Activity, idle, busy, Level, startedCount, arrived, after}
 use Rattle.model.specs.Step.{State, levelAt, readAt, Arrival, none, at, arrivalOf, begun, advanced, moved, moveAt, stepAt}
-use Rattle.model.specs.Schedule.{readIn}
+use Rattle.model.specs.Schedule.{readIn, stepRefusal}
 use Rattle.model.proofs.Laws.Each.{Each, each-take, each-inserted}
 use Rattle.model.proofs.Laws.Invariant.Preserved.{grown-level}
 use Rattle.model.proofs.Laws.Invariant.Measure.{Bounded}
 use Rattle.model.proofs.Laws.Invariant.Became.{Became, own, got, stayed, became}
+use Rattle.model.proofs.Laws.Steps.May.{may-step}
 use Rattle.model.proofs.Laws.Order.Accepted.{sound}
 use Rattle.model.proofs.Laws.Deep.Root.{each-level}
 use Rattle.model.proofs.Laws.Code.Direct.{move-direct}
@@ -171,11 +172,11 @@ module _ (s : List ℕ) (a : verdictOf s ≡ Accepted) where
             rw q (arrived-held s k c (levelAt st k) (sent (moved (programOf s) st l (levelAt st l) (levelAt st l .activity) .arrival) c (sym (ap (λ m. m .arrival) made) ∙ e) (moved-sends st l (levelAt st l) (levelAt st l .activity) (i .activity l h))) (held k hk))
         by v (stayed n q) = rw q (held k hk)
 
-    -- and the state after a step of a manager
-    pub live-step : (l : ℕ) → l < levelCount s → hasManager (levelAt st l) ≡ true → ReachedState s (stepAt (programOf s) l st)
-    live-step l h m =
+    -- and the state after an allowed step
+    pub live-step : (l : ℕ) → l < levelCount s → stepRefusal (programOf s) st l ≡ 0 → ReachedState s (stepAt (programOf s) l st)
+    live-step l h e =
         record {
-          reachable = reachable-step (programOf s) (sound s a) st (i .reachable) l (present s l h) m;
+          reachable = reachable-step (programOf s) (sound s a) st (i .reachable) l (may-step (programOf s) st l e);
           waiting = λ k hk. step-held l h k hk .waiting;
           activity = λ k hk. step-held l h k hk .activity;
         }

@@ -16,7 +16,7 @@ use Rattle.scripts.proofs.Laws.Counts.{started-counts}
 use Rattle.scripts.proofs.Laws.Effects.{Sound}
 use Rattle.scripts.proofs.Laws.Within.{started-within, started-seen}
 use Rattle.model.specs.Fork.{Fork, childStamp}
-use Rattle.model.specs.Level.{Version, idle, after, newest}
+use Rattle.model.specs.Level.{Version, idle, after, newest, forksOf}
 use Rattle.model.specs.Step.{State, levelAt, viewOf, none, begun, moved, moveAt, stepAt}
 use Rattle.model.specs.DepthFirst.{Tally, Progress, tallyAt}
 use Rattle.model.specs.Limits.{stampDigits}
@@ -28,7 +28,7 @@ use Rattle.model.proofs.Laws.Steps.Moves.{move-is}
 use Rattle.model.proofs.Laws.Invariant.Entries.{waitingEntry, entriesOf}
 use Rattle.model.proofs.Laws.Invariant.Forks.{entriesIn}
 use Rattle.model.proofs.Laws.Invariant.Preserved.{other-level, first-of}
-use Rattle.model.proofs.Laws.Invariant.WriteStamps.{forksOf, after-versions}
+use Rattle.model.proofs.Laws.Invariant.WriteStamps.{after-versions}
 use Rattle.model.proofs.Laws.Invariant.Became.{level-stepped, level-internal, level-unmoved}
 use Rattle.model.proofs.Laws.Invariant.State.{StateInvariant, steady-preserves}
 use Rattle.model.proofs.Laws.Safe.Safe.{Safe, safe-managed}

@@ -16,7 +16,7 @@ use Rattle.session.specs.Limits.{maxLevels}
 use Rattle.scripts.proofs.Laws.Effects.{Sound}
 use Rattle.model.specs.Lists.{inserted, lastOr}
 use Rattle.model.specs.Fork.{Fork, rootFork}
-use Rattle.model.specs.Level.{Level, newLevel, hasManager, arrived, newest}
+use Rattle.model.specs.Level.{Level, newLevel, hasManager, arrived, newest, forksOf}
 use Rattle.model.specs.Step.{State, levelAt, stepAt}
 use Rattle.model.specs.Schedule.{readIn, question15, finished, runOf}
 use Rattle.model.specs.DepthFirst.{Tally, Progress, newTally, tallyAt, current, depthFirst}
@@ -25,24 +25,15 @@ use Rattle.model.proofs.Laws.Confluence.{ran, Allowed, Over, confluent}
 use Rattle.model.proofs.Laws.Each.{Each}
 use Rattle.model.proofs.Laws.Invariant.Rank.{count-most}
 use Rattle.model.proofs.Laws.Invariant.Preserved.{other-level}
-use Rattle.model.proofs.Laws.Steps.Diamond.{MayStep}
-use Rattle.model.proofs.Laws.Order.Finish.{Finishes, finishes}
-use Rattle.model.proofs.Laws.Order.ReadIn.{at-root, elsewhere, read-in}
-use Rattle.model.proofs.Laws.Order.PlainRun.{read-in-bounded}
-use Rattle.model.proofs.Laws.Invariant.WriteStamps.{writeStamp, forksOf}
-use Rattle.model.proofs.Laws.Invariant.State.{WriteStampInvariant, StateInvariant}
-use Rattle.model.proofs.Laws.Safe.Safe.{Safe, safe-managed, may-safe}
+use Rattle.model.proofs.Laws.Order.Finish.{Finishes, finishes, none-safe, allowed-safe}
+use Rattle.model.proofs.Laws.Order.ReadIn.{repeated, at-root, elsewhere, read-in-steady}
+use Rattle.model.proofs.Laws.Invariant.State.{StateInvariant}
+use Rattle.model.proofs.Laws.Safe.Safe.{Safe}
 use Rattle.model.proofs.Laws.Safe.SafeCommute.{safe-commute}
 use Rattle.model.proofs.Laws.Deep.Quiescent.{awaiting, Past, LevelQuiescent, quiescent-below}
 use Rattle.model.proofs.Laws.Deep.Working.{endOf, FieldsAgree}
 use Rattle.model.proofs.Laws.Deep.Ready.{Ready}
 use Rattle.model.proofs.Laws.Deep.DeepRun.{Runs, runs-forks}
-
--- the same at every place, and beyond
-repeated : {A : Type 0} (n : ℕ) (a : A) (j : ℕ) → getD (replicate n a) j a ≡ a
-repeated zero a j = refl
-repeated (suc n) a zero = refl
-repeated (suc n) a (suc j) = repeated n a j
 
 root-waits : (x : Fork) → arrived x newLevel ≡ awaiting x newTally []
 unfolding arrived inserted
@@ -78,20 +69,8 @@ module _ (p : Program) (so : Sound p) (few : p .levels ≤ maxLevels) (root : Me
     | no n ↦ rw (other-is j n) b
   ]
 
-  root-stamped : WriteStampInvariant p (readIn p root)
-  root-stamped =
-      record {
-        ended = λ l h. each-level (λ v. Each (λ h. h .last < writeStamp v) (v .ended)) (unfold Each in tt) (unfold Each in tt) l;
-        carried = λ l j hl hj.
-            each-level (λ w. Each (λ y. getD (y .carried) j 0 < writeStamp w) (forksOf (levelAt (readIn p root) l))) (low l j) (low l j) j;
-      }
-    where
-      low : (l j : ℕ) → Each (λ y. getD (y .carried) j 0 < 1) (forksOf (levelAt (readIn p root) l))
-      low l j =
-          each-level (λ v. Each (λ y. getD (y .carried) j 0 < 1) (forksOf v)) (unfold Each in (rw (repeated {A = ℕ} (p .levels) 0 j) (omega arith), tt)) (unfold Each in tt) l
-
   pub root-steady : StateInvariant p (readIn p root)
-  root-steady = record { fork-invariant = read-in p so few root; bounded = read-in-bounded p so few root; stamped = root-stamped }
+  root-steady = read-in-steady p so few root
 
   root-fields : FieldsAgree p (readIn p root) start
   unfolding newest current
@@ -142,24 +121,13 @@ module _ (p : Program) (so : Sound p) (few : p .levels ≤ maxLevels) (root : Me
         | fails d ↦ rw (ap hasManager (untouched j h d)) refl
       ]
 
-  -- where all managers have ended no step is safe
-  none-safe : (st : State) → question15 p st ≡ true → Over (Safe p) st
-  unfolding question15
-  none-safe st e l s =
-      not-both (hasManager (levelAt st l)) (safe-managed s) (not-true (hasManager (levelAt st l)) (all-each (p .levels) _ e l (s .present)))
-
-  allowed-safe : (ls : List ℕ) (st : State) → Allowed (stepAt p) (MayStep p) ls st → Allowed (stepAt p) (Safe p) ls st
-  unfolding Allowed
-  allowed-safe [] st a = tt
-  allowed-safe (l ∷ ls) st a = (may-safe p st l (a .0), allowed-safe ls (stepAt p l st) (a .1))
-
   -- every list of scheduler steps that finishes ends in the state of the depth-first run's
   pub deep-end : (ls : List ℕ) (t : State) → Finishes p ls (readIn p root) t → t ≡ deep-run .to
   deep-end ls t f =
       sym (f .ends)
       ∙ confluent State (stepAt p) (Safe p) (StateInvariant p) (safe-commute p so) ls (deep-run .leads .list) (readIn p root) root-steady
-      (allowed-safe ls (readIn p root) (f .allowed)) (none-safe (ran (stepAt p) ls (readIn p root)) (rw (f .ends) (f .over)))
-      (deep-run .leads .allowed) (none-safe (ran (stepAt p) (deep-run .leads .list) (readIn p root)) (rw (deep-run .leads .ends) deep-over))
+      (allowed-safe p so ls (readIn p root) root-steady (f .allowed)) (none-safe p (ran (stepAt p) ls (readIn p root)) (rw (f .ends) (f .over)))
+      (deep-run .leads .allowed) (none-safe p (ran (stepAt p) (deep-run .leads .list) (readIn p root)) (rw (deep-run .leads .ends) deep-over))
       ∙ deep-run .leads .ends
 
   -- the histories of a level, in both runs

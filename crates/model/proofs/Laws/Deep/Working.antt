@@ -18,16 +18,15 @@ use Rattle.scripts.specs.Manager.{stepped}
 use Rattle.scripts.specs.State.{Manager, Stepped}
 use Rattle.scripts.proofs.Laws.Effects.{Sound}
 use Rattle.scripts.proofs.Laws.Within.{Within, stepped-seen}
-use Rattle.model.specs.Fork.{Fork, childStamp}
-use Rattle.model.specs.Level.{Version, busy, Level, after, newest, newestTo}
+use Rattle.model.specs.Fork.{Fork, childStamp, span}
+use Rattle.model.specs.Level.{Version, busy, Level, after, newest, newestTo, forksOf}
 use Rattle.model.specs.Step.{State, levelAt, viewOf, readAt, versionsAfter, arrivalOf, advanced, moved, moveAt}
 use Rattle.model.specs.DepthFirst.{Tally, Progress, tallyAt, fieldNow}
 use Rattle.model.proofs.Laws.Each.{Each, each-map}
-use Rattle.model.proofs.Laws.Invariant.Stamps.{span, span-positive}
+use Rattle.model.proofs.Laws.Invariant.Stamps.{span-positive}
 use Rattle.model.proofs.Laws.Steps.Diamond.{seen-level}
 use Rattle.model.proofs.Laws.Steps.Moves.{move-is}
 use Rattle.model.proofs.Laws.Invariant.Entries.{entriesOf}
-use Rattle.model.proofs.Laws.Invariant.WriteStamps.{forksOf}
 use Rattle.model.proofs.Laws.Invariant.State.{StateInvariant}
 use Rattle.model.proofs.Laws.Safe.Safe.{Later, ancestor, Safe}
 use Rattle.model.proofs.Laws.Safe.Reads.{boundAt, seen-field, seen-own, seen-below}

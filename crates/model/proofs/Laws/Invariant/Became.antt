@@ -15,9 +15,9 @@ use Rattle.model.specs.Step.{State, levelAt, viewOf, Arrival, none, at, 
 use Rattle.model.proofs.Laws.Steps.Locality.{Above}
 use Rattle.model.proofs.Laws.Steps.Diamond.{seen-level}
 use Rattle.model.proofs.Laws.Steps.Moves.{move-above}
-use Rattle.model.proofs.Laws.Invariant.Forks.{level-own, level-target, level-other, ForkInvariant}
+use Rattle.model.proofs.Laws.Invariant.Forks.{marks-at, level-own, level-target, level-other, ForkInvariant}
 use Rattle.model.proofs.Laws.Invariant.Preserved.{other-level}
-use Rattle.model.proofs.Laws.Invariant.WriteStamps.{Marks, moved-marks}
+use Rattle.model.proofs.Laws.Invariant.WriteStamps.{Marks}
 
 -- what level k is after a step at level l
 pub data Became (p : Program) (l : ℕ) (st : State) (k : ℕ) (v : Level) : Type 0 where
@@ -45,14 +45,7 @@ module _ (p : Program) (so : Sound p) (st : State) (o : ForkInvariant p st) (l :
 
   -- what a step does to its own level's write stamp, versions, histories and forks
   pub step-marks : Marks l (levelAt st l) (moveAt p l st .own) (moveAt p l st .arrival)
-  unfolding moveAt
-  step-marks =
-      let view = viewOf p l st in
-      let same : levelAt view l ≡ levelAt st l = seen-level p l l st h (so .lattice .order .itself l h) in
-      by (levelAt view l) (levelAt st l) same (moved-marks (seenBy l p) view l (levelAt view l) (levelAt view l .activity) refl)
-    where
-      by : (v w : Level) → v ≡ w → {z : Level} {b : Arrival} → Marks l v z b → Marks l w z b
-      by v w q f = rw (sym q) f
+  step-marks = marks-at p l st so h
 
 -- the same, level by level
 module _ (p : Program) (so : Sound p) (st : State) (o : ForkInvariant p st) (l : ℕ) (h : l < p .levels) where

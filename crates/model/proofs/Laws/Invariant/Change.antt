@@ -21,12 +21,13 @@ use Rattle.model.specs.Step.{State, readAt, Arrival, none, at, versionsA
 use Rattle.model.proofs.Laws.Invariant.Tree.{Entry, forkedFrom}
 use Rattle.model.proofs.Laws.Invariant.Forest.{Rest, whole, tail}
 use Rattle.model.proofs.Laws.Invariant.Entries.{waitingEntry, runningEntry, entriesBy, entriesOf, forked-entry}
+use Rattle.model.proofs.Laws.Invariant.WriteStamps.{stampBy, writeStamp}
 use Rattle.model.proofs.Laws.Steps.Moves.{AtLevel}
 
--- the entries of a level before and after a step, and its fork: nothing, a start or an end; or the running manager forks, and may end
+-- the entries of a level before and after a step, and its fork: nothing, a start or an end; or the running manager, whose write stamp is not 0, forks, and may end
 pub data Change (p : Program) (l : ℕ) (E G : List Entry) (b : Arrival) : Type 0 where
   internal : b ≡ none → Rest E G → Change p l E G b
-  forks : (u : ℕ) (x : Fork) (m : Manager) (message : Message) (W : List Entry) → b ≡ at u (childOf l x m message) → E ≡ runningEntry l x (m .forks) ∷ W → Rest (forkedFrom (runningEntry l x (m .forks)) ∷ W) G → u < p .levels → strictly (p .dom) u l ≡ true → m .forks < maxForks → Change p l E G b
+  forks : (u : ℕ) (x : Fork) (m : Manager) (message : Message) (W : List Entry) → b ≡ at u (childOf l x m message) → E ≡ runningEntry l x (m .forks) ∷ W → Rest (forkedFrom (runningEntry l x (m .forks)) ∷ W) G → u < p .levels → strictly (p .dom) u l ≡ true → m .forks < maxForks → 0 < m .stamp → Change p l E G b
 
 -- a manager that runs on or has ended
 after-rest : (l : ℕ) (v : Level) (ws : List Fork) (versions : List Version) (x : Fork) (m : Manager) → Rest (runningEntry l x (m .forks) ∷ map (waitingEntry l) ws) (entriesOf l (after v ws versions x m))
@@ -58,23 +59,23 @@ same-forks l v x m m' versions q same =
     (before ∙ sym (ap (λ k. runningEntry l x k ∷ W) same)) (after-rest l v (v .waiting) versions x m')
 
 -- the running manager x makes a step with an effect
-effect-change : (p : Program) (l : ℕ) (v : Level) (x : Fork) (m m' : Manager) (e : Effect) → v .activity ≡ busy x m → m .level ≡ l → counts m' ≡ oneMore (grown (counts m) e) → Fits p m e → Change p l (entriesOf l v) (entriesOf l (after v (v .waiting) (versionsAfter m e (v .versions)) x m')) (arrivalOf l x m e)
-effect-change p l v x m m' effect.Nothing q h c f =
+effect-change : (p : Program) (l : ℕ) (v : Level) (x : Fork) (m m' : Manager) (e : Effect) → v .activity ≡ busy x m → m .level ≡ l → counts m' ≡ oneMore (grown (counts m) e) → Fits p m e → 0 < writeStamp v → Change p l (entriesOf l v) (entriesOf l (after v (v .waiting) (versionsAfter m e (v .versions)) x m')) (arrivalOf l x m e)
+effect-change p l v x m m' effect.Nothing q h c f z =
     internal refl (same-forks l v x m m' (v .versions) q (ap (λ c. c .forks) c))
-effect-change p l v x m m' (effect.Write o k w) q h c f =
+effect-change p l v x m m' (effect.Write o k w) q h c f z =
     internal refl (same-forks l v x m m' (versionsAfter m (effect.Write o k w) (v .versions)) q (ap (λ c. c .forks) c))
-effect-change p l v x m m' (effect.Fork u message) q h c f =
+effect-change p l v x m m' (effect.Fork u message) q h c f z =
     let W = map (waitingEntry l) (v .waiting) in
     let more : m' .forks ≡ m .forks + 1 = ap (λ c. c .forks) c in
     let grew : forkedFrom (runningEntry l x (m .forks)) ∷ W ≡ runningEntry l x (m' .forks) ∷ W =
     ap (λ e. e ∷ W) (sym (ap (runningEntry l x) more ∙ forked-entry l x (m .forks))) in
     forks u x m message W refl (ap (λ a. entriesBy l a (v .waiting)) q)
     (rest-from (runningEntry l x (m' .forks) ∷ W) _ _ grew (after-rest l v (v .waiting) (v .versions) x m'))
-    (f .0) (rw (sym h) (f .1 .0)) (f .1 .1)
+    (f .0) (rw (sym h) (f .1 .0)) (f .1 .1) (rw (ap (λ a. stampBy a (v .next)) q) at z)
 
-pub moved-change : (p : Program) (st : State) (l : ℕ) (v : Level) (a : Activity) → v .activity ≡ a → Sound p → l < p .levels → AtLevel l a → Change p l (entriesOf l v) (entriesOf l (moved p st l v a .own)) (moved p st l v a .arrival)
+pub moved-change : (p : Program) (st : State) (l : ℕ) (v : Level) (a : Activity) → v .activity ≡ a → Sound p → l < p .levels → AtLevel l a → 0 < writeStamp v → Change p l (entriesOf l v) (entriesOf l (moved p st l v a .own)) (moved p st l v a .arrival)
 unfolding moved advanced
-moved-change p st l v idle q so h t = begun-change p l v q (v .waiting) refl
-moved-change p st l v (busy x m) q so h t =
+moved-change p st l v idle q so h t z = begun-change p l v q (v .waiting) refl
+moved-change p st l v (busy x m) q so h t z =
     let s = stepped p (readAt p st l x) m in
-    effect-change p l v x m (s .manager) (s .effect) q t (stepped-counts p (readAt p st l x) m) (stepped-fits p (readAt p st l x) m so (rw t h))
+    effect-change p l v x m (s .manager) (s .effect) q t (stepped-counts p (readAt p st l x) m) (stepped-fits p (readAt p st l x) m so (rw t h)) z

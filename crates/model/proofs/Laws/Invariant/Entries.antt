@@ -4,26 +4,26 @@ use mathlib.Core.Path.{_≡_, refl, _∙_, ap}
 use mathlib.Core.List.{List, _∷_, map}
 use native.Mathlib.Nat.{one-mul}
 use native.Mathlib.Omega.{arith}
-use lib.ListN.{take}
+use lib.ListN.{take, set}
 use Rattle.session.specs.declared.Message.{Message}
 use Rattle.scripts.specs.State.{Manager}
 use Rattle.model.specs.Limits.{maxManagers}
 use Rattle.model.specs.Lists.{inserted}
-use Rattle.model.specs.Fork.{Fork, childStamp, childOf}
+use Rattle.model.specs.Fork.{Fork, childStamp, childOf, span}
 use Rattle.model.specs.Level.{Activity, idle, busy, Level, startedCount, arrived}
 use Rattle.model.proofs.Laws.Each.{Each, Pairwise, each-take, each-inserted, pairwise-take, pairwise-inserted, inserted-map, take-map}
-use Rattle.model.proofs.Laws.Invariant.Stamps.{span, child-at, child-next}
+use Rattle.model.proofs.Laws.Invariant.Stamps.{child-at, child-next}
 use Rattle.model.proofs.Laws.Invariant.Tree.{Entry, forkedFrom, childIn}
 use Rattle.model.proofs.Laws.Invariant.Forest.{Joins}
 
 -- a manager that waits, and one that runs, at level l
 abbrev pub waitingEntry : ℕ → Fork → Entry
 waitingEntry l x =
-    record { level = l; stamp = x .stamp; depth = x .depth; next = childStamp (x .stamp) (x .depth) 1 }
+    record { level = l; stamp = x .stamp; depth = x .depth; next = childStamp (x .stamp) (x .depth) 1; carried = x .carried }
 
 abbrev pub runningEntry : ℕ → Fork → ℕ → Entry
 runningEntry l x forks =
-    record { level = l; stamp = x .stamp; depth = x .depth; next = childStamp (x .stamp) (x .depth) (forks + 1) }
+    record { level = l; stamp = x .stamp; depth = x .depth; next = childStamp (x .stamp) (x .depth) (forks + 1); carried = x .carried }
 
 -- those of a level, the running one first
 abbrev pub entriesBy : ℕ → Activity → List Fork → List Entry
@@ -36,14 +36,14 @@ entriesOf l v = entriesBy l (v .activity) (v .waiting)
 -- a running manager after a fork, and its child
 pub forked-entry : (l : ℕ) (x : Fork) (forks : ℕ) → runningEntry l x (forks + 1) ≡ forkedFrom (runningEntry l x forks)
 forked-entry l x forks =
-    ap (λ k. record { level = l; stamp = x .stamp; depth = x .depth; next = k }) (child-next (x .stamp) (x .depth) (forks + 1))
+    ap (λ k. record { level = l; stamp = x .stamp; depth = x .depth; next = k; carried = x .carried }) (child-next (x .stamp) (x .depth) (forks + 1))
 
-pub child-entry : (l u : ℕ) (x : Fork) (m : Manager) (message : Message) → waitingEntry u (childOf l x m message) ≡ childIn u (runningEntry l x (m .forks))
+pub child-entry : (l u : ℕ) (x : Fork) (m : Manager) (message : Message) → waitingEntry u (childOf l x m message) ≡ childIn u (m .stamp) (runningEntry l x (m .forks))
 unfolding childOf
 child-entry l u x m message =
     let s = childStamp (x .stamp) (x .depth) (m .forks + 1) in
     let e : x .depth + 1 + 1 ≡ x .depth + 2 = omega arith in
-    ap (λ k. record { level = u; stamp = s; depth = x .depth + 1; next = k })
+    ap (λ k. record { level = u; stamp = s; depth = x .depth + 1; next = k; carried = set (x .carried) l (m .stamp) })
     (child-at s (x .depth + 1) 1 ∙ ap (λ k. s + k) (one-mul (span (x .depth + 1 + 1))) ∙ ap (λ d. s + span d) e)
 
 -- an element put in among the first r; one more before them

@@ -6,7 +6,7 @@ use mathlib.Core.Bool.{true}
 use mathlib.Core.List.{List, [], _∷_}
 use native.Mathlib.Decide.{ℕ-discrete}
 use Rattle.lattice.specs.Order.{Dominance, strictly, PartialOrder}
-use Rattle.model.proofs.Laws.Each.{Each, Pairwise, each-map, each-swap}
+use Rattle.model.proofs.Laws.Each.{Each, Pairwise, each-map, each-both, each-swap}
 use Rattle.model.proofs.Laws.Invariant.Tree.{Entry, Related, related-sym, forkedFrom, childIn, Fertile, child-related, parent-related, parent-child}
 
 -- by level, the managers that have not ended: each at its own level, any two related
@@ -46,23 +46,17 @@ forest-rest n dom F G f r =
           (each-map (λ a. Each (Related dom a) (F k)) (λ a. Each (Related dom a) (G k)) (λ a. rest-each (Related dom a) (F k) (G k) (r k)) (F l) (f .across l k hl hk d));
     }
 
--- two facts of each element
-each-both : (P Q R : Entry → Type 0) → ((a : Entry) → P a → Q a → R a) → (xs : List Entry) → Each P xs → Each Q xs → Each R xs
-unfolding Each
-each-both P Q R f [] e g = tt
-each-both P Q R f (x ∷ xs) e g = (f x (e .0) (g .0), each-both P Q R f xs (e .1) (g .1))
-
 -- the first manager a of level l forks at level u
-module _ (n : ℕ) (dom : Dominance) (po : PartialOrder n dom) (F G : ℕ → List Entry) (f : Forest n dom F) (l u : ℕ) (hl : l < n) (hu : u < n) (lu : l ≡ u → ⊥) (a : Entry) (W : List Entry) (at-l : F l ≡ a ∷ W) (s : strictly dom u l ≡ true) (fertile : Fertile a) (to-l : G l ≡ forkedFrom a ∷ W) (to-u : Joins (childIn u a) (F u) (G u)) (others : (k : ℕ) → (k ≡ l → ⊥) → (k ≡ u → ⊥) → G k ≡ F k) where
+module _ (n : ℕ) (dom : Dominance) (po : PartialOrder n dom) (F G : ℕ → List Entry) (f : Forest n dom F) (l u : ℕ) (hl : l < n) (hu : u < n) (lu : l ≡ u → ⊥) (a : Entry) (W : List Entry) (at-l : F l ≡ a ∷ W) (s : strictly dom u l ≡ true) (fertile : Fertile a) (w : ℕ) (positive : 0 < w) (to-l : G l ≡ forkedFrom a ∷ W) (to-u : Joins (childIn u w a) (F u) (G u)) (others : (k : ℕ) → (k ≡ l → ⊥) → (k ≡ u → ⊥) → G k ≡ F k) where
   a-home : a .level ≡ l
   unfolding Each
   a-home = (rw at-l at (f .home l hl)) .0
 
   -- what a is related to, its child is related to
-  child-each : (k : ℕ) → k < n → (xs : List Entry) → Each (λ b. b .level ≡ k) xs → Each (Related dom a) xs → Each (Related dom (childIn u a)) xs
+  child-each : (k : ℕ) → k < n → (xs : List Entry) → Each (λ b. b .level ≡ k) xs → Each (Related dom a) xs → Each (Related dom (childIn u w a)) xs
   child-each k hk xs h r =
-      each-both (λ b. b .level ≡ k) (Related dom a) (Related dom (childIn u a))
-      (λ b q t. child-related n dom po u a b hu (rw a-home hl) (rw q hk) (rw a-home s) fertile t) xs h r
+      each-both (λ b. b .level ≡ k) (Related dom a) (Related dom (childIn u w a))
+      (λ b q t. child-related n dom po u w a b hu (rw a-home hl) (rw q hk) (rw a-home s) fertile t) xs h r
 
   a-across : (k : ℕ) → k < n → (l ≡ k → ⊥) → Each (Related dom a) (F k)
   unfolding Each
@@ -97,7 +91,7 @@ module _ (n : ℕ) (dom : Dominance) (po : PartialOrder n dom) (F G : ℕ → Li
   home-u : Each (λ b. b .level ≡ u) (G u)
   home-u = to-u .each (λ b. b .level ≡ u) refl (f .home u hu)
 
-  child-u : Each (Related dom (childIn u a)) (F u)
+  child-u : Each (Related dom (childIn u w a)) (F u)
   child-u = child-each u hu (F u) (f .home u hu) (a-across u hu lu)
 
   same-u : Pairwise (Related dom) (G u)
@@ -116,9 +110,9 @@ module _ (n : ℕ) (dom : Dominance) (po : PartialOrder n dom) (F G : ℕ → Li
   unfolding Each
   l-u =
       rw to-l (
-        to-u .each (Related dom (forkedFrom a)) (parent-child dom u a (rw a-home s) fertile)
+        to-u .each (Related dom (forkedFrom a)) (parent-child dom u w a (rw a-home s) fertile positive)
             (each-map (Related dom a) (Related dom (forkedFrom a)) (λ b. parent-related dom a b) (F u) (a-across u hu lu)),
-        each-both (Related dom (childIn u a)) (λ w. Each (Related dom w) (F u)) (λ w. Each (Related dom w) (G u))
+        each-both (Related dom (childIn u w a)) (λ w. Each (Related dom w) (F u)) (λ w. Each (Related dom w) (G u))
             (λ w c r. to-u .each (Related dom w) (related-sym c) r) W (child-each l hl W w-home a-same) (w-across u hu lu),
       )
 

@@ -35,8 +35,9 @@ use Rattle.model.proofs.Laws.Invariant.Tree.{Entry, forkedFrom, childIn
 use Rattle.model.proofs.Laws.Invariant.Forest.{Joins, Rest, whole}
 use Rattle.model.proofs.Laws.Steps.Locality.{Misses}
 use Rattle.model.proofs.Laws.Invariant.Entries.{entriesOf, runningEntry, waitingEntry, child-entry, arrived-joins}
+use Rattle.model.proofs.Laws.Invariant.WriteStamps.{writeStamp}
 use Rattle.model.proofs.Laws.Invariant.Change.{Change, internal, forks}
-use Rattle.model.proofs.Laws.Invariant.Forks.{entriesIn, step-change, level-own, level-target, level-other, delivered-length, grown-rest, grown-fork, ForkInvariant}
+use Rattle.model.proofs.Laws.Invariant.Forks.{entriesIn, step-change, marks-at, level-own, level-target, level-other, delivered-length, grown-rest, grown-fork, ForkInvariant}
 
 -- a manager that runs on after a step is still one of its level
 after-at : (l : ℕ) (v : Level) (ws : List Fork) (versions : List Version) (x : Fork) (m : Manager) → m .level ≡ l → AtLevel l (after v ws versions x m .activity)
@@ -73,11 +74,22 @@ move-at p l st so h t =
     let there : AtLevel l (levelAt view l .activity) = rw (ap (λ w. w .activity) same) t in
     moved-at (seenBy l p) view l (levelAt view l) (levelAt view l .activity) there there
 
+-- what holds of each element holds of the first
+pub first-of : {A : Type 0} (P : A → Type 0) (a : A) (W E : List A) → E ≡ a ∷ W → Each P E → P a
+unfolding Each
+first-of P a W E e g = (rw e at g) .0
+
 -- a running manager that may still fork has room for its child
-pub fertile : (p : Program) (l : ℕ) (x : Fork) (k : ℕ) → Sound p → l < p .levels → x .depth + rank (p .levels) (p .dom) l ≤ stampDigits + 1 → k < maxForks → Fertile (runningEntry l x k)
-fertile p l x k so h d f =
+pub fertile : (p : Program) → Sound p → (st : State) → ForkInvariant p st → (l : ℕ) → l < p .levels → (x : Fork) (k : ℕ) (W : List Entry) → entriesIn st l ≡ runningEntry l x k ∷ W → k < maxForks → Fertile (runningEntry l x k)
+fertile p so st o l h x k W e f =
+    let d = first-of (λ a. a .depth + rank (p .levels) (p .dom) l ≤ stampDigits + 1) (runningEntry l x k) W (entriesIn st l) e (o .grown .shallow l h) in
+    let wide = first-of (λ a. length (a .carried) ≡ p .levels) (runningEntry l x k) W (entriesIn st l) e (o .grown .wide l h) in
     let shallow : x .depth ≤ stampDigits = omega (arith, d, rank-positive (p .levels) (p .dom) (so .lattice .order) l h) in
-    record { after = child-after (x .stamp) (x .depth) k; room = child-within (x .stamp) (x .depth) k shallow f }
+    record {
+      after = child-after (x .stamp) (x .depth) k;
+      room = child-within (x .stamp) (x .depth) k shallow f;
+      wide = rw wide h;
+    }
 
 -- a level strictly above is another
 pub other-level : (p : Program) (u l : ℕ) → strictly (p .dom) u l ≡ true → l ≡ u → ⊥
@@ -87,7 +99,7 @@ arrived-at : (u : ℕ) (x : Fork) (v : Level) → AtLevel u (v .activity) → At
 arrived-at u x v t = unfold arrived in t
 
 -- the step that done describes, at level l, in a state with the invariant
-module _ (p : Program) (so : Sound p) (l : ℕ) (h : l < p .levels) (st : State) (o : ForkInvariant p st) (done : Moved) (own-at : AtLevel l (done .own .activity)) where
+module _ (p : Program) (so : Sound p) (l : ℕ) (h : l < p .levels) (st : State) (o : ForkInvariant p st) (done : Moved) (own-at : AtLevel l (done .own .activity)) (own-positive : 0 < writeStamp (done .own)) where
   here : l < length st
   here = rw (o .size) h
 
@@ -97,6 +109,7 @@ module _ (p : Program) (so : Sound p) (l : ℕ) (h : l < p .levels) (st : State)
         size = delivered-length b _ ∙ modify-length l (λ _. done .own) st ∙ o .size;
         placed = λ k hk. placed k hk (ℕ-discrete l k);
         grown = grown-rest p (entriesIn st) _ (o .grown) (λ k. rest k (ℕ-discrete l k));
+        positive = λ k hk. positive k hk (ℕ-discrete l k);
       }
     where
       misses : (k : ℕ) → Misses k b
@@ -106,18 +119,23 @@ module _ (p : Program) (so : Sound p) (l : ℕ) (h : l < p .levels) (st : State)
       placed k hk (yes e) = rw (sym e) (rw (ap (λ v. v .activity) (level-own b l (done .own) st (misses l) here)) own-at)
       placed k hk (no n) = rw (ap (λ v. v .activity) (level-other b l k (done .own) st n (misses k))) (o .placed k hk)
 
+      positive : (k : ℕ) → k < p .levels → Dec (l ≡ k) → 0 < writeStamp (levelAt (delivered b (modify l (λ _. done .own) st)) k)
+      positive k hk (yes e) = rw (sym e) (rw (ap writeStamp (level-own b l (done .own) st (misses l) here)) own-positive)
+      positive k hk (no n) = rw (ap writeStamp (level-other b l k (done .own) st n (misses k))) (o .positive k hk)
+
       rest : (k : ℕ) → Dec (l ≡ k) → Rest (entriesIn st k) (entriesIn (delivered b (modify l (λ _. done .own) st)) k)
       rest k (yes e) = rw (sym e) (rw (ap (entriesOf l) (level-own b l (done .own) st (misses l) here)) r)
       rest k (no n) = whole (ap (entriesOf k) (level-other b l k (done .own) st n (misses k)))
 
-  pub fork-preserves : (u : ℕ) (c : Fork) (a : Entry) (W : List Entry) → waitingEntry u c ≡ childIn u a → entriesIn st l ≡ a ∷ W → Rest (forkedFrom a ∷ W) (entriesOf l (done .own)) → u < p .levels → strictly (p .dom) u l ≡ true → Fertile a → ForkInvariant p (delivered (at u c) (modify l (λ _. done .own) st))
-  fork-preserves u c a W q e r hu s f =
+  pub fork-preserves : (u : ℕ) (c : Fork) (a : Entry) (W : List Entry) (w : ℕ) → 0 < w → waitingEntry u c ≡ childIn u w a → entriesIn st l ≡ a ∷ W → Rest (forkedFrom a ∷ W) (entriesOf l (done .own)) → u < p .levels → strictly (p .dom) u l ≡ true → Fertile a → ForkInvariant p (delivered (at u c) (modify l (λ _. done .own) st))
+  fork-preserves u c a W w z q e r hu s f =
       record {
         size = delivered-length (at u c) _ ∙ modify-length l (λ _. done .own) st ∙ o .size;
         placed = λ k hk. placed k hk (ℕ-discrete l k) (ℕ-discrete u k);
         grown = grown-rest p between _
-            (grown-fork p (entriesIn st) between so (o .grown) l u h hu lu a W e s f between-l (rw between-u joins) (λ k n g. between-other k n ∙ others k n g))
+            (grown-fork p (entriesIn st) between so (o .grown) l u h hu lu a W e s f w z between-l (rw between-u joins) (λ k n g. between-other k n ∙ others k n g))
             (λ k. rest k (ℕ-discrete k l));
+        positive = λ k hk. positive k hk (ℕ-discrete l k) (ℕ-discrete u k);
       }
     where
       lu : l ≡ u → ⊥
@@ -145,7 +163,7 @@ module _ (p : Program) (so : Sound p) (l : ℕ) (h : l < p .levels) (st : State)
       between-u : between u ≡ entriesIn next u
       between-u = between-other u (λ t. lu (sym t))
 
-      joins : Joins (childIn u a) (entriesIn st u) (entriesIn next u)
+      joins : Joins (childIn u w a) (entriesIn st u) (entriesIn next u)
       joins = rw (ap (entriesOf u) target, sym q) (arrived-joins u c (levelAt st u))
 
       others : (k : ℕ) → (k ≡ l → ⊥) → (k ≡ u → ⊥) → entriesIn next k ≡ entriesIn st k
@@ -160,24 +178,22 @@ module _ (p : Program) (so : Sound p) (l : ℕ) (h : l < p .levels) (st : State)
       placed k hk (no n) (yes t) = rw (sym t) (rw (ap (λ v. v .activity) target) (arrived-at u c (levelAt st u) (o .placed u hu)))
       placed k hk (no n) (no g) = rw (ap (λ v. v .activity) (level-other (at u c) l k (done .own) st n g)) (o .placed k hk)
 
--- what holds of each element holds of the first
-pub first-of : {A : Type 0} (P : A → Type 0) (a : A) (W E : List A) → E ≡ a ∷ W → Each P E → P a
-unfolding Each
-first-of P a W E e g = (rw e at g) .0
+      positive : (k : ℕ) → k < p .levels → Dec (l ≡ k) → Dec (u ≡ k) → 0 < writeStamp (levelAt next k)
+      positive k hk (yes t) d = rw (sym t) (rw (ap writeStamp own) own-positive)
+      positive k hk (no n) (yes t) = rw (sym t) (rw (ap writeStamp target) (unfold arrived in o .positive u hu))
+      positive k hk (no n) (no g) = rw (ap writeStamp (level-other (at u c) l k (done .own) st n g)) (o .positive k hk)
 
 -- every scheduler step keeps the invariant
 pub step-preserves : (p : Program) (l : ℕ) (st : State) → Sound p → l < p .levels → ForkInvariant p st → ForkInvariant p (stepAt p l st)
 unfolding stepAt
 step-preserves p l st so h o =
-    preserves (moveAt p l st) (move-at p l st so h (o .placed l h)) (step-change p l st so h (o .placed l h))
+    preserves (moveAt p l st) (move-at p l st so h (o .placed l h)) (omega (arith, o .positive l h, marks-at p l st so h .grows)) (step-change p l st so h (o .placed l h) (o .positive l h))
   where
     arriving : (b c : Arrival) (s : State) → b ≡ c → ForkInvariant p (delivered c s) → ForkInvariant p (delivered b s)
     arriving b c s q r = rw q r
 
-    preserves : (done : Moved) → AtLevel l (done .own .activity) → Change p l (entriesIn st l) (entriesOf l (done .own)) (done .arrival) → ForkInvariant p (applied l done st)
-    preserves done t (internal q r) = internal-preserves p so l h st o done t (done .arrival) q r
-    preserves done t (forks u x m message W q e r hu s f) =
-        let a = runningEntry l x (m .forks) in
-        let d = first-of (λ a. a .depth + rank (p .levels) (p .dom) l ≤ stampDigits + 1) a W (entriesIn st l) e (o .grown .shallow l h) in
+    preserves : (done : Moved) → AtLevel l (done .own .activity) → 0 < writeStamp (done .own) → Change p l (entriesIn st l) (entriesOf l (done .own)) (done .arrival) → ForkInvariant p (applied l done st)
+    preserves done t y (internal q r) = internal-preserves p so l h st o done t y (done .arrival) q r
+    preserves done t y (forks u x m message W q e r hu s f z) =
         arriving (done .arrival) (at u (childOf l x m message)) (modify l (λ _. done .own) st) q
-        (fork-preserves p so l h st o done t u (childOf l x m message) a W (child-entry l u x m message) e r hu s (fertile p l x (m .forks) so h d f))
+        (fork-preserves p so l h st o done t y u (childOf l x m message) (runningEntry l x (m .forks)) W (m .stamp) z (child-entry l u x m message) e r hu s (fertile p so st o l h x (m .forks) W e f))

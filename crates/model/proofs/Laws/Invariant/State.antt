@@ -12,14 +12,14 @@ use Rattle.model.specs.Limits.{maxManagers}
 use Rattle.model.specs.Lists.{inserted}
 use Rattle.model.specs.Fork.{Fork}
 use Rattle.model.specs.History.{History}
-use Rattle.model.specs.Level.{Activity, idle, busy, Level, hasManager, startedCount, arrived}
+use Rattle.model.specs.Level.{Activity, idle, busy, Level, hasManager, startedCount, arrived, forksBy, forksOf}
 use Rattle.model.specs.Step.{State, levelAt, Arrival, at, moveAt, stepAt}
 use Rattle.model.proofs.Laws.Each.{Each, each-map, each-take, each-inserted}
 use Rattle.model.proofs.Laws.Invariant.Forest.{rest-each}
 use Rattle.model.proofs.Laws.Invariant.Forks.{ForkInvariant}
 use Rattle.model.proofs.Laws.Invariant.Preserved.{other-level, step-preserves}
 use Rattle.model.proofs.Laws.Invariant.Bounded.{AllBounded, step-bounded}
-use Rattle.model.proofs.Laws.Invariant.WriteStamps.{writeStamp, forksBy, forksOf, Closes, kept, closed, Child, Sends}
+use Rattle.model.proofs.Laws.Invariant.WriteStamps.{writeStamp, Closes, kept, closed, Child, Sends}
 use Rattle.model.proofs.Laws.Invariant.Became.{Became, own, got, stayed, became, step-marks}
 
 -- an arrival leaves the write stamp, and adds its fork

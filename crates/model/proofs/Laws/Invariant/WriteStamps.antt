@@ -1,10 +1,12 @@
 -- Write stamps: what a scheduler step does to the write stamp, the versions, the histories and the forks of its own level. Assumes nothing.
 use Prim.Native.Nat.{ℕ, _+_, _≤_, _<_}
-use mathlib.Core.Path.{_≡_, refl, _∙_, ap, ap₂}
+use mathlib.Core.Path.{_≡_, refl, sym, _∙_, ap, ap₂}
+use mathlib.Core.Bool.{true, false}
 use mathlib.Core.List.{List, [], _∷_, _++_}
 use native.Mathlib.Omega.{arith}
 use lib.ListN.{set}
 use Rattle.session.specs.Program.{Program}
+use Rattle.lattice.proofs.Laws.Range.{not-both}
 use Rattle.session.proofs.Laws.Lists.{holds, fails, truth}
 use Rattle.scripts.specs.Ending.{isRunning}
 use Rattle.scripts.specs.Manager.{started, stepped}
@@ -15,7 +17,7 @@ use Rattle.scripts.proofs.Laws.Counts.{counts, grown, oneMore, started-counts, 
 use Rattle.model.specs.Lists.{inserted}
 use Rattle.model.specs.Fork.{Fork, childOf}
 use Rattle.model.specs.History.{History, historyOf}
-use Rattle.model.specs.Level.{Version, Activity, idle, busy, Level, after}
+use Rattle.model.specs.Level.{Version, Activity, idle, busy, Level, isBusy, forksBy, forksOf, after}
 use Rattle.model.specs.Step.{State, readAt, Arrival, none, at, versionsAfter, arrivalOf, begun, advanced, moved}
 use Rattle.model.proofs.Laws.Each.{Each}
 use Rattle.model.proofs.Laws.Invariant.Forest.{Rest, whole, tail}
@@ -27,14 +29,6 @@ stampBy (busy x m) next = m .stamp
 
 abbrev pub writeStamp : Level → ℕ
 writeStamp v = stampBy (v .activity) (v .next)
-
--- the forks of its managers that have not ended, the running one's first
-abbrev pub forksBy : Activity → List Fork → List Fork
-forksBy idle ws = ws
-forksBy (busy x m) ws = x ∷ ws
-
-abbrev pub forksOf : Level → List Fork
-forksOf v = forksBy (v .activity) (v .waiting)
 
 -- the histories before and after a step: the same, or with that of the first manager
 pub data Closes (v w : Level) : Type 0 where
@@ -58,6 +52,8 @@ Sends l v w (at u c) = Child l v w c
 pub record Marks (l : ℕ) (v w : Level) (b : Arrival) : Type 0 where
   pub grows : writeStamp v ≤ writeStamp w
   pub forks : Rest (forksOf v) (forksOf w)
+  pub queue : Rest (v .waiting) (w .waiting)
+  pub going : isBusy (w .activity) ≡ true → forksOf w ≡ forksOf v
   pub closes : Closes v w
   pub fresh : List Version
   pub versions : w .versions ≡ fresh ++ v .versions
@@ -87,6 +83,20 @@ module _ (v : Level) (ws : List Fork) (vs : List Version) (x : Fork) (m : Manage
     | fails e ↦ rw e (closed x ws (historyOf x m) q refl (omega arith) refl)
   ]
 
+  after-waiting : after v ws vs x m .waiting ≡ ws
+  unfolding after
+  after-waiting = elim (truth (isRunning (m .ending))) [
+    | holds e ↦ rw e refl
+    | fails e ↦ rw e refl
+  ]
+
+  after-going : isBusy (after v ws vs x m .activity) ≡ true → forksOf (after v ws vs x m) ≡ x ∷ ws
+  unfolding after
+  after-going b = elim (truth (isRunning (m .ending))) [
+    | holds e ↦ rw e refl
+    | fails e ↦ absurd (not-both false (rw e at b) refl)
+  ]
+
   pub after-versions : after v ws vs x m .versions ≡ vs
   unfolding after
   after-versions = elim (truth (isRunning (m .ending))) [
@@ -95,11 +105,13 @@ module _ (v : Level) (ws : List Fork) (vs : List Version) (x : Fork) (m : Manage
   ]
 
   -- so what a step marks, by what it writes and forks
-  marks-after : (l : ℕ) (b : Arrival) (fresh : List Version) → forksOf v ≡ x ∷ ws → writeStamp v ≤ m .stamp → vs ≡ fresh ++ v .versions → Each (λ r. writeStamp v ≤ r .stamp) fresh → Sends l v (after v ws vs x m) b → Marks l v (after v ws vs x m) b
-  marks-after l b fresh q g e a s =
+  marks-after : (l : ℕ) (b : Arrival) (fresh : List Version) → forksOf v ≡ x ∷ ws → Rest (v .waiting) ws → writeStamp v ≤ m .stamp → vs ≡ fresh ++ v .versions → Each (λ r. writeStamp v ≤ r .stamp) fresh → Sends l v (after v ws vs x m) b → Marks l v (after v ws vs x m) b
+  marks-after l b fresh q t g e a s =
       record {
         grows = omega (arith, g, after-stamp);
         forks = rw q after-forks;
+        queue = rw after-waiting t;
+        going = λ b. after-going b ∙ sym q;
         closes = after-closes q;
         fresh = fresh;
         versions = after-versions ∙ e;
@@ -113,6 +125,8 @@ begun-marks p l v q [] e =
     record {
       grows = omega arith;
       forks = whole refl;
+      queue = whole refl;
+      going = λ b. refl;
       closes = kept refl;
       fresh = [];
       versions = refl;
@@ -123,7 +137,7 @@ begun-marks p l v q (x ∷ xs) e =
     let m = started p l (v .next) (x .message) in
     let begins : m .stamp ≡ v .next = ap (λ c. c .stamp) (started-counts p l (v .next) (x .message)) in
     let now : writeStamp v ≡ v .next = ap (λ a. stampBy a (v .next)) q in
-    marks-after v xs (v .versions) x m l none [] (ap₂ forksBy q e) (omega (arith, begins, now)) refl tt tt
+    marks-after v xs (v .versions) x m l none [] (ap₂ forksBy q e) (tail x e) (omega (arith, begins, now)) refl tt tt
 
 -- the running manager x makes a step with an effect
 effect-marks : (l : ℕ) (v : Level) (x : Fork) (m m' : Manager) (e : Effect) → v .activity ≡ busy x m → counts m' ≡ oneMore (grown (counts m) e) → Marks l v (after v (v .waiting) (versionsAfter m e (v .versions)) x m') (arrivalOf l x m e)
@@ -131,15 +145,15 @@ unfolding Each
 effect-marks l v x m m' effect.Nothing q c =
     let same : m' .stamp ≡ m .stamp = ap (λ c. c .stamp) c in
     let now : writeStamp v ≡ m .stamp = ap (λ a. stampBy a (v .next)) q in
-    marks-after v (v .waiting) (v .versions) x m' l none [] (ap (λ a. forksBy a (v .waiting)) q) (omega (arith, same, now)) refl tt tt
+    marks-after v (v .waiting) (v .versions) x m' l none [] (ap (λ a. forksBy a (v .waiting)) q) (whole refl) (omega (arith, same, now)) refl tt tt
 effect-marks l v x m m' (effect.Write o k w) q c =
     let same : m' .stamp ≡ m .stamp = ap (λ c. c .stamp) c in
     let now : writeStamp v ≡ m .stamp = ap (λ a. stampBy a (v .next)) q in
-    marks-after v (v .waiting) _ x m' l none (record { stamp = m .stamp; object = o; field = k; value = w } ∷ []) (ap (λ a. forksBy a (v .waiting)) q) (omega (arith, same, now)) refl (omega (arith, now), tt) tt
+    marks-after v (v .waiting) _ x m' l none (record { stamp = m .stamp; object = o; field = k; value = w } ∷ []) (ap (λ a. forksBy a (v .waiting)) q) (whole refl) (omega (arith, same, now)) refl (omega (arith, now), tt) tt
 effect-marks l v x m m' (effect.Fork u message) q c =
     let more : m' .stamp ≡ m .stamp + 1 = ap (λ c. c .stamp) c in
     let now : writeStamp v ≡ m .stamp = ap (λ a. stampBy a (v .next)) q in
-    marks-after v (v .waiting) (v .versions) x m' l _ [] (ap (λ a. forksBy a (v .waiting)) q) (omega (arith, more, now)) refl tt
+    marks-after v (v .waiting) (v .versions) x m' l _ [] (ap (λ a. forksBy a (v .waiting)) q) (whole refl) (omega (arith, more, now)) refl tt
     (record {
       sender = x;
       others = v .waiting;

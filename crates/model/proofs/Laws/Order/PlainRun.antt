@@ -1,8 +1,7 @@
 -- The plain run of an accepted session is never refused. Assumes nothing.
 use Prim.Native.Nat.{ℕ, zero, suc, _*_, _≤_}
-use mathlib.Core.Path.{_≡_, refl, sym}
+use mathlib.Core.Path.{_≡_, refl}
 use mathlib.Core.List.{List}
-use native.Mathlib.Decide.{ℕ-discrete}
 use native.Mathlib.Omega.{arith}
 use lib.ListN.{replicate}
 use Rattle.session.specs.Questions.{verdictOf}
@@ -19,14 +18,10 @@ use Rattle.model.specs.Fork.{rootFork}
 use Rattle.model.specs.Level.{newLevel}
 use Rattle.model.specs.Step.{State}
 use Rattle.model.specs.Schedule.{readIn, finished, runOf, plainOrder}
-use Rattle.model.proofs.Laws.Invariant.Measure.{Bounded, arrived-bounded}
-use Rattle.model.proofs.Laws.Invariant.Bounded.{total, total-arrived, AllBounded}
+use Rattle.model.proofs.Laws.Invariant.Bounded.{total, total-arrived}
 use Rattle.model.proofs.Laws.Order.Plain.{plain-finishes}
-use Rattle.model.proofs.Laws.Order.ReadIn.{at-root, elsewhere, read-in}
+use Rattle.model.proofs.Laws.Order.ReadIn.{read-in-steady, read-in-ordered}
 use Rattle.model.proofs.Laws.Order.Accepted.{sound}
-
-new-bounded : Bounded newLevel
-new-bounded = record { room = omega arith; live = tt }
 
 -- each level has room for 32 managers of 257 scheduler steps
 total-new : (n : ℕ) → total (replicate n newLevel) ≡ n * 8224
@@ -35,12 +30,6 @@ total-new zero = refl
 total-new (suc n) = omega (arith, total-new n)
 
 module _ (p : Program) (so : Sound p) (few : p .levels ≤ maxLevels) (root : Message) where
-  pub read-in-bounded : AllBounded (readIn p root)
-  read-in-bounded k = elim (ℕ-discrete (p .level (root .object)) k) [
-    | yes e ↦ rw (sym e, at-root p so few root) (arrived-bounded (rootFork (p .levels) root) newLevel new-bounded)
-    | no n ↦ rw (elsewhere p so few root k n) new-bounded
-  ]
-
   pub read-in-total : total (readIn p root) ≤ maxSchedule
   unfolding readIn
   read-in-total =
@@ -50,7 +39,7 @@ module _ (p : Program) (so : Sound p) (few : p .levels ≤ maxLevels) (root : Me
   pub plain-run : (t : State) × (runOf p root (plainOrder p root) ≡ finished t)
   unfolding runOf plainOrder
   plain-run =
-      plain-finishes p so maxSchedule 0 (readIn p root) (read-in p so few root) read-in-bounded read-in-total
+      plain-finishes p so maxSchedule 0 (readIn p root) (read-in-steady p so few root) (read-in-ordered p so few root) read-in-total
 
 -- so an accepted session has one
 pub accepted-plain : (s : List ℕ) → verdictOf s ≡ Accepted → (t : State) × (runOf (programOf s) (rootOf s) (plainOrder (programOf s) (rootOf s)) ≡ finished t)

@@ -14,7 +14,7 @@ use Rattle.session.specs.declared.Verdict.{Verdict}
 use Rattle.session.specs.declared.Verdict.the-variants.{Accepted, Length, Kinds, Numbering, NotOrdered, NoJoin, Object, Script, Root}
 use Rattle.session.proofs.Laws.Lists.{holds, fails, truth}
 use Rattle.model.specs.Step.{State, stepAt}
-use Rattle.model.specs.Schedule.{question15, stepRefusal, Outcome, finished, refused, runFrom, runOf}
+use Rattle.model.specs.Schedule.{question15, stepRefusal, Outcome, finished, refused, runUnder, runFrom, runOf}
 use Rattle.model.specs.DepthFirst.{depthFirst}
 use Rattle.model.specs.Result.{resultOf, resultOfDepthFirst}
 use Rattle.model.specs.Entries.{Request, question9, question10, question11, entryRefusal, cleared, bytesFor, success, answerOf, timetabled, deep}
@@ -69,7 +69,7 @@ Numbered (finished st) = Unit
 Numbered (refused number place) = number ≡ 0 → ⊥
 
 run-numbered : (i : ℕ) (p : Program) (ls : List ℕ) (st : State) → Numbered (runFrom i p ls st)
-unfolding runFrom
+unfolding runUnder
 run-numbered i p [] st = elim (truth (question15 p st)) [
   | holds h ↦ rw h tt
   | fails h ↦ rw h (λ e. omega (arith, e))

@@ -34,17 +34,19 @@ use Rattle.model.specs.Isolation.{SameUnder, EndedUnder, struck, Echoes,
 use Rattle.model.proofs.Laws.Lists.{modify-length, modify-at, modify-other}
 use Rattle.model.proofs.Laws.Confluence.{ran, Allowed, kept}
 use Rattle.model.proofs.Laws.Steps.Locality.{Above, Misses, local, not-above}
-use Rattle.model.proofs.Laws.Steps.Diamond.{MayStep, may-local, may-step, step-may}
+use Rattle.model.proofs.Laws.Steps.May.{MayStep, may-managed, may-local, may-step, step-may}
 use Rattle.model.proofs.Laws.Steps.Moves.{seen-sound, move-above}
 use Rattle.model.proofs.Laws.Invariant.Forks.{level-other, delivered-length, ForkInvariant}
 use Rattle.model.proofs.Laws.Invariant.Preserved.{step-preserves}
-use Rattle.model.proofs.Laws.Order.Commute.{steps-commute}
-use Rattle.model.proofs.Laws.Order.Finish.{Finishes, finishes}
-use Rattle.model.proofs.Laws.Order.ReadIn.{read-in}
+use Rattle.model.proofs.Laws.Invariant.State.{StateInvariant, steady-preserves}
+use Rattle.model.proofs.Laws.Safe.Safe.{Safe}
+use Rattle.model.proofs.Laws.Safe.SafeCommute.{safe-commute}
+use Rattle.model.proofs.Laws.Order.Orderly.{OrderInvariant, order-preserves}
+use Rattle.model.proofs.Laws.Order.Finish.{Finishes, finishes, allowed-safe}
+use Rattle.model.proofs.Laws.Order.ReadIn.{read-in, read-in-steady, read-in-ordered}
 use Rattle.model.proofs.Laws.Order.Accepted.{sound}
-use Rattle.model.proofs.Laws.Invariant.Bounded.{total, AllBounded, step-bounded}
+use Rattle.model.proofs.Laws.Invariant.Bounded.{total}
 use Rattle.model.proofs.Laws.Order.Plain.{run-next, plain-finishes}
-use Rattle.model.proofs.Laws.Order.PlainRun.{read-in-bounded}
 
 -- what is hidden twice is hidden once, where the second test follows from the first
 twice : {A : Type 0} (a b : Bool) (x d : A) → (a ≡ true → b ≡ true) → cond a (cond b x d) d ≡ cond a x d
@@ -136,7 +138,7 @@ module _ (p : Program) (so : Sound p) (c : ℕ) (hc : c < p .levels) where
     unfolding seenBy
     may-echo st st' same m =
         let may = may-local p (so .lattice .order) l st st' (view-same st st' same) m in
-        record { present = may .present; managed = may .managed; below = may .below }
+        record { present = may .present; fork = may .fork; others = may .others; first = may .first; free = may .free }
 
     pub echoes : (st st' : State) → SameUnder p c st st' → MayStep p st l → Echoes p (seenBy c p) l st st'
     echoes st st' same m =
@@ -199,7 +201,7 @@ module _ (p : Program) (so : Sound p) (c : ℕ) (hc : c < p .levels) where
   finished-above (l ∷ ms) st t o ended f j hj d =
       let m : MayStep p st l = f .allowed .0 in
       let rest : Finishes p ms (stepAt p l st) t = record { allowed = f .allowed .1; ends = f .ends; over = f .over } in
-      let hidden : p .dom c l ≡ false = refuted (p .dom c l) (λ e. not-both (hasManager (levelAt st l)) (m .managed) (ended l (m .present) e)) in
+      let hidden : p .dom c l ≡ false = refuted (p .dom c l) (λ e. not-both (hasManager (levelAt st l)) (may-managed m) (ended l (m .present) e)) in
       let back : SameUnder p c st (stepAt p l st) = λ j hj d. sym (unseen-step p so c hc l st o (m .present) hidden j hj d) in
       back j hj d
       ∙ finished-above ms (stepAt p l st) t (step-preserves p l st so (m .present) o) (ended-same p c st (stepAt p l st) back ended) rest j hj d
@@ -211,14 +213,14 @@ pub record Continues (p : Program) (i : ℕ) (ks : List ℕ) (st : State) : Type
   pub run : runFrom i p (ks ++ more) st ≡ finished end
   pub finishes : Finishes p more (ran (stepAt p) ks st) end
 
-pub continues : (p : Program) → Sound p → (ks : List ℕ) (i : ℕ) (st : State) → ForkInvariant p st → AllBounded st → Allowed (stepAt p) (MayStep p) ks st → Continues p i ks st
+pub continues : (p : Program) → Sound p → (ks : List ℕ) (i : ℕ) (st : State) → StateInvariant p st → OrderInvariant p st → Allowed (stepAt p) (MayStep p) ks st → Continues p i ks st
 unfolding ran Allowed
-continues p so [] i st o t a =
-    let (w, e) = plain-finishes p so (total st) i st o t (omega arith) in
+continues p so [] i st t o a =
+    let (w, e) = plain-finishes p so (total st) i st t o (omega arith) in
     record { more = plainFrom (total st) p st; end = w; run = e; finishes = finishes i p (plainFrom (total st) p st) st w e }
-continues p so (k ∷ ks) i st o t a =
+continues p so (k ∷ ks) i st t o a =
     let m : MayStep p st k = a .0 in
-    let r = continues p so ks (suc i) (stepAt p k st) (step-preserves p k st so (m .present) o) (step-bounded p so st o t k (m .present) (m .managed)) (a .1) in
+    let r = continues p so ks (suc i) (stepAt p k st) (steady-preserves p so st t k (m .present) (may-managed m)) (order-preserves p so st t o k m) (a .1) in
     record { more = r .more; end = r .end; run = run-next i p k (ks ++ r .more) st m ∙ r .run; finishes = r .finishes }
 
 -- a whole list that finishes, and what is left of it in what c sees of the program
@@ -232,13 +234,13 @@ module _ (p : Program) (so : Sound p) (few : p .levels ≤ maxLevels) (root : Me
   unfolding readIn seenBy
   read-in-same j hj d = refl
 
-  seen-fork-invariant : ForkInvariant (seenBy c p) (readIn (seenBy c p) root)
+  seen-steady : StateInvariant (seenBy c p) (readIn (seenBy c p) root)
   unfolding seenBy
-  seen-fork-invariant = read-in (seenBy c p) (seen-sound c p so) few root
+  seen-steady = read-in-steady (seenBy c p) (seen-sound c p so) few root
 
   seen-size : length (readIn (seenBy c p) root) ≡ p .levels
   unfolding seenBy
-  seen-size = seen-fork-invariant .size
+  seen-size = seen-steady .fork-invariant .size
 
   pub seen-isolated : Isolated p (seenBy c p) c ls (readIn p root) (readIn (seenBy c p) root)
   seen-isolated =
@@ -253,9 +255,9 @@ module _ (p : Program) (so : Sound p) (few : p .levels ≤ maxLevels) (root : Me
       let st = readIn p' root in
       let ks = struck p c ls in
       let r : Reaches p p' c ks st t = struck-ends p so c hc ls (readIn p root) st t (read-in p so few root) seen-size read-in-same whole in
-      let o : ForkInvariant p' (ran (stepAt p') ks st) = kept State (stepAt p') (MayStep p') (ForkInvariant p') (steps-commute p' so') ks st seen-fork-invariant (r .allowed) in
-      let k : Continues p' 0 ks st = continues p' so' ks 0 st seen-fork-invariant (read-in-bounded p' so' few root) (r .allowed) in
-      let above : SameUnder p' c (ran (stepAt p') ks st) (k .end) = finished-above p' so' c hc (k .more) (ran (stepAt p') ks st) (k .end) o (r .ended) (k .finishes) in
+      let i : StateInvariant p' (ran (stepAt p') ks st) = kept State (stepAt p') (Safe p') (StateInvariant p') (safe-commute p' so') ks st seen-steady (allowed-safe p' so' ks st seen-steady (r .allowed)) in
+      let k : Continues p' 0 ks st = continues p' so' ks 0 st seen-steady (read-in-ordered p' so' few root) (r .allowed) in
+      let above : SameUnder p' c (ran (stepAt p') ks st) (k .end) = finished-above p' so' c hc (k .more) (ran (stepAt p') ks st) (k .end) (i .fork-invariant) (r .ended) (k .finishes) in
       (ks ++ k .more, (k .end, (k .run, λ j hj d. r .same j hj d ∙ above j hj d)))
 
 -- of an accepted session

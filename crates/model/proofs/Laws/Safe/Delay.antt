@@ -17,14 +17,14 @@ use Rattle.model.specs.Limits.{maxManagers}
 use Rattle.model.specs.Lists.{inserted}
 use Rattle.model.specs.Fork.{Fork}
 use Rattle.model.specs.History.{historyOf}
-use Rattle.model.specs.Level.{Version, Activity, idle, busy, Level, newLevel, isBusy, arrived, after}
+use Rattle.model.specs.Level.{Version, Activity, idle, busy, Level, newLevel, isBusy, arrived, after, forksBy, forksOf}
 use Rattle.model.specs.Step.{State, levelAt, viewOf, readAt, none, at, Moved, versionsAfter, arrivalOf, begun, advanced, moved, moveAt, stepAt}
 use Rattle.model.proofs.Laws.Each.{Each}
 use Rattle.model.proofs.Laws.Steps.Diamond.{seen-level}
 use Rattle.model.proofs.Laws.Steps.Moves.{move-is}
 use Rattle.model.proofs.Laws.Invariant.Preserved.{other-level}
 use Rattle.model.proofs.Laws.Invariant.Measure.{Bounded, inserted-length}
-use Rattle.model.proofs.Laws.Invariant.WriteStamps.{writeStamp, forksBy, forksOf}
+use Rattle.model.proofs.Laws.Invariant.WriteStamps.{writeStamp}
 use Rattle.model.proofs.Laws.Invariant.Became.{Became, own, got, stayed, became, step-marks}
 use Rattle.model.proofs.Laws.Invariant.State.{StateInvariant}
 use Rattle.model.proofs.Laws.Safe.Safe.{Safe, head-same, taken-past}

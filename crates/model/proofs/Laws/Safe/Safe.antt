@@ -1,5 +1,5 @@
--- Safe steps: whatever is still to come at the levels strictly below comes after the manager that steps. Safe steps stay safe. A step
--- that question 14 allows is safe. Assumes nothing.
+-- Safe steps: whatever is still to come at the levels strictly below comes after the manager that steps. Safe steps stay safe. Assumes
+-- nothing.
 use Prim.Native.Nat.{ℕ, zero, suc, _+_, _-_, _≤_, _<_}
 use mathlib.Core.Path.{_≡_, refl, sym, _∙_, ap}
 use mathlib.Core.Bool.{Bool, true, false, not, cond, _||_}
@@ -13,20 +13,19 @@ use Rattle.scripts.proofs.Laws.Effects.{Sound}
 use Rattle.model.specs.Limits.{maxManagers}
 use Rattle.model.specs.Lists.{inserted}
 use Rattle.model.specs.Fork.{Fork, childOf}
-use Rattle.model.specs.Level.{Activity, idle, busy, Level, isBusy, isEmpty, hasManager, arrived}
+use Rattle.model.specs.Level.{Activity, idle, busy, Level, isBusy, isEmpty, hasManager, arrived, forksBy, forksOf}
 use Rattle.model.specs.Step.{State, levelAt, Arrival, none, at, moveAt, stepAt}
 use Rattle.model.proofs.Laws.Each.{Each}
 use Rattle.model.proofs.Laws.Lists.{inserted-past}
 use Rattle.model.proofs.Laws.Invariant.Stamps.{child-after}
 use Rattle.model.proofs.Laws.Invariant.Tree.{Entry, strictly-through, forkedFrom, childIn}
 use Rattle.model.proofs.Laws.Invariant.Forest.{rest-each}
-use Rattle.model.proofs.Laws.Steps.Diamond.{MayStep}
+use Rattle.model.proofs.Laws.Steps.May.{first-managed}
 use Rattle.model.proofs.Laws.Invariant.Entries.{runningEntry, waitingEntry, entriesBy, entriesOf, child-entry, arrived-joins}
 use Rattle.model.proofs.Laws.Invariant.Change.{Change, internal, forks}
 use Rattle.model.proofs.Laws.Invariant.Forks.{entriesIn, step-change, ForkInvariant}
 use Rattle.model.proofs.Laws.Invariant.Preserved.{first-of}
 use Rattle.model.proofs.Laws.Invariant.Measure.{Bounded}
-use Rattle.model.proofs.Laws.Invariant.WriteStamps.{forksBy, forksOf}
 use Rattle.model.proofs.Laws.Invariant.Became.{Became, own, got, stayed, became}
 use Rattle.model.proofs.Laws.Invariant.State.{StateInvariant}
 
@@ -44,26 +43,20 @@ later-next (ancestor h n) = n
 abbrev pub AllLater : Fork → ℕ → Level → Type 0
 AllLater x j v = Each (Later x j) (entriesOf j v)
 
+-- all that is to come strictly below level l comes after x
+abbrev pub AllBelow : Program → State → ℕ → Fork → Type 0
+AllBelow p st l x = (j : ℕ) → j < p .levels → strictly (p .dom) l j ≡ true → AllLater x j (levelAt st j)
+
 -- a step at level l is safe: the level has a manager, and all that is to come strictly below comes after it
 pub record Safe (p : Program) (st : State) (l : ℕ) : Type 0 where
   pub present : l < p .levels
   pub fork : Fork
   pub others : List Fork
   pub first : forksOf (levelAt st l) ≡ fork ∷ others
-  pub below : (j : ℕ) → j < p .levels → strictly (p .dom) l j ≡ true → AllLater fork j (levelAt st j)
-
--- a level with a first fork has a manager, and one with a manager has a first fork
-first-managed : (a : Activity) (ws : List Fork) (x : Fork) (xs : List Fork) → forksBy a ws ≡ x ∷ xs → (isBusy a || not (isEmpty ws)) ≡ true
-first-managed idle ws x xs q = rw q refl
-first-managed (busy y m) ws x xs q = refl
+  pub below : AllBelow p st l fork
 
 pub safe-managed : {p : Program} {st : State} {l : ℕ} → Safe p st l → hasManager (levelAt st l) ≡ true
-safe-managed {st = st} {l = l} s = first-managed (levelAt st l .activity) (levelAt st l .waiting) (s .fork) (s .others) (s .first)
-
-managed-first : (a : Activity) (ws : List Fork) → (isBusy a || not (isEmpty ws)) ≡ true → (x : Fork) × ((xs : List Fork) × (forksBy a ws ≡ x ∷ xs))
-managed-first idle [] h = absurd (not-both false h refl)
-managed-first idle (x ∷ xs) h = (x, (xs, refl))
-managed-first (busy x m) ws h = (x, (ws, refl))
+safe-managed {st = st} {l = l} s = first-managed (levelAt st l) (s .fork) (s .others) (s .first)
 
 -- where no manager is, nothing is to come
 pub unmanaged-none : (j : ℕ) (v : Level) → hasManager v ≡ false → entriesOf j v ≡ []
@@ -73,18 +66,6 @@ unmanaged-none j v h = by (v .activity) (v .waiting) h
     by idle [] e = refl
     by idle (x ∷ xs) e = absurd (not-both true refl e)
     by (busy x m) ws e = absurd (not-both true refl e)
-
--- a step that questions 12 to 14 allow is safe
-pub may-safe : (p : Program) (st : State) (l : ℕ) → MayStep p st l → Safe p st l
-may-safe p st l m =
-    let (x, (xs, q)) = managed-first (levelAt st l .activity) (levelAt st l .waiting) (m .managed) in
-    record {
-      present = m .present;
-      fork = x;
-      others = xs;
-      first = q;
-      below = λ j h s. rw (unmanaged-none j (levelAt st j) (m .below j h s)) (unfold Each in tt);
-    }
 
 pub head-same : (x y : Fork) (xs ys : List Fork) → x ∷ xs ≡ y ∷ ys → x ≡ y
 head-same x y xs ys q = ap (λ l. heading x l) q
@@ -121,23 +102,23 @@ at-none b u x q e = not-both (isNone b) (ap isNone e) (ap isNone q)
 -- a step at level k
 module _ (p : Program) (so : Sound p) (st : State) (o : ForkInvariant p st) (k : ℕ) (hk : k < p .levels) where
   change : Change p k (entriesIn st k) (entriesOf k (moveAt p k st .own)) (moveAt p k st .arrival)
-  change = step-change p k st so hk (o .placed k hk)
+  change = step-change p k st so hk (o .placed k hk) (o .positive k hk)
 
   -- its fork comes after x, where all that is to come at k does
   pub child-later : (x : Fork) → AllLater x k (levelAt st k) → (u : ℕ) (c : Fork) → moveAt p k st .arrival ≡ at u c → (x .stamp < c .stamp) × Later x u (waitingEntry u c)
   child-later x a u c q = by change
     where
-      after : (e : Entry) → waitingEntry u c ≡ childIn u e → Later x k e → (x .stamp < c .stamp) × Later x u (waitingEntry u c)
-      after e g t =
+      after : (e : Entry) (w : ℕ) → waitingEntry u c ≡ childIn u w e → Later x k e → (x .stamp < c .stamp) × Later x u (waitingEntry u c)
+      after e w g t =
           let here : c .stamp ≡ e .next = ap (λ e. e .stamp) g in
           let more = child-after (c .stamp) (c .depth) 0 in
           (omega (arith, here, later-next t), younger (omega (arith, here, later-next t)) (omega (arith, here, later-next t, more)))
 
       by : {G : List Entry} → Change p k (entriesIn st k) G (moveAt p k st .arrival) → (x .stamp < c .stamp) × Later x u (waitingEntry u c)
       by (internal e r) = absurd (at-none (moveAt p k st .arrival) u c q e)
-      by (forks w y m message W e g r hu s f) =
+      by (forks w y m message W e g r hu s f z) =
           let same : c ≡ childOf k y m message = at-fork u w c (childOf k y m message) (sym q ∙ e) in
-          after (runningEntry k y (m .forks)) (ap (waitingEntry u) same ∙ child-entry k u y m message)
+          after (runningEntry k y (m .forks)) (m .stamp) (ap (waitingEntry u) same ∙ child-entry k u y m message)
           (first-of (Later x k) (runningEntry k y (m .forks)) W (entriesIn st k) g a)
 
   -- what is to come at its own level comes after x still
@@ -150,7 +131,7 @@ module _ (p : Program) (so : Sound p) (st : State) (o : ForkInvariant p st) (k :
 
       by : {G : List Entry} {b : Arrival} → Change p k (entriesIn st k) G b → Each (Later x k) G
       by (internal e r) = rest-each (Later x k) _ _ r a
-      by (forks w y m message W e g r hu s f) =
+      by (forks w y m message W e g r hu s f z) =
           rest-each (Later x k) _ _ r (unfold Each in (forked (runningEntry k y (m .forks)) ((rw g at a) .0), (rw g at a) .1))
 
   -- and at every level j, where it does so at k if k lies below j
@@ -182,10 +163,21 @@ arrived-first x c xs v t q h = by (v .activity) (v .waiting) q (t .room)
         let rest : List Fork = take (maxManagers - (length (v .ended) + 1)) (inserted (λ y. y .stamp) c ws) in
         (rest, ap (λ z. z ∷ rest) (head-same y x ws xs q))
 
+-- the first fork of a level stays first, whatever other level steps, where all that is to come strictly below comes after it
+pub first-stays : (p : Program) → Sound p → (st : State) → StateInvariant p st → (l k : ℕ) → (l ≡ k → ⊥) → (x : Fork) (xs : List Fork) → forksOf (levelAt st l) ≡ x ∷ xs → AllBelow p st l x → k < p .levels → (ys : List Fork) × (forksOf (levelAt (stepAt p k st) l) ≡ x ∷ ys)
+first-stays p so st i l k n x xs f b hk = front (levelAt (stepAt p k st) l) (became p so st (i .fork-invariant) k hk l)
+  where
+    front : (v : Level) → Became p k st l v → (ys : List Fork) × (forksOf v ≡ x ∷ ys)
+    front v (own e q) = absurd (n e)
+    front v (got c e s q) =
+        let (ys, g) = arrived-first x c xs (levelAt st l) (i .bounded l) f (child-later p so st (i .fork-invariant) k hk x (b k hk s) l c e .0) in
+        (ys, ap forksOf q ∙ g)
+    front v (stayed m q) = (xs, ap forksOf q ∙ f)
+
 -- Safe steps stay safe, whatever other level steps
 pub safe-stays : (p : Program) → Sound p → (st : State) → StateInvariant p st → (l k : ℕ) → (l ≡ k → ⊥) → Safe p st l → k < p .levels → Safe p (stepAt p k st) l
 safe-stays p so st i l k n s hk =
-    let (ys, q) = front (levelAt (stepAt p k st) l) (became p so st (i .fork-invariant) k hk l) in
+    let (ys, q) = first-stays p so st i l k n (s .fork) (s .others) (s .first) (s .below) hk in
     record {
       present = s .present;
       fork = s .fork;
@@ -193,10 +185,3 @@ safe-stays p so st i l k n s hk =
       first = q;
       below = λ j hj b. later-kept p so st (i .fork-invariant) k hk (s .fork) j (s .below j hj b) (λ c. s .below k hk (strictly-through (p .levels) (p .dom) (so .lattice .order) l j k (s .present) hj hk b c));
     }
-  where
-    front : (v : Level) → Became p k st l v → (ys : List Fork) × (forksOf v ≡ s .fork ∷ ys)
-    front v (own e q) = absurd (n e)
-    front v (got c e b q) =
-        let (ys, g) = arrived-first (s .fork) c (s .others) (levelAt st l) (i .bounded l) (s .first) (child-later p so st (i .fork-invariant) k hk (s .fork) (s .below k hk b) l c e .0) in
-        (ys, ap forksOf q ∙ g)
-    front v (stayed m q) = (s .others, ap forksOf q ∙ s .first)
