@@ -5,5 +5,7 @@ pub mod Finish
 pub mod ReadIn
 pub mod Accepted
 pub mod Progress
+pub mod Chosen
 pub mod Plain
 pub mod PlainRun
+pub mod DepthFirst

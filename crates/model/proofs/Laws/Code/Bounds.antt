@@ -30,7 +30,7 @@ use Rattle.model.proofs.Laws.Invariant.Change.{Change, internal, forks}
 use Rattle.model.proofs.Laws.Invariant.Forks.{entriesIn, step-change, ForkInvariant}
 use Rattle.model.proofs.Laws.Invariant.Preserved.{fertile, first-of}
 use Rattle.model.proofs.Laws.Invariant.Measure.{inserted-length}
-use Rattle.model.proofs.Laws.Invariant.Became.{Became, own, got, stayed, became}
+use Rattle.model.proofs.Laws.Invariant.Became.{Became, own, got, stayed, became, step-each}
 use Rattle.model.proofs.Laws.Safe.Safe.{at-fork, at-none}
 
 -- a manager's interval of stamps lies within 32 bits
@@ -40,13 +40,6 @@ Fits32 a = upTo a ≤ 16 ^ (stampDigits + 1)
 module _ (p : Program) (so : Sound p) (st : State) (o : ForkInvariant p st) (i : (l : ℕ) → l < p .levels → Each Fits32 (entriesIn st l)) (l : ℕ) (h : l < p .levels) where
   change : Change p l (entriesIn st l) (entriesOf l (moveAt p l st .own)) (moveAt p l st .arrival)
   change = step-change p l st so h (o .placed l h) (o .positive l h)
-
-  own-fits : Each Fits32 (entriesOf l (moveAt p l st .own))
-  own-fits = by change
-    where
-      by : {G : List Entry} {b : Arrival} → Change p l (entriesIn st l) G b → Each Fits32 G
-      by (internal e r) = rest-each Fits32 _ _ r (i l h)
-      by (forks u y m message W e g r hu s f z) = rest-each Fits32 _ _ r (unfold Each in ((rw g at (i l h)) .0, (rw g at (i l h)) .1))
 
   child-fits : (u : ℕ) (c : Fork) → moveAt p l st .arrival ≡ at u c → Fits32 (waitingEntry u c)
   child-fits u c q = by change
@@ -63,12 +56,7 @@ module _ (p : Program) (so : Sound p) (st : State) (o : ForkInvariant p st) (i :
 
   -- every step keeps fork stamps within 32 bits
   pub step-fits : (k : ℕ) → k < p .levels → Each Fits32 (entriesIn (stepAt p l st) k)
-  step-fits k hk = by (levelAt (stepAt p l st) k) (became p so st o l h k)
-    where
-      by : (v : Level) → Became p l st k v → Each Fits32 (entriesOf k v)
-      by v (own e q) = rw (q, e) own-fits
-      by v (got c e s q) = rw q (arrived-joins k c (levelAt st k) .each Fits32 (child-fits k c e) (i k hk))
-      by v (stayed n q) = rw q (i k hk)
+  step-fits = step-each p so st o l h Fits32 (λ e f. f) i child-fits
 
 -- the write stamp of a level's next manager, and its versions, by how many managers have ended; and what the running one adds
 abbrev pub PacedBy : Activity → ℕ → ℕ → ℕ → Type 0

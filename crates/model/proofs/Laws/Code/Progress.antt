@@ -26,11 +26,11 @@ use Rattle.model.proofs.Laws.Invariant.Tree.{upTo, strictly-through}
 use Rattle.model.proofs.Laws.Invariant.Entries.{entriesOf}
 use Rattle.model.proofs.Laws.Invariant.Forks.{ForkInvariant}
 use Rattle.model.proofs.Laws.Invariant.Became.{Became, own, got, stayed, became}
-use Rattle.model.proofs.Laws.Steps.May.{forks-entries, entries-forks, free-each, each-free, all-yes, may-step, step-may}
+use Rattle.model.proofs.Laws.Steps.May.{forks-entries, entries-forks, Before, free-each, each-free, all-yes, may-step, step-may}
 use Rattle.model.proofs.Laws.Order.Accepted.{sound}
 use Rattle.model.proofs.Laws.Order.Orderly.{behind}
 use Rattle.model.proofs.Laws.Order.Progress.{progress, quiet-below, conservative-may}
-use Rattle.model.proofs.Laws.Order.Plain.{run-over, run-next}
+use Rattle.model.proofs.Laws.Order.Chosen.{run-over, run-next}
 use Rattle.model.proofs.Laws.Code.Reached.{ReachedState, present, live-start, live-step}
 
 -- the number of a step's refusal under a rule, by the first question that says no
@@ -120,10 +120,10 @@ module _ (s : List ℕ) (a : verdictOf s ≡ Accepted) (st : State) (i : Reached
   -- it is enough to ask the first manager of each level
   firsts-each : (stamp j : ℕ) → j < p .levels → (ys : List Fork) → forksOf (levelAt st j) ≡ ys → firstHolds ys stamp ≡ false → Each (λ e. stamp < upTo e) (entriesOf j (levelAt st j))
   unfolding Each
-  firsts-each stamp j h [] q e = forks-entries stamp j (levelAt st j) (rw q tt)
+  firsts-each stamp j h [] q e = forks-entries (Before stamp) j (levelAt st j) (rw q tt)
   firsts-each stamp j h (y ∷ ys) q e =
       let end : stamp < y .stamp + span (y .depth) = free-within y stamp (rw e refl) in
-      forks-entries stamp j (levelAt st j)
+      forks-entries (Before stamp) j (levelAt st j)
       (rw q (
         end,
         each-map (λ z. y .stamp + span (y .depth) ≤ z .stamp) (λ z. stamp < z .stamp + span (z .depth)) (λ z g. omega (arith, g, end)) ys
@@ -141,7 +141,7 @@ module _ (s : List ℕ) (a : verdictOf s ≡ Accepted) (st : State) (i : Reached
   ]
     where
       first-free : (stamp j : ℕ) (v : Level) → Each (λ e. stamp < upTo e) (entriesOf j v) → firstHolds (forksOf v) stamp ≡ false
-      first-free stamp j v f = by (forksOf v) (entries-forks stamp j v f)
+      first-free stamp j v f = by (forksOf v) (entries-forks (Before stamp) j v f)
         where
           by : (ys : List Fork) → Each (λ y. stamp < y .stamp + span (y .depth)) ys → firstHolds ys stamp ≡ false
           by [] g = refl

@@ -2,6 +2,7 @@
 use Prim.Native.Nat.{ℕ, _<_}
 use mathlib.Core.Path.{_≡_, refl, sym, _∙_, ap}
 use mathlib.Core.Bool.{Bool, true, false, not}
+use mathlib.Core.List.{List}
 use native.Mathlib.Decide.{ℕ-discrete}
 use lib.Dec.{eqb}
 use Rattle.lattice.specs.Order.{strictly}
@@ -12,10 +13,15 @@ use Rattle.model.specs.Lists.{modify}
 use Rattle.model.specs.Fork.{Fork}
 use Rattle.model.specs.Level.{Level, arrived}
 use Rattle.model.specs.Step.{State, levelAt, viewOf, Arrival, none, at, moveAt, delivered, stepAt}
+use Rattle.model.proofs.Laws.Each.{Each}
+use Rattle.model.proofs.Laws.Invariant.Tree.{Entry, forkedFrom}
+use Rattle.model.proofs.Laws.Invariant.Forest.{rest-each}
+use Rattle.model.proofs.Laws.Invariant.Entries.{waitingEntry, runningEntry, entriesOf, arrived-joins}
+use Rattle.model.proofs.Laws.Invariant.Change.{Change, internal, forks}
 use Rattle.model.proofs.Laws.Steps.Locality.{Above}
 use Rattle.model.proofs.Laws.Steps.Diamond.{seen-level}
 use Rattle.model.proofs.Laws.Steps.Moves.{move-above}
-use Rattle.model.proofs.Laws.Invariant.Forks.{marks-at, level-own, level-target, level-other, ForkInvariant}
+use Rattle.model.proofs.Laws.Invariant.Forks.{entriesIn, step-change, marks-at, level-own, level-target, level-other, ForkInvariant}
 use Rattle.model.proofs.Laws.Invariant.Preserved.{other-level}
 use Rattle.model.proofs.Laws.Invariant.WriteStamps.{Marks}
 
@@ -93,3 +99,21 @@ module _ (p : Program) (so : Sound p) (st : State) (o : ForkInvariant p st) (l :
       by (own e q) = absurd (not-both (p .dom j l) (rw e (so .lattice .order .itself l h)) d)
       by (got c e s q) = absurd (not-both (p .dom j l) (and-left (p .dom j l) (not (eqb j l)) s) d)
       by (stayed n q) = q
+
+-- what holds of each manager that has not ended, and still when it has forked, holds after a step, where it holds of a fork that is made
+module _ (p : Program) (so : Sound p) (st : State) (o : ForkInvariant p st) (l : ℕ) (h : l < p .levels) (P : Entry → Type 0) (still : (e : Entry) → P e → P (forkedFrom e)) where
+  pub own-each : Each P (entriesIn st l) → Each P (entriesOf l (moveAt p l st .own))
+  own-each f = by (step-change p l st so h (o .placed l h) (o .positive l h))
+    where
+      by : {G : List Entry} {b : Arrival} → Change p l (entriesIn st l) G b → Each P G
+      by (internal e r) = rest-each P _ _ r f
+      by (forks u x m message W e g r hu s t z) =
+          rest-each P _ _ r (unfold Each in (still (runningEntry l x (m .forks)) ((rw g at f) .0), (rw g at f) .1))
+
+  pub step-each : ((j : ℕ) → j < p .levels → Each P (entriesIn st j)) → ((u : ℕ) (c : Fork) → moveAt p l st .arrival ≡ at u c → P (waitingEntry u c)) → (k : ℕ) → k < p .levels → Each P (entriesIn (stepAt p l st) k)
+  step-each f made k hk = by (levelAt (stepAt p l st) k) (became p so st o l h k)
+    where
+      by : (v : Level) → Became p l st k v → Each P (entriesOf k v)
+      by v (own e q) = rw (q, e) (own-each (f l h))
+      by v (got c e s q) = rw q (arrived-joins k c (levelAt st k) .each P (made k c e) (f k hk))
+      by v (stayed n q) = rw q (f k hk)

@@ -26,11 +26,12 @@ pub record Entry : Type 0 where
 abbrev pub upTo : Entry → ℕ
 upTo a = a .stamp + span (a .depth)
 
--- a is an ancestor of b: it lies strictly below, all of b's interval lies before its next child, and b carries a write stamp for its level
+-- a is an ancestor of b: it lies strictly below, b's interval lies in its own and before its next child, and b carries a write stamp for its level
 pub record Ancestor (dom : Dominance) (a b : Entry) : Type 0 where
   pub below : strictly dom (b .level) (a .level) ≡ true
   pub before : a .stamp < b .stamp
   pub within : upTo b ≤ a .next
+  pub inside : upTo b ≤ upTo a
   pub carries : getD (b .carried) (a .level) 0 ≡ 0 → ⊥
 
 pub data Related (dom : Dominance) (a b : Entry) : Type 0 where
@@ -84,6 +85,7 @@ module _ (n : ℕ) (dom : Dominance) (po : PartialOrder n dom) where
         below = strictly-through u (a .level) (b .level) hu ha hb s (h .below);
         before = omega (arith, h .before, f .after);
         within = omega (arith, h .within, f .room);
+        inside = omega (arith, h .inside, f .room);
         carries = rw (getD-set-other (a .carried) (a .level) (b .level) w 0 (λ q. strictly-apart dom (a .level) (b .level) (h .below) (sym q))) (h .carries);
       })
 
@@ -92,9 +94,9 @@ pub parent-related : (dom : Dominance) (a b : Entry) → Related dom a b → Rel
 parent-related dom a b (left h) = left h
 parent-related dom a b (right h) = right h
 parent-related dom a b (over h) =
-    over (record { below = h .below; before = h .before; within = omega (arith, h .within); carries = h .carries })
+    over (record { below = h .below; before = h .before; within = omega (arith, h .within); inside = h .inside; carries = h .carries })
 parent-related dom a b (under h) =
-    under (record { below = h .below; before = h .before; within = h .within; carries = h .carries })
+    under (record { below = h .below; before = h .before; within = h .within; inside = h .inside; carries = h .carries })
 
 -- and the two are related
 pub parent-child : (dom : Dominance) (u w : ℕ) (a : Entry) → strictly dom u (a .level) ≡ true → Fertile a → 0 < w → Related dom (forkedFrom a) (childIn u w a)
@@ -103,6 +105,7 @@ parent-child dom u w a s f h =
       below = s;
       before = f .after;
       within = omega arith;
+      inside = f .room;
       carries = λ q. omega (arith, h, getD-set-same (a .carried) (a .level) w 0 (f .wide), q);
     })
 

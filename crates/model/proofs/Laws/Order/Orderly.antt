@@ -26,7 +26,7 @@ use Rattle.model.proofs.Laws.Invariant.Forks.{entriesIn}
 use Rattle.model.proofs.Laws.Invariant.Became.{Became, own, got, stayed, became, step-marks}
 use Rattle.model.proofs.Laws.Invariant.State.{StateInvariant}
 use Rattle.model.proofs.Laws.Invariant.Preserved.{other-level}
-use Rattle.model.proofs.Laws.Steps.May.{MayStep, forks-entries}
+use Rattle.model.proofs.Laws.Steps.May.{MayStep, forks-entries, Before}
 use Rattle.model.proofs.Laws.Safe.Safe.{head-same}
 use Rattle.model.proofs.Laws.Safe.Asked.{may-stays, may-goes-on}
 
@@ -48,7 +48,7 @@ unfolding Pairwise
 rest-rises xs ys (whole q) r = rw q r
 rest-rises xs ys (tail x q) r = (rw q at r) .1
 
-tail-same : (x y : Fork) (xs ys : List Fork) → x ∷ xs ≡ y ∷ ys → xs ≡ ys
+pub tail-same : (x y : Fork) (xs ys : List Fork) → x ∷ xs ≡ y ∷ ys → xs ≡ ys
 tail-same x y xs ys q = ap tailing q
   where
     tailing : List Fork → List Fork
@@ -102,7 +102,7 @@ module _ (p : Program) (so : Sound p) (st : State) (t : StateInvariant p st) (i 
 
       by : (a : Activity) → levelAt st j .activity ≡ a → Each (λ e. x .stamp < upTo e) (entriesIn st j)
       by idle e =
-          forks-entries (x .stamp) j (levelAt st j) (rw (ap (λ a. forksBy a (levelAt st j .waiting)) e) (waits (levelAt st j .waiting) (sym (ap (λ a. forksBy a (levelAt st j .waiting)) e) ∙ q) (i .rising j h)))
+          forks-entries (Before (x .stamp)) j (levelAt st j) (rw (ap (λ a. forksBy a (levelAt st j .waiting)) e) (waits (levelAt st j .waiting) (sym (ap (λ a. forksBy a (levelAt st j .waiting)) e) ∙ q) (i .rising j h)))
       by (busy y m) e =
           let k = i .running j h (ap isBusy e) in
           let same : k .fork ≡ x = head-same (k .fork) x (k .others) xs (sym (k .first) ∙ q) in

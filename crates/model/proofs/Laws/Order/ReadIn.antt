@@ -75,6 +75,13 @@ module _ (p : Program) (so : Sound p) (few : p .levels ≤ maxLevels) (root : Me
   abbrev F : ℕ → List Entry
   F = entriesIn (readIn p root)
 
+  -- what holds of no entries, and of the root's alone, holds of those of each level
+  pub read-in-alone : (P : List Entry → Type 0) → P [] → ((l : ℕ) → P (waitingEntry l x ∷ [])) → (k : ℕ) → P (F k)
+  read-in-alone P a b k = elim (ℕ-discrete r k) [
+    | yes e ↦ rw (sym e, root-entry) (b r)
+    | no n ↦ rw (no-entry k n) a
+  ]
+
   home : (k : ℕ) → Dec (r ≡ k) → Each (λ a. a .level ≡ k) (F k)
   unfolding Each
   home k (yes e) = rw (sym e, root-entry) (refl, tt)

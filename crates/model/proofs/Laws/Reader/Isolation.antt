@@ -46,7 +46,8 @@ use Rattle.model.proofs.Laws.Order.Finish.{Finishes, finishes, allowed-
 use Rattle.model.proofs.Laws.Order.ReadIn.{read-in, read-in-steady, read-in-ordered}
 use Rattle.model.proofs.Laws.Order.Accepted.{sound}
 use Rattle.model.proofs.Laws.Invariant.Bounded.{total}
-use Rattle.model.proofs.Laws.Order.Plain.{run-next, plain-finishes}
+use Rattle.model.proofs.Laws.Order.Chosen.{run-next}
+use Rattle.model.proofs.Laws.Order.Plain.{plain-finishes}
 
 -- what is hidden twice is hidden once, where the second test follows from the first
 twice : {A : Type 0} (a b : Bool) (x d : A) → (a ≡ true → b ≡ true) → cond a (cond b x d) d ≡ cond a x d

@@ -16,12 +16,10 @@ use Rattle.model.specs.Step.{State, levelAt, at, moveAt, stepAt}
 use Rattle.model.proofs.Laws.Each.{Each, each-both}
 use Rattle.model.proofs.Laws.Invariant.Stamps.{span-positive, child-after}
 use Rattle.model.proofs.Laws.Invariant.Tree.{Entry, upTo, Related, left, right, over, under, strictly-over}
-use Rattle.model.proofs.Laws.Invariant.Forest.{rest-each}
 use Rattle.model.proofs.Laws.Invariant.Entries.{waitingEntry, runningEntry, entriesBy, entriesOf, arrived-joins}
-use Rattle.model.proofs.Laws.Invariant.Change.{Change, internal, forks}
-use Rattle.model.proofs.Laws.Invariant.Forks.{entriesIn, step-change}
+use Rattle.model.proofs.Laws.Invariant.Forks.{entriesIn}
 use Rattle.model.proofs.Laws.Invariant.Preserved.{other-level, first-of}
-use Rattle.model.proofs.Laws.Invariant.Became.{Became, own, got, stayed, became, step-marks, level-stepped}
+use Rattle.model.proofs.Laws.Invariant.Became.{Became, own, got, stayed, became, step-marks, level-stepped, own-each}
 use Rattle.model.proofs.Laws.Invariant.State.{StateInvariant}
 use Rattle.model.proofs.Laws.Steps.May.{MayStep}
 use Rattle.model.proofs.Laws.Safe.Safe.{Later, younger, ancestor, AllBelow, Safe, head-same, child-later, first-stays}
@@ -104,13 +102,7 @@ module _ (p : Program) (so : Sound p) (st : State) (i : StateInvariant p st) whe
 
   -- what the step of a level leaves of the intervals there
   own-free : (s k : ℕ) → k < p .levels → Each (λ e. s < upTo e) (entriesIn st k) → Each (λ e. s < upTo e) (entriesOf k (moveAt p k st .own))
-  own-free s k hk f =
-      by (step-change p k st so hk (i .fork-invariant .placed k hk) (i .fork-invariant .positive k hk))
-    where
-      by : {G : List Entry} {b : _} → Change p k (entriesIn st k) G b → Each (λ e. s < upTo e) G
-      by (internal e r) = rest-each (λ e. s < upTo e) _ _ r f
-      by (forks w y m message W e g r hu t z c) =
-          rest-each (λ e. s < upTo e) _ _ r (unfold Each in ((rw g at f) .0, (rw g at f) .1))
+  own-free s k hk = own-each p so st (i .fork-invariant) k hk (λ e. s < upTo e) (λ e h. h)
 
   -- it stays allowed, whatever other level steps
   pub may-stays : (l k : ℕ) → (l ≡ k → ⊥) → MayStep p st l → k < p .levels → MayStep p (stepAt p k st) l

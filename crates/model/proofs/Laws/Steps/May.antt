@@ -47,30 +47,34 @@ managed-first v h = by (v .activity) (v .waiting) h
 pub may-managed : {p : Program} {st : State} {l : ℕ} → MayStep p st l → hasManager (levelAt st l) ≡ true
 may-managed {st = st} {l = l} m = first-managed (levelAt st l) (m .fork) (m .others) (m .first)
 
--- the intervals of the entries of a level are those of its forks
-pub forks-entries : (s j : ℕ) (v : Level) → Each (λ y. s < y .stamp + span (y .depth)) (forksOf v) → Each (λ e. s < upTo e) (entriesOf j v)
+-- what holds of the stamps and depths of a level's forks holds of its entries, and the other way round
+pub forks-entries : (P : ℕ → ℕ → Type 0) (j : ℕ) (v : Level) → Each (λ y. P (y .stamp) (y .depth)) (forksOf v) → Each (λ e. P (e .stamp) (e .depth)) (entriesOf j v)
 unfolding Each
-forks-entries s j v f = by (v .activity) (v .waiting) f
+forks-entries P j v f = by (v .activity) (v .waiting) f
   where
-    waits : (ws : List Fork) → Each (λ y. s < y .stamp + span (y .depth)) ws → Each (λ e. s < upTo e) (map (waitingEntry j) ws)
+    waits : (ws : List Fork) → Each (λ y. P (y .stamp) (y .depth)) ws → Each (λ e. P (e .stamp) (e .depth)) (map (waitingEntry j) ws)
     waits [] f = tt
     waits (w ∷ ws) f = (f .0, waits ws (f .1))
 
-    by : (a : Activity) (ws : List Fork) → Each (λ y. s < y .stamp + span (y .depth)) (forksBy a ws) → Each (λ e. s < upTo e) (entriesBy j a ws)
+    by : (a : Activity) (ws : List Fork) → Each (λ y. P (y .stamp) (y .depth)) (forksBy a ws) → Each (λ e. P (e .stamp) (e .depth)) (entriesBy j a ws)
     by idle ws f = waits ws f
     by (busy x m) ws f = (f .0, waits ws (f .1))
 
-pub entries-forks : (s j : ℕ) (v : Level) → Each (λ e. s < upTo e) (entriesOf j v) → Each (λ y. s < y .stamp + span (y .depth)) (forksOf v)
+pub entries-forks : (P : ℕ → ℕ → Type 0) (j : ℕ) (v : Level) → Each (λ e. P (e .stamp) (e .depth)) (entriesOf j v) → Each (λ y. P (y .stamp) (y .depth)) (forksOf v)
 unfolding Each
-entries-forks s j v f = by (v .activity) (v .waiting) f
+entries-forks P j v f = by (v .activity) (v .waiting) f
   where
-    waits : (ws : List Fork) → Each (λ e. s < upTo e) (map (waitingEntry j) ws) → Each (λ y. s < y .stamp + span (y .depth)) ws
+    waits : (ws : List Fork) → Each (λ e. P (e .stamp) (e .depth)) (map (waitingEntry j) ws) → Each (λ y. P (y .stamp) (y .depth)) ws
     waits [] f = tt
     waits (w ∷ ws) f = (f .0, waits ws (f .1))
 
-    by : (a : Activity) (ws : List Fork) → Each (λ e. s < upTo e) (entriesBy j a ws) → Each (λ y. s < y .stamp + span (y .depth)) (forksBy a ws)
+    by : (a : Activity) (ws : List Fork) → Each (λ e. P (e .stamp) (e .depth)) (entriesBy j a ws) → Each (λ y. P (y .stamp) (y .depth)) (forksBy a ws)
     by idle ws f = waits ws f
     by (busy x m) ws f = (f .0, waits ws (f .1))
+
+-- a stamp lies before the end of the interval of a manager with this stamp and depth
+abbrev pub Before : ℕ → ℕ → ℕ → Type 0
+Before s stamp depth = s < stamp + span depth
 
 -- question 14, level by level
 module _ (p : Program) (st : State) (l : ℕ) (x : Fork) (xs : List Fork) (q : forksOf (levelAt st l) ≡ x ∷ xs) where
@@ -81,7 +85,7 @@ module _ (p : Program) (st : State) (l : ℕ) (x : Fork) (xs : List Fork) (q : f
   pub free-each : question14 p st l ≡ true → (j : ℕ) → j < p .levels → p .dom l j ≡ true → Each (λ e. x .stamp < upTo e) (entriesOf j (levelAt st j))
   unfolding isFree
   free-each e j h d =
-      forks-entries (x .stamp) j (levelAt st j)
+      forks-entries (Before (x .stamp)) j (levelAt st j)
       (every-is (λ y. not (holdsBack y (x .stamp))) (λ y. x .stamp < y .stamp + span (y .depth)) (λ y. free-within y (x .stamp)) (forksOf (levelAt st j))
       (implies-then (p .dom l j) _ (all-each (p .levels) _ (sym asks-first ∙ e) j h) d))
 
@@ -91,7 +95,7 @@ module _ (p : Program) (st : State) (l : ℕ) (x : Fork) (xs : List Fork) (q : f
       asks-first
       ∙ all-every (p .levels) _ λ j h. implies-when (p .dom l j) _ λ d.
       is-every (λ y. not (holdsBack y (x .stamp))) (λ y. x .stamp < y .stamp + span (y .depth)) (λ y. within-free y (x .stamp)) (forksOf (levelAt st j))
-      (entries-forks (x .stamp) j (levelAt st j) (f j h d))
+      (entries-forks (Before (x .stamp)) j (levelAt st j) (f j h d))
 
 -- questions 12 to 14, taken apart and put together
 pub all-yes : (a b c : Bool) → cond {A = ℕ} a (cond b (cond c 0 14) 13) 12 ≡ 0 → (a ≡ true) × ((b ≡ true) × (c ≡ true))
