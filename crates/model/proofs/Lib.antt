@@ -11,3 +11,4 @@ pub mod Layouts
 pub mod Refusals
 pub mod Runs
 pub mod Orders
+pub mod Ancestors
