@@ -12,3 +12,4 @@ pub mod Refusals
 pub mod Runs
 pub mod Orders
 pub mod Rules
+pub mod Ancestors

@@ -1,5 +1,6 @@
 -- Ancestors in the tree of forks: question 14 finds them by intervals of stamps, and they are the managers on the way from the root. The proofs
 -- are in proofs/Ancestors.antt. Assumes nothing.
+-- Laws: a made fork's way is its maker's and the number of the child (`proofs/Laws/Invariant/Ways`: `child-way`).
 use Prim.Native.Nat.{ℕ, _+_, _≤_, _<_}
 use mathlib.Core.Path.{_≡_}
 use mathlib.Core.Bool.{Bool, true, false, _&&_}
@@ -23,12 +24,16 @@ unfoldable pub stampAlong : ℕ → ℕ → List ℕ → ℕ
 stampAlong stamp d [] = stamp
 stampAlong stamp d (k ∷ ks) = stampAlong (childStamp stamp d k) (d + 1) ks
 
--- the way from the root to x: which child each manager on it is of the one before. "The root's is 0. Child k (1 to 15)"
+-- "Child k (1 to 15)"
+abbrev pub isChild : ℕ → Bool
+isChild k = leb 1 k && leb k maxForks
+
+-- the way from the root to x: which child each manager on it is of the one before. "The root's is 0."
 pub record Way (ks : List ℕ) (x : Fork) : Type 0 where
   pub stamp : x .stamp ≡ stampAlong 0 0 ks
   pub depth : x .depth ≡ length ks
   pub short : length ks ≤ stampDigits + 1
-  pub children : every (λ k. leb 1 k && leb k maxForks) ks ≡ true
+  pub children : every isChild ks ≡ true
 
 -- the way hs begins with all of ks, and goes on
 unfoldable pub goesOn : List ℕ → List ℕ → Bool

@@ -13,3 +13,4 @@ pub mod WriteStamps
 pub mod Became
 pub mod State
 pub mod Versions
+pub mod Ways
