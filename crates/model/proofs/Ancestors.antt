@@ -15,9 +15,9 @@ use Rattle.model.specs.Fork.{Fork}
 use Rattle.model.specs.Level.{forksOf}
 use Rattle.model.specs.Step.{State, levelAt, stepAt}
 use Rattle.model.specs.Schedule.{readIn, question14, Leads}
-use Rattle.model.specs.Ancestors.{stampAlong, isChild, goesOn, EachWay, WaysFromRoot, AncestorsOnTheWay}
+use Rattle.model.specs.Ancestors.{stampAlong, isChild, goesOn, EachWay, WaysGrow, WaysFromRoot, AncestorsOnTheWay}
 use Rattle.model.proofs.Laws.Each.{Each}
-use Rattle.model.proofs.Laws.Invariant.Ways.{ancestor-along, HasWay, root-way, step-ways}
+use Rattle.model.proofs.Laws.Invariant.Ways.{ancestor-along, HasWay, root-way, child-way, step-ways}
 use Rattle.model.proofs.Laws.Order.Accepted.{sound}
 use Rattle.model.proofs.Laws.Deep.Root.{each-level}
 use Rattle.model.proofs.Laws.Code.Reached.{ReachedState, present, live-start, live-step}
@@ -45,6 +45,9 @@ each-way : (xs : List Fork) → Each HasWay xs → EachWay xs
 unfolding Each
 each-way [] e = tt
 each-way (x ∷ xs) e = (e .0, each-way xs (e .1))
+
+pub ways-grow : WaysGrow
+ways-grow = record { root = root-way; child = child-way }
 
 pub ways-from-root : WaysFromRoot
 ways-from-root s a ls st b l h =

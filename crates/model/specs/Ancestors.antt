@@ -1,19 +1,20 @@
 -- Ancestors in the tree of forks: question 14 finds them by intervals of stamps, and they are the managers on the way from the root. The proofs
 -- are in proofs/Ancestors.antt. Assumes nothing.
--- Laws: a made fork's way is its maker's and the number of the child (`proofs/Laws/Invariant/Ways`: `child-way`).
 use Prim.Native.Nat.{ℕ, _+_, _≤_, _<_}
 use mathlib.Core.Path.{_≡_}
 use mathlib.Core.Bool.{Bool, true, false, _&&_}
-use mathlib.Core.List.{List, [], _∷_}
+use mathlib.Core.List.{List, [], _∷_, _++_}
 use lib.Dec.{eqb, leb}
 use lib.ListN.{length}
 use Rattle.session.specs.Lists.{every}
 use Rattle.session.specs.Parts.{levelCount}
 use Rattle.session.specs.Meaning.{rootOf}
 use Rattle.session.specs.Program.{programOf}
+use Rattle.session.specs.declared.Message.{Message}
 use Rattle.scripts.specs.Limits.{maxForks}
+use Rattle.scripts.specs.State.{Manager}
 use Rattle.model.specs.Limits.{stampDigits}
-use Rattle.model.specs.Fork.{Fork, childStamp, isAncestor}
+use Rattle.model.specs.Fork.{Fork, rootFork, childStamp, childOf, isAncestor}
 use Rattle.model.specs.Level.{forksOf}
 use Rattle.model.specs.Step.{State, levelAt}
 use Rattle.model.specs.Schedule.{readIn, Leads}
@@ -41,6 +42,11 @@ goesOn [] [] = false
 goesOn [] (h ∷ hs) = true
 goesOn (k ∷ ks) [] = false
 goesOn (k ∷ ks) (h ∷ hs) = eqb k h && goesOn ks hs
+
+-- The root's way is empty; that of a fork is its sender's, with its own number behind
+pub record WaysGrow : Type 0 where
+  pub root : (n : ℕ) (message : Message) → Way [] (rootFork n message)
+  pub child : (l : ℕ) (x : Fork) (m : Manager) (message : Message) (ks : List ℕ) → Way ks x → x .depth ≤ stampDigits → m .forks < maxForks → Way (ks ++ ((m .forks + 1) ∷ [])) (childOf l x m message)
 
 -- each of these forks has a way from the root
 abbrev pub EachWay : List Fork → Type 0
