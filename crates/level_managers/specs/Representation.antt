@@ -2,7 +2,7 @@
 -- Laws (`proofs/Laws/Representation`): a change of the words of one level alone (`represents-change`).
 use Prim.Native.Nat.{ℕ, _≤_, _<_}
 use mathlib.Core.Path.{_≡_}
-use mathlib.Core.Bool.{true, cond}
+use mathlib.Core.Bool.{cond}
 use mathlib.Core.List.{List}
 use lib.Dec.{eqb}
 use lib.ListN.{length, getD}
@@ -16,10 +16,10 @@ use Rattle.words.specs.Fields.{fieldAt}
 use Rattle.model.specs.Limits.{maxManagers, workNumbers}
 use Rattle.model.specs.Level.{Activity, idle, busy, Level, startedCount, newest}
 use Rattle.model.specs.Step.{State, levelAt}
-use Rattle.model.specs.Schedule.{readIn, question14, Leads}
+use Rattle.model.specs.Schedule.{readIn, Leads}
 use Rattle.records.specs.Limits.{historyWords}
 use Rattle.records.specs.Histories.{historiesAt, InOrder}
-use Rattle.tallies.specs.Places.{nextPlace, waitingPlace, versionsPlace, busyPlace, clearPlace, tallyNumbers}
+use Rattle.tallies.specs.Places.{nextPlace, waitingPlace, versionsPlace, busyPlace, tallyNumbers}
 use Rattle.queues.specs.Queue.{queueWords, forkAt, forksAt, ForksRise}
 use Rattle.versions.specs.Log.{logStart, logOf}
 
@@ -69,11 +69,10 @@ pub record Represents (s : List ℕ) (w : Words) (ms : ℕ → Manager) (st : St
 abbrev pub Reached : List ℕ → State → Type 0
 Reached s st = (ls : List ℕ) × Leads (programOf s) (readIn (programOf s) (rootOf s)) ls st
 
--- the words represent a state that a run reaches; and where question 14 has said yes of a level, it says so still
+-- the words represent a state that a run reaches
 pub record RunInvariant (s : List ℕ) (w : Words) (ms : ℕ → Manager) (st : State) : Type 0 where
   pub represents : Represents s w ms st
   pub reached : Reached s st
-  pub clear : (l : ℕ) → l < levelCount s → (getD (w .tallies) (clearPlace l) 0 ≡ 0 → ⊥) → question14 (programOf s) st l ≡ true
 
 -- managers of which the one of level l became r
 abbrev pub placed : ℕ → Manager → (ℕ → Manager) → ℕ → Manager

@@ -26,7 +26,7 @@ use Rattle.model.specs.Fork.{childOf}
 use Rattle.model.specs.History.{endBefore}
 use Rattle.model.specs.Level.{arrived, after, newest, newestTo}
 use Rattle.model.specs.Step.{viewOf, readAt, advanced, begun, moved, delivered, moveAt, stepAt}
-use Rattle.model.specs.Schedule.{readIn, question14, question15, stepRefusal, runFrom, runOf, lowest, plainFrom, plainOrder}
+use Rattle.model.specs.Schedule.{readIn, isFree, question14, question15, refusalUnder, runUnder, runOf, lowest, chosenFrom, plainOrder}
 use Rattle.model.specs.Result.{objectRecord, historyRecord, replyRecord, objectsShown, historiesShown, replyShown, bytesOf, ordersShown}
 use Rattle.model.specs.Limits.{workNumbers, resultBytes}
 use Rattle.model.specs.Entries.{Request, Answer, entryRefusal, cleared, answerOf, timetabled, plain}
@@ -61,5 +61,5 @@ pub record Examples : Type 0 where
   largest : refusalLine 15 0xFFFFFFFF ≡ codes "15 4294967295\n"
 
 pub examples : Examples
-unfolding codes lineOf linesOf decimalIn refusalLine textOf all first reflexive antisymmetric transitive isOrder isLeast join hasJoins dominates namesPresent isOrdered every select risingFrom countsFrom tab joined recordAt recordsOf wordOf zeroAt stepOf ofKind masksOf methodRecords question1 kindsRise question2 question3 objectValid question6 operandsFit unusedBytes stepValid scriptValid scriptsValid rootValid firstNo verdictOf methodOf sessionW programOf seenBy fateOf sum isNilOr0 withRegister popped settled concluded started written called forked sent operated stepped inserted modify lastOr childOf endBefore arrived after newest newestTo viewOf readAt advanced begun moved delivered moveAt stepAt readIn question14 question15 stepRefusal runFrom runOf lowest plainFrom plainOrder objectRecord historyRecord replyRecord objectsShown historiesShown replyShown bytesOf ordersShown entryRefusal cleared answerOf timetabled plain
+unfolding codes lineOf linesOf decimalIn refusalLine textOf all first reflexive antisymmetric transitive isOrder isLeast join hasJoins dominates namesPresent isOrdered every select risingFrom countsFrom tab joined recordAt recordsOf wordOf zeroAt stepOf ofKind masksOf methodRecords question1 kindsRise question2 question3 objectValid question6 operandsFit unusedBytes stepValid scriptValid scriptsValid rootValid firstNo verdictOf methodOf sessionW programOf seenBy fateOf sum isNilOr0 withRegister popped settled concluded started written called forked sent operated stepped inserted modify lastOr childOf endBefore arrived after newest newestTo viewOf readAt advanced begun moved delivered moveAt stepAt readIn isFree question14 question15 refusalUnder runUnder runOf lowest chosenFrom plainOrder objectRecord historyRecord replyRecord objectsShown historiesShown replyShown bytesOf ordersShown entryRefusal cleared answerOf timetabled plain
 examples = record { order = refl; session-w = refl; empty-file = refl; place = refl; largest = refl }

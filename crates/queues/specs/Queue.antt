@@ -1,9 +1,10 @@
 -- The forks of each level, kept in words: `forkWords` for each, `maxManagers` of them for each level. Assumes nothing.
 -- The number of levels n, which says how many write stamps a fork carries, is a parameter: contracts hold for any n, up to 8 where a row is
 -- made. A fork that starts is not moved: only the count of those that started grows.
--- Laws: a fork is read back from its row (`proofs/Laws/Row`: `root-row`, `child-row`); a child's stamp by a shift (`Stamp`: `child-is`);
--- the first that waits and those behind it (`Queue`: `forks-first`, `rises-behind`); which fork is dropped (`dropped-roomy`,
--- `dropped-started`, `dropped-last`), and that its arrival changes nothing (`dropped-arrives`).
+-- Laws: a fork is read back from its row (`proofs/Laws/Row`: `root-row`, `child-row`); a child's stamp by a shift (`Stamp`: `child-is`), and
+-- whether a fork holds back another manager (`holds-whole`, `holds-is`); the first that waits and those behind it (`Queue`: `forks-first`,
+-- `rises-behind`); which fork is dropped (`dropped-roomy`, `dropped-started`, `dropped-last`), and that its arrival changes nothing
+-- (`dropped-arrives`).
 use Prim.Native.Nat.{ℕ, _+_, _*_, _-_, _%_, _^_, _≤_, _<_, min}
 use mathlib.Core.Path.{_≡_}
 use mathlib.Core.Bool.{Bool, _&&_}

@@ -14,7 +14,8 @@ use Rattle.scripts.specs.State.{Manager}
 use Rattle.words.specs.Fields.{fieldAt, knownAt}
 use Rattle.model.specs.Level.{idle}
 use Rattle.model.specs.Step.{State, levelAt}
-use Rattle.model.specs.Schedule.{question14, Leads}
+use Rattle.model.specs.Schedule.{Leads}
+use Rattle.model.specs.Rules.{conservative}
 use Rattle.tallies.specs.Places.{waitingPlace, busyPlace}
 use Rattle.level_managers.specs.Representation.{Words, RunInvariant, placed}
 use Rattle.level_managers.specs.Steps.{foundIn}
@@ -27,7 +28,7 @@ pub record Draining (s : List ℕ) (from : State) (w : Words) (l : ℕ) (m : Man
   pub leads : Leads (programOf s) from list state
   pub invariant : (ms : ℕ → Manager) → RunInvariant s w (placed l m ms) state
   pub others : (k : ℕ) → k < levelCount s → (k ≡ l → ⊥) → levelAt state k .activity ≡ idle
-  pub clear : question14 (programOf s) state l ≡ true
+  pub quiet : conservative (programOf s) state l ≡ true
 
 -- what is kept of the fields that the manager of level l has read at other levels is what it reads there
 abbrev pub KnownIsRead : List ℕ → Words → ℕ → List ℕ → Type 0

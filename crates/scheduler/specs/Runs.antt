@@ -16,7 +16,8 @@ use Rattle.scripts.specs.State.{Manager}
 use Rattle.model.specs.Limits.{workNumbers, resultBytes}
 use Rattle.model.specs.Level.{idle, hasManager}
 use Rattle.model.specs.Step.{State, levelAt}
-use Rattle.model.specs.Schedule.{initialState, finished, refused, stepRefusal, runOf, plainOrder, Leads}
+use Rattle.model.specs.Schedule.{initialState, finished, refused, refusalUnder, runOf, plainOrder, Leads}
+use Rattle.model.specs.Rules.{conservative}
 use Rattle.model.specs.Result.{byNumber}
 use Rattle.model.specs.Entries.{answerOf}
 use Rattle.words.specs.Limits.{fieldWords}
@@ -73,9 +74,9 @@ Ends s ls w runEnd.Finished =
     (ms : ℕ → Manager) × ((st : State) × ((runOf (programOf s) (rootOf s) ls ≡ finished st) × Represents s w ms st))
 Ends s ls w (runEnd.Refused number place) = runOf (programOf s) (rootOf s) ls ≡ refused number place
 
--- a level may step, and no manager runs
+-- a level may step by the conservative rule, and no manager runs
 abbrev pub LevelReady : List ℕ → Words → ℕ → Type 0
-LevelReady s w level = (st : State) × (Quiescent s w st × (stepRefusal (programOf s) st level ≡ 0))
+LevelReady s w level = (st : State) × (Quiescent s w st × (refusalUnder conservative (programOf s) st level ≡ 0))
 
 -- allowed steps led from state st to one in which the level has no manager
 pub record LevelRun (s : List ℕ) (w : Words) (level : ℕ) (st : State) : Type 0 where
@@ -86,7 +87,7 @@ pub record LevelRun (s : List ℕ) (w : Words) (level : ℕ) (st : State) : Type
   pub no-manager : hasManager (levelAt state level) ≡ false
 
 pub record LevelDone (s : List ℕ) (w w' : Words) (level : ℕ) : Type 0 where
-  pub ran : (st : State) → Quiescent s w st → stepRefusal (programOf s) st level ≡ 0 → LevelRun s w' level st
+  pub ran : (st : State) → Quiescent s w st → refusalUnder conservative (programOf s) st level ≡ 0 → LevelRun s w' level st
   pub rest : SameRest (w .work) (w' .work)
 
 -- the words represent the state in which some list of scheduler steps of session s finishes

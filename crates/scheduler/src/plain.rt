@@ -1,4 +1,5 @@
-// The plain run: each scheduler step by the lowest-numbered level that may step.
+// The plain run. All lists of steps that finish give the same result, so its order is free: level after level
+// by the conservative rule, each until all its managers have ended.
 use level_managers::steps;
 use managers::Effect;
 use scripts::MAX_SCRIPT_STEPS;
@@ -68,8 +69,8 @@ fn run_next(
     }
 }
 
-// Makes the steps of a level that may step until all its managers have ended. Meanwhile no level with a
-// lower number may step: a fork goes to one that strictly dominates this one.
+// Makes the steps of a level that may step by the conservative rule until all its managers have ended. It may
+// until then: no level below it gets a manager, since a fork goes to one that strictly dominates this one.
 fn run_level(
     session: &[u8],
     masks: &[u16],

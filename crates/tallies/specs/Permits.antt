@@ -38,13 +38,14 @@ lowestOf masks tallies l =
     managed tallies l && all (length masks) (λ j. implies (strictly (dominates masks) l j) (not (managed tallies j)))
 
 -- the fork of the first manager of level j that has not ended
-abbrev pub firstAt : List ℕ → List ℕ → ℕ → Fork
-firstAt tallies queue j = forkAt 0 queue j (getD tallies j 0)
+abbrev pub firstAt : List ℕ → List ℕ → List ℕ → ℕ → Fork
+firstAt masks tallies queue j = forkAt (length masks) queue j (getD tallies j 0)
 
--- 14, asked of the first manager of each level; level l has one
+-- 14, asked of the first manager of each level that has one; level l has one
 abbrev pub freeOf : List ℕ → List ℕ → List ℕ → ℕ → Bool
 freeOf masks tallies queue l =
-    all (length masks) (λ j. implies (dominates masks l j && managed tallies j) (not (holdsBack (firstAt tallies queue j) (firstAt tallies queue l .stamp))))
+    all (length masks) (λ j.
+    implies (dominates masks l j && managed tallies j) (not (holdsBack (firstAt masks tallies queue j) (firstAt masks tallies queue l .stamp))))
 
 -- 15
 abbrev pub endedOf : List ℕ → List ℕ → Bool
@@ -65,4 +66,4 @@ pub record Askable (masks tallies queue : List ℕ) : Type 0 where
   pub countable : Countable masks tallies
   pub room : queueWords ≤ length queue
   pub placed : (j : ℕ) → j < length masks → managed tallies j ≡ true → getD tallies j 0 < maxManagers
-  pub shallow : (j : ℕ) → j < length masks → managed tallies j ≡ true → firstAt tallies queue j .depth ≤ stampDigits + 1
+  pub shallow : (j : ℕ) → j < length masks → managed tallies j ≡ true → firstAt masks tallies queue j .depth ≤ stampDigits + 1

@@ -116,10 +116,11 @@ fn is_free(masks: &[u16], tallies: &[usize], queue: &[u32], level: usize) -> boo
 {
     let stamp = queues::stamp_at(queue, level, tallies[level]);
     for j in 0..masks.len() {
-        if has_manager(tallies, j) && lattice::dominates(masks, level, j) {
-            if queues::holds_back(queue, j, tallies[j], stamp) {
-                return false;
-            }
+        if has_manager(tallies, j)
+            && lattice::dominates(masks, level, j)
+            && queues::holds_back(queue, j, tallies[j], stamp)
+        {
+            return false;
         }
     }
     true

@@ -31,7 +31,7 @@ use Rattle.model.specs.Fork.{Fork, childStamp}
 use Rattle.model.specs.Level.{idle, busy, hasManager}
 use Rattle.model.specs.Limits.{workNumbers}
 use Rattle.model.specs.Step.{State, levelAt, readAt, stepAt}
-use Rattle.model.specs.Schedule.{stepRefusal}
+use Rattle.model.specs.Schedule.{question14, stepRefusal}
 use Rattle.model.proofs.Laws.Code.Reached.{ReachedState}
 use Rattle.model.proofs.Laws.Code.Progress.{allowed}
 use Rattle.records.specs.Histories.{HistoryIs, HistoryRoom}
@@ -232,7 +232,7 @@ module _ (s masks index : List ℕ) (w : Words) (l : ℕ) (m : code.Manager) (a 
   few = level-limit s (accepted a)
 
   placed-here : (ms : ℕ → Manager) (st : State) → Stepping s w l m ms st → l < levelCount s
-  placed-here ms st q = unfold programOf in allowed (programOf s) st l (q .allowed) .0
+  placed-here ms st q = unfold programOf in allowed question14 (programOf s) st l (q .allowed) .0
 
   -- the numbers of the level are there
   pub counted-here : MayStep s w l m → (l < maxLevels) × (tallyNumbers ≤ length (w .tallies))
@@ -246,7 +246,7 @@ module _ (s masks index : List ℕ) (w : Words) (l : ℕ) (m : code.Manager) (a 
         represents-quiescent (levelCount s) w l (ms l) (levelAt st l) (q .invariant .represents .level l (placed-here ms st q)) z
 
     has-here : (ms : ℕ → Manager) (st : State) → Stepping s w l m ms st → hasManager (levelAt st l) ≡ true
-    has-here ms st q = allowed (programOf s) st l (q .allowed) .1 .0
+    has-here ms st q = allowed question14 (programOf s) st l (q .allowed) .1 .0
 
     pub start-here : MayStep s w l m → StartReady s index (w .ended) (w .tallies) (w .queue) l
     start-here (ms, (st, q)) =

@@ -1,5 +1,5 @@
 -- What each stage of a scheduler step asks for is there. Assumes nothing.
-use Prim.Native.Nat.{ℕ, _-_, _≤_, _<_}
+use Prim.Native.Nat.{ℕ, _≤_, _<_}
 use mathlib.Core.Path.{_≡_, refl, sym, _∙_, ap}
 use mathlib.Core.Bool.{true, not, _||_}
 use mathlib.Core.List.{List, [], _∷_}
@@ -24,22 +24,14 @@ use Rattle.model.specs.Level.{Activity, idle, busy, Level, isBusy, isEmpty, has
 use Rattle.model.specs.Step.{State, levelAt}
 use Rattle.model.proofs.Laws.Code.Reached.{ReachedState}
 use Rattle.model.proofs.Laws.Code.Needs.{live-startable, live-write, live-fork}
-use Rattle.queues.specs.Queue.{forkOfRow, forkAt}
+use Rattle.queues.specs.Queue.{forkAt}
+use Rattle.queues.proofs.Laws.Queue.{stamp-any, depth-any, message-any}
 use Rattle.tallies.specs.Places.{waitingPlace, versionsPlace, busyPlace}
 use Rattle.level_managers.specs.Representation.{Words, Runs, LevelRepresents, Roomy, Represents}
 use Rattle.level_managers.specs.Steps.{Parts, runningFork, EffectReady, EffectDone, SettleReady, StartReady}
 use Rattle.level_managers.proofs.Laws.Representation.{Limited, started-is, busy-fewer}
-use Rattle.level_managers.proofs.Laws.Settle.{stamp-any}
 use Rattle.level_managers.proofs.Laws.Begin.{first-fork}
 use Rattle.level_managers.proofs.Laws.Advance.{live-limited}
-
-depth-any : (n k : ℕ) (ws : List ℕ) (l i : ℕ) → forkAt n ws l i .depth ≡ forkAt k ws l i .depth
-unfolding forkAt forkOfRow
-depth-any n k ws l i = refl
-
-pub message-any : (n k : ℕ) (ws : List ℕ) (l i : ℕ) → forkAt n ws l i .message ≡ forkAt k ws l i .message
-unfolding forkAt forkOfRow
-message-any n k ws l i = refl
 
 -- whether a manager runs at a level, by what is counted
 module _ (n : ℕ) (w : Words) (l : ℕ) (m : Manager) (v : Level) (t : LevelRepresents n w l m v) where

@@ -21,17 +21,13 @@ use Rattle.model.specs.Level.{Activity, idle, busy, Level, isBusy, startedCount
 use Rattle.model.specs.Step.{State, levelAt}
 use Rattle.model.proofs.Laws.Invariant.Measure.{inserted-length}
 use Rattle.records.specs.Histories.{historiesAt, InOrder, historyOf}
-use Rattle.queues.specs.Queue.{forkOfRow, forkAt, forksAt}
+use Rattle.queues.specs.Queue.{forkAt, forksAt}
+use Rattle.queues.proofs.Laws.Queue.{stamp-any}
 use Rattle.tallies.specs.Places.{nextPlace, waitingPlace, versionsPlace, busyPlace, tallyNumbers, tallied}
 use Rattle.tallies.proofs.Laws.Closed.{tallied-length, tallied-other, tallied-count, tallied-next}
 use Rattle.level_managers.specs.Representation.{Words, Runs, LevelRepresents, Represents, placed}
 use Rattle.level_managers.specs.Steps.{Closed, Settled}
 use Rattle.level_managers.proofs.Laws.Representation.{Limited, SameAt, busy-fewer, field-kept, represents-change}
-
--- a fork's stamp, whatever the number of levels
-pub stamp-any : (n k : ℕ) (ws : List ℕ) (l i : ℕ) → forkAt n ws l i .stamp ≡ forkAt k ws l i .stamp
-unfolding forkAt forkOfRow
-stamp-any n k ws l i = refl
 
 -- a level after a step, by whether its manager runs on
 abbrev pub runningOn : Level → Fork → Manager → Level

@@ -30,6 +30,20 @@ pub stamp-key : (n : ℕ) (row : List ℕ) → forkOfRow n row .stamp ≡ keyOf 
 unfolding forkOfRow
 stamp-key n row = refl
 
+-- a fork's stamp, depth and message, whatever the number of levels
+module _ (n k : ℕ) (ws : List ℕ) (l i : ℕ) where
+  pub stamp-any : forkAt n ws l i .stamp ≡ forkAt k ws l i .stamp
+  unfolding forkAt forkOfRow
+  stamp-any = refl
+
+  pub depth-any : forkAt n ws l i .depth ≡ forkAt k ws l i .depth
+  unfolding forkAt forkOfRow
+  depth-any = refl
+
+  pub message-any : forkAt n ws l i .message ≡ forkAt k ws l i .message
+  unfolding forkAt forkOfRow
+  message-any = refl
+
 -- one row of a level: its words, and the place of the next; the rows from it on
 module _ (ws : List ℕ) (l i : ℕ) where
   word-is : (k : ℕ) → k < forkWords → getD (rowAt ws (forkPlace l i) forkWords) k 0 ≡ getD ws (forkPlace l i + k) 0

@@ -1,5 +1,5 @@
--- A level that may step is run until it has no manager. Assumes nothing.
-use Prim.Native.Nat.{ℕ, _+_, _-_, _<_}
+-- A level that may step by the conservative rule is run until it has no manager. Assumes nothing.
+use Prim.Native.Nat.{ℕ, _<_}
 use mathlib.Core.Path.{_≡_, refl, sym, _∙_}
 use mathlib.Core.Bool.{true, false}
 use mathlib.Core.List.{List, [], _∷_, _++_}
@@ -13,10 +13,11 @@ use Rattle.session.specs.declared.Verdict.the-variants.{Accepted}
 use Rattle.scripts.specs.State.{Manager}
 use Rattle.model.specs.Level.{idle, Level, hasManager}
 use Rattle.model.specs.Step.{State, levelAt, stepAt}
-use Rattle.model.specs.Schedule.{stepRefusal}
+use Rattle.model.specs.Schedule.{refusalUnder, stepRefusal}
+use Rattle.model.specs.Rules.{conservative}
 use Rattle.model.proofs.Laws.Order.Accepted.{sound}
 use Rattle.model.proofs.Laws.Code.Reached.{ReachedState, present}
-use Rattle.model.proofs.Laws.Code.Progress.{allowed, refusal-none, unmanaged-idle, activity-stays, clear-stays, leads-none, leads-more}
+use Rattle.model.proofs.Laws.Code.Progress.{allowed, refusal-none, unmanaged-idle, activity-stays, quiet-stays, still-allowed, leads-none, leads-more}
 use Rattle.level_managers.specs.Representation.{Words, LevelRepresents, RunInvariant, placed}
 use Rattle.tallies.specs.Permits.{managed}
 use Rattle.scheduler.specs.Runs.{Quiescent, SameRest, LevelReady, LevelRun, LevelDone}
@@ -31,7 +32,7 @@ represents-placed : (n : ℕ) (w : Words) (l : ℕ) (m m' : Manager) (v : Level)
 represents-placed n w l m m' v e t = rw (sym e) t
 
 module _ (s : List ℕ) (a : verdictOf s ≡ Accepted) (l : ℕ) (h : l < levelCount s) where
-  pub drain-start : (from : State) (w : Words) (m : Manager) → Quiescent s w from → stepRefusal (programOf s) from l ≡ 0 → Draining s from w l m
+  pub drain-start : (from : State) (w : Words) (m : Manager) → Quiescent s w from → refusalUnder conservative (programOf s) from l ≡ 0 → Draining s from w l m
   drain-start from w m r ok =
       record {
         state = from;
@@ -39,7 +40,7 @@ module _ (s : List ℕ) (a : verdictOf s ≡ Accepted) (l : ℕ) (h : l < levelC
         leads = leads-none (programOf s) from;
         invariant = λ ms. r .invariant (placed l m ms);
         others = λ k hk d. r .idle-all k hk;
-        clear = allowed (programOf s) from l ok .1 .1;
+        quiet = allowed conservative (programOf s) from l ok .1 .1;
       }
 
   module _ (from : State) (w : Words) (m : Manager) (g : Draining s from w l m) where
@@ -60,7 +61,8 @@ module _ (s : List ℕ) (a : verdictOf s ≡ Accepted) (l : ℕ) (h : l < levelC
     module _ (e : managed (w .tallies) l ≡ true) where
       pub drain-allowed : stepRefusal (programOf s) st l ≡ 0
       drain-allowed =
-          refusal-none (programOf s) st l (lt-ltb l (programOf s .levels) (present s l h)) (sym drain-has ∙ e) (g .clear)
+          still-allowed s a st drain-live l
+          (refusal-none conservative (programOf s) st l (lt-ltb l (programOf s .levels) (present s l h)) (sym drain-has ∙ e) (g .quiet))
 
       twice : (r : Manager) (ms : ℕ → Manager) (k : ℕ) → placed l r ms k ≡ placed l r (placed l m ms) k
       twice r ms k = elim (ℕ-discrete k l) [
@@ -77,7 +79,7 @@ module _ (s : List ℕ) (a : verdictOf s ≡ Accepted) (l : ℕ) (h : l < levelC
             leads = leads-more (programOf s) from (g .list) st l (g .leads) drain-allowed;
             invariant = λ ms. invariant-held s w' (placed l r (placed l m ms)) (placed l r ms) (stepAt (programOf s) l st) (twice r ms) (invariant ms);
             others = λ k hk z. activity-stays (programOf s) (sound s a) st (drain-live .reachable .steady .fork-invariant) l k (present s l h) z ∙ g .others k hk z;
-            clear = clear-stays (programOf s) (sound s a) st (drain-live .reachable .steady .fork-invariant) l l (present s l h) (g .clear) drain-allowed;
+            quiet = quiet-stays (programOf s) (sound s a) st (drain-live .reachable .steady .fork-invariant) l l (present s l h) (g .quiet) (present s l h) (sym drain-has ∙ e);
           }
 
       pub drain-on-state : (w' : Words) (r : Manager) (invariant : (ms : ℕ → Manager) → RunInvariant s w' (placed l r (placed l m ms)) (stepAt (programOf s) l st)) → drain-on w' r invariant .state ≡ stepAt (programOf s) l st
@@ -119,12 +121,11 @@ module _ (s : List ℕ) (a : verdictOf s ≡ Accepted) (l : ℕ) (h : l < levelC
                 level = λ k hk. represents-idle (levelCount s) w k (placed l m ms k) (ms k) (levelAt st k) (idle-all k hk) (y .represents .level k hk);
               };
               reached = y .reached;
-              clear = y .clear;
             }
 
 -- the loop of a level: what it leads to from every state that the words represented at its start
 pub record LevelLoop (s : List ℕ) (w₀ w : Words) (l : ℕ) (m : Manager) : Type 0 where
-  pub drains : (st : State) → Quiescent s w₀ st → stepRefusal (programOf s) st l ≡ 0 → Draining s st w l m
+  pub drains : (st : State) → Quiescent s w₀ st → refusalUnder conservative (programOf s) st l ≡ 0 → Draining s st w l m
   pub rest : SameRest (w₀ .work) (w .work)
   pub current-long : length (w .current) ≡ length (w₀ .current)
   pub ended-long : length (w .ended) ≡ length (w₀ .ended)
@@ -135,7 +136,7 @@ pub record LevelLoop (s : List ℕ) (w₀ w : Words) (l : ℕ) (m : Manager) : T
 module _ (s : List ℕ) (a : verdictOf s ≡ Accepted) (w₀ : Words) (l : ℕ) (q : LevelReady s w₀ l) where
   ready-present : l < levelCount s
   unfolding programOf
-  ready-present = allowed (programOf s) (q .0) l (q .1 .1) .0
+  ready-present = allowed conservative (programOf s) (q .0) l (q .1 .1) .0
 
   pub level-start : (m : Manager) → LevelLoop s w₀ w₀ l m
   level-start m =

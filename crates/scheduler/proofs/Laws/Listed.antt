@@ -30,14 +30,14 @@ use Rattle.managers.specs.declared.Manager as code
 use Rattle.managers.specs.declared.Effect.the-variants as act
 use Rattle.model.specs.Limits.{maxSchedule}
 use Rattle.model.specs.Step.{State, stepAt}
-use Rattle.model.specs.Schedule.{initialState, finished, stepRefusal, runFrom, runOf}
+use Rattle.model.specs.Schedule.{initialState, finished, question14, stepRefusal, runFrom, runOf}
 use Rattle.model.proofs.Laws.Order.Accepted.{sound}
 use Rattle.model.proofs.Laws.Order.PlainRun.{read-in-total}
 use Rattle.model.proofs.Laws.Invariant.Bounded.{total, step-less}
 use Rattle.model.proofs.Laws.Code.Progress.{allowed, run-made, run-stops, run-ends, run-unended}
-use Rattle.tallies.specs.Places.{busyPlace, clearPlace, tallyNumbers}
+use Rattle.tallies.specs.Places.{busyPlace, tallyNumbers}
 use Rattle.level_managers.specs.Representation.{Words, RunInvariant, placed}
-use Rattle.tallies.specs.Permits.{numberOfPermit, busyIn, endedOf, permitOf, noted, Countable}
+use Rattle.tallies.specs.Permits.{numberOfPermit, busyIn, endedOf, permitOf, Askable}
 use Rattle.level_managers.specs.Steps.{Tables, IsBusy, ReadReady, Answered, PerformReady, SettleReady, StepDone, StartReady, Started}
 use Rattle.scheduler.specs.Runs.{Quiescent, SameRest, endOf, Ends}
 use Rattle.scheduler.specs.declared.RunEnd.{RunEnd}
@@ -48,12 +48,12 @@ use Rattle.level_managers.proofs.Laws.Settle.{placed-own, placed-other}
 use Rattle.level_managers.proofs.Laws.Step.{invariant-live, represents-held}
 use Rattle.level_managers.proofs.Laws.Script.{Blank, Fresh, ScriptStep, able, step-made, asks-busy, asks-represents, again-able, again-forgets, again-made}
 use Rattle.level_managers.proofs.Laws.Made.{Stepping, MayStep, StepRepresented, Advancing, start-here, start-done, busy-here, done-performs, done-settles, step-represented}
-use Rattle.level_managers.proofs.Laws.Asked.{asked-is, ended-is, wordsNoted, noted-invariant}
+use Rattle.level_managers.proofs.Laws.Asked.{askable, asked-is, ended-is}
 
 -- the same managers, one by one
 pub invariant-held : (s : List ℕ) (w : Words) (ms ms' : ℕ → Manager) (st : State) → ((k : ℕ) → ms' k ≡ ms k) → RunInvariant s w ms st → RunInvariant s w ms' st
 invariant-held s w ms ms' st e y =
-    record { represents = represents-held s w ms ms' st e (y .represents); reached = y .reached; clear = y .clear }
+    record { represents = represents-held s w ms ms' st e (y .represents); reached = y .reached }
 
 -- a manager, where it does not matter which: none runs
 pub anyManager : Manager
@@ -163,10 +163,10 @@ module _ (s : List ℕ) (a : verdictOf s ≡ Accepted) (few : levelCount s ≤ m
         next = sym (g .run) ∙ ap (λ xs. runFrom i (programOf s) xs (g .state)) (drop-cons ls i 0 h)
 
         -- a step that is not permitted
-        pub steps-made-stops : (p : Permit) → p ≡ permitOf masks (w .tallies) l → (p ≡ Given → ⊥) → Ends s ls w (runEnd.Refused (numberOfPermit p) i)
+        pub steps-made-stops : (p : Permit) → p ≡ permitOf masks (w .tallies) (w .queue) l → (p ≡ Given → ⊥) → Ends s ls w (runEnd.Refused (numberOfPermit p) i)
         steps-made-stops p e d =
             next
-            ∙ run-stops i (programOf s) l (drop (suc i) ls) (g .state) (numberOfPermit p) (sym (asked-is s masks table long w ms (g .state) (g .invariant) l) ∙ ap numberOfPermit (sym e)) (none p d)
+            ∙ run-stops i (programOf s) l (drop (suc i) ls) (g .state) (numberOfPermit p) (sym (asked-is s masks a few table long w ms (g .state) (g .invariant) l) ∙ ap numberOfPermit (sym e)) (none p d)
           where
             none : (p : Permit) → (p ≡ Given → ⊥) → numberOfPermit p ≡ 0 → ⊥
             none Given d q = d refl
@@ -175,22 +175,21 @@ module _ (s : List ℕ) (a : verdictOf s ≡ Accepted) (few : levelCount s ≤ m
             none Blocked d q = omega (arith, q)
 
         -- one that is
-        module _ (e : permitOf masks (w .tallies) l ≡ Given) where
+        module _ (e : permitOf masks (w .tallies) (w .queue) l ≡ Given) where
           pub steps-made-allowed : stepRefusal (programOf s) (g .state) l ≡ 0
-          steps-made-allowed = sym (asked-is s masks table long w ms (g .state) (g .invariant) l) ∙ ap numberOfPermit e
+          steps-made-allowed = sym (asked-is s masks a few table long w ms (g .state) (g .invariant) l) ∙ ap numberOfPermit e
 
           pub steps-made-present : l < levelCount s
           unfolding programOf
-          steps-made-present = allowed (programOf s) (g .state) l steps-made-allowed .0
+          steps-made-present = allowed question14 (programOf s) (g .state) l steps-made-allowed .0
 
-          pub steps-made-may : (m : code.Manager) → ms l ≡ managerOf m → Stepping s (wordsNoted w l) l m ms (g .state)
-          steps-made-may m is =
-              record { invariant = noted-invariant s w ms (g .state) l few (g .invariant) steps-made-allowed; allowed = steps-made-allowed; held = is }
+          pub steps-made-may : (m : code.Manager) → ms l ≡ managerOf m → Stepping s w l m ms (g .state)
+          steps-made-may m is = record { invariant = g .invariant; allowed = steps-made-allowed; held = is }
 
-          pub steps-made-step : (m : code.Manager) → ms l ≡ managerOf m → (w' : Words) (cache' : List ℕ) (r : code.Manager) → StepRepresented s l m (wordsNoted w l) w' cache' r → StepsMade s ls (suc i) w' (placed l (managerOf r) ms)
+          pub steps-made-step : (m : code.Manager) → ms l ≡ managerOf m → (w' : Words) (cache' : List ℕ) (r : code.Manager) → StepRepresented s l m w w' cache' r → StepsMade s ls (suc i) w' (placed l (managerOf r) ms)
           steps-made-step m is w' cache' r d =
               let live = invariant-live s a w ms (g .state) (g .invariant) in
-              let yes = allowed (programOf s) (g .state) l steps-made-allowed in
+              let yes = allowed question14 (programOf s) (g .state) l steps-made-allowed in
               record {
                 state = stepAt (programOf s) l (g .state);
                 invariant = d .invariant ms (g .state) (steps-made-may m is);
@@ -230,13 +229,6 @@ list-start {s} ls d {none} {w} y over r =
       work-long = refl;
     }
 
--- what is noted where a step is not permitted
-noted-refused : (p : Permit) (l : ℕ) (t : List ℕ) → (p ≡ Given → ⊥) → noted p l t ≡ t
-noted-refused Given l t e = absurd (e refl)
-noted-refused Absent l t e = refl
-noted-refused Idle l t e = refl
-noted-refused Blocked l t e = refl
-
 module _ {s masks : List ℕ} (y : Leveled s masks) {ls : List ℕ} {d : code.Manager} {w₀ w : Words} {managers : List code.Manager} {cache : List ℕ} {i : ℕ} (g : ListLoop s ls d w₀ w managers cache i) where
   few : levelCount s ≤ maxLevels
   few = level-limit s (y .accepted)
@@ -244,8 +236,8 @@ module _ {s masks : List ℕ} (y : Leveled s masks) {ls : List ℕ} {d : code.Ma
   long : length masks ≡ levelCount s
   long = ap length (y .masks-are) ∙ masks-length s (y .accepted)
 
-  pub list-counted : Countable masks (w .tallies)
-  list-counted = record { few = omega (arith, long, few); room = g .steps-made .invariant .represents .roomy .tallies }
+  pub list-askable : Askable masks (w .tallies) (w .queue)
+  list-askable = askable s masks (y .accepted) few (y .masks-are) long w (heldIn managers d) (g .steps-made .state) (g .steps-made .invariant)
 
   pub list-fits : i < 2 ^ 32
   list-fits = steps-made-fits s (y .accepted) few ls i w (heldIn managers d) (g .steps-made)
@@ -261,78 +253,56 @@ module _ {s masks : List ℕ} (y : Leveled s masks) {ls : List ℕ} {d : code.Ma
             rw (q, z) (steps-made-unended s (y .accepted) few ls i w (heldIn managers d) (g .steps-made) masks (y .masks-are) long e z)
       ]
 
-  module _ (h : i < length ls) {p : Permit} (e : p ≡ permitOf masks (w .tallies) (getD ls i 0)) {t : List ℕ} (n : t ≡ noted p (getD ls i 0) (w .tallies)) where
+  module _ (h : i < length ls) {p : Permit} (e : p ≡ permitOf masks (w .tallies) (w .queue) (getD ls i 0)) where
     -- the step is not permitted
     pub list-refused : (p ≡ Given → ⊥) → (w' : Words) {r : RunEnd} → r ≡ runEnd.Refused (numberOfPermit p) i → Ends s ls w' r
     list-refused z w' q =
         rw q (steps-made-stops s (y .accepted) few ls i w (heldIn managers d) (g .steps-made) masks (y .masks-are) long h p e z)
 
--- the next step is permitted, and that is noted in t
-pub record Permitted (s masks index ls : List ℕ) (d : code.Manager) (w₀ w : Words) (managers : List code.Manager) (cache : List ℕ) (i : ℕ) (t : List ℕ) : Type 0 where
+-- the next step is permitted
+pub record Permitted (s masks index ls : List ℕ) (d : code.Manager) (w₀ w : Words) (managers : List code.Manager) (cache : List ℕ) (i : ℕ) : Type 0 where
   pub read : Tables s masks index
   pub loop : ListLoop s ls d w₀ w managers cache i
   pub more : i < length ls
-  pub given : permitOf masks (w .tallies) (getD ls i 0) ≡ Given
-  pub noted-is : t ≡ noted Given (getD ls i 0) (w .tallies)
+  pub given : permitOf masks (w .tallies) (w .queue) (getD ls i 0) ≡ Given
 
-pub permitted : {s masks index ls : List ℕ} {d : code.Manager} {w₀ w : Words} {managers : List code.Manager} {cache : List ℕ} {i : ℕ} {t : List ℕ} {p : Permit} → Tables s masks index → ListLoop s ls d w₀ w managers cache i → i < length ls → p ≡ permitOf masks (w .tallies) (getD ls i 0) → t ≡ noted p (getD ls i 0) (w .tallies) → p ≡ Given → Permitted s masks index ls d w₀ w managers cache i t
-permitted {ls = ls} {w = w} {i = i} a g h e n z =
-    record {
-      read = a;
-      loop = g;
-      more = h;
-      given = sym e ∙ z;
-      noted-is = n ∙ ap (λ p. noted p (getD ls i 0) (w .tallies)) z;
-    }
+pub permitted : {s masks index ls : List ℕ} {d : code.Manager} {w₀ w : Words} {managers : List code.Manager} {cache : List ℕ} {i : ℕ} {p : Permit} → Tables s masks index → ListLoop s ls d w₀ w managers cache i → i < length ls → p ≡ permitOf masks (w .tallies) (w .queue) (getD ls i 0) → p ≡ Given → Permitted s masks index ls d w₀ w managers cache i
+permitted a g h e z = record { read = a; loop = g; more = h; given = sym e ∙ z }
 
-module _ {s masks index ls : List ℕ} {d : code.Manager} {w₀ w : Words} {managers : List code.Manager} {cache : List ℕ} {i : ℕ} {t : List ℕ} (g : Permitted s masks index ls d w₀ w managers cache i t) where
+module _ {s masks index ls : List ℕ} {d : code.Manager} {w₀ w : Words} {managers : List code.Manager} {cache : List ℕ} {i : ℕ} (g : Permitted s masks index ls d w₀ w managers cache i) where
   abbrev level : ℕ
   level = getD ls i 0
 
   abbrev m : code.Manager
   m = getD managers level d
 
-  abbrev noting : Words
-  noting = record { current = w .current; ended = w .ended; tallies = t; queue = w .queue; work = w .work }
-
   abbrev y : Leveled s masks
   y = g .read .leveled
-
-  same : noting ≡ wordsNoted w level
-  same =
-      ap (λ t. record { current = w .current; ended = w .ended; tallies = t; queue = w .queue; work = w .work }) (g .noted-is)
 
   pub list-present : level < maxLevels
   list-present =
       omega (arith, few y (g .loop), steps-made-present s (y .accepted) (few y (g .loop)) ls i w (heldIn managers d) (g .loop .steps-made) masks (y .masks-are) (long y (g .loop)) (g .more) (g .given))
 
-  pub list-numbers : (level < maxLevels) × (tallyNumbers ≤ length t)
-  list-numbers = (
-    list-present,
-    rw (g .noted-is, length-set (w .tallies) (clearPlace level) 1) (g .loop .steps-made .invariant .represents .roomy .tallies),
-  )
+  pub list-numbers : (level < maxLevels) × (tallyNumbers ≤ length (w .tallies))
+  list-numbers = (list-present, g .loop .steps-made .invariant .represents .roomy .tallies)
 
   there : level < length managers
   there = omega (arith, g .loop .managers-long, list-present)
 
-  stepping-at : {u : Words} → u ≡ wordsNoted w level → Stepping s u level m (heldIn managers d) (g .loop .steps-made .state)
-  stepping-at q =
-      rw q (steps-made-may s (y .accepted) (few y (g .loop)) ls i w (heldIn managers d) (g .loop .steps-made) masks (y .masks-are) (long y (g .loop)) (g .more) (g .given) m refl)
-
-  may : MayStep s noting level m
-  may = (heldIn managers d, (g .loop .steps-made .state, stepping-at same))
+  may : MayStep s w level m
+  may = (
+    heldIn managers d,
+    (g .loop .steps-made .state, steps-made-may s (y .accepted) (few y (g .loop)) ls i w (heldIn managers d) (g .loop .steps-made) masks (y .masks-are) (long y (g .loop)) (g .more) (g .given) m refl),
+  )
 
   fresh : Fresh s cache m
   fresh =
       record { held = g .loop .held level there; blank = g .loop .blank; there = rw (g .loop .cache-long) (omega arith) }
 
-  represented-at : {u w' : Words} {r : code.Manager} {cache' : List ℕ} → u ≡ wordsNoted w level → StepRepresented s level m u w' cache' r → StepRepresented s level m (wordsNoted w level) w' cache' r
-  represented-at q x = rw (sym q) x
-
   -- once the words represent the state after it, the next one's turn comes
-  again : {w' : Words} {cache' : List ℕ} {r : code.Manager} → StepRepresented s level m noting w' cache' r → length cache' ≡ length cache → length (w' .current) ≡ length (w .current) → length (w' .ended) ≡ length (w .ended) → length (w' .tallies) ≡ length t → length (w' .queue) ≡ length (w .queue) → length (w' .work) ≡ length (w .work) → ListLoop s ls d w₀ w' (set managers level r) cache' (i + 1)
+  again : {w' : Words} {cache' : List ℕ} {r : code.Manager} → StepRepresented s level m w w' cache' r → length cache' ≡ length cache → length (w' .current) ≡ length (w .current) → length (w' .ended) ≡ length (w .ended) → length (w' .tallies) ≡ length (w .tallies) → length (w' .queue) ≡ length (w .queue) → length (w' .work) ≡ length (w .work) → ListLoop s ls d w₀ w' (set managers level r) cache' (i + 1)
   again {w'} {cache'} {r} x c0 c1 c2 c3 c4 c5 =
-      let next = steps-made-step s (y .accepted) (few y (g .loop)) ls i w (heldIn managers d) (g .loop .steps-made) masks (y .masks-are) (long y (g .loop)) (g .more) (g .given) m refl w' cache' r (represented-at same x) in
+      let next = steps-made-step s (y .accepted) (few y (g .loop)) ls i w (heldIn managers d) (g .loop .steps-made) masks (y .masks-are) (long y (g .loop)) (g .more) (g .given) m refl w' cache' r x in
       record {
         steps-made = held next (heldIn (set managers level r) d) (held-set managers d level r there);
         low = omega (arith, g .more);
@@ -343,7 +313,7 @@ module _ {s masks index ls : List ℕ} {d : code.Manager} {w₀ w : Words} {mana
         rest = x .rest ∙ g .loop .rest;
         current-long = c1 ∙ g .loop .current-long;
         ended-long = c2 ∙ g .loop .ended-long;
-        tallies-long = c3 ∙ ap length (g .noted-is) ∙ length-set (w .tallies) (clearPlace level) 1 ∙ g .loop .tallies-long;
+        tallies-long = c3 ∙ g .loop .tallies-long;
         queue-long = c4 ∙ g .loop .queue-long;
         work-long = c5 ∙ g .loop .work-long;
       }
@@ -356,50 +326,50 @@ module _ {s masks index ls : List ℕ} {d : code.Manager} {w₀ w : Words} {mana
           rw (sym next-is) (steps-made-held s (y .accepted) (few y (g .loop)) ls (suc i) w' ms x ms' q)
 
   -- none runs at the level: one starts
-  module _ (z : busyIn t level ≡ false) where
-    none-busy : getD t (busyPlace level) 0 ≡ 0
-    none-busy = omega (arith, ltb-false 0 (getD t (busyPlace level) 0) z)
+  module _ (z : busyIn (w .tallies) level ≡ false) where
+    none-busy : getD (w .tallies) (busyPlace level) 0 ≡ 0
+    none-busy = omega (arith, ltb-false 0 (getD (w .tallies) (busyPlace level) 0) z)
 
-    pub list-starts : StartReady s index (w .ended) t (w .queue) level
-    list-starts = start-here s masks index noting level m (g .read) none-busy may
+    pub list-starts : StartReady s index (w .ended) (w .tallies) (w .queue) level
+    list-starts = start-here s masks index w level m (g .read) none-busy may
 
-    pub list-started : {ended' tallies' : List ℕ} {r : code.Manager} → Started s (w .ended) ended' t tallies' (w .queue) level (managerOf r) × WellFormed s r → length ended' ≡ length (w .ended) → length tallies' ≡ length t → ListLoop s ls d w₀ (record { current = w .current; ended = ended'; tallies = tallies'; queue = w .queue; work = w .work }) (set managers level r) cache (i + 1)
+    pub list-started : {ended' tallies' : List ℕ} {r : code.Manager} → Started s (w .ended) ended' (w .tallies) tallies' (w .queue) level (managerOf r) × WellFormed s r → length ended' ≡ length (w .ended) → length tallies' ≡ length (w .tallies) → ListLoop s ls d w₀ (record { current = w .current; ended = ended'; tallies = tallies'; queue = w .queue; work = w .work }) (set managers level r) cache (i + 1)
     list-started {ended'} {tallies'} {r} x c1 c2 =
-        again (start-done s masks index noting level m (g .read) none-busy cache ended' tallies' r (g .loop .blank) x) refl refl c1 c2 refl refl
+        again (start-done s masks index w level m (g .read) none-busy cache ended' tallies' r (g .loop .blank) x) refl refl c1 c2 refl refl
 
   -- m runs there: it makes a script step
-  module _ (z : busyIn t level ≡ true) where
-    advancing : Advancing s masks index noting level m
+  module _ (z : busyIn (w .tallies) level ≡ true) where
+    advancing : Advancing s masks index w level m
     advancing =
-        record { read = g .read; may = may; runs = λ e. omega (arith, e, ltb-true 0 (getD t (busyPlace level) 0) z) }
+        record { read = g .read; may = may; runs = λ e. omega (arith, e, ltb-true 0 (getD (w .tallies) (busyPlace level) 0) z) }
 
     pub list-able : Advanceable s masks index (w .current) cache m
     list-able = able (g .read) (busy-here advancing) fresh
 
     module _ {n : code.Manager} (x : Stepped s (w .current) cache m n) where
-      pub list-made : isAsking (n .core .effect) ≡ false → ScriptStep s noting level cache m n
+      pub list-made : isAsking (n .core .effect) ≡ false → ScriptStep s w level cache m n
       list-made q = step-made (g .read) (busy-here advancing) fresh x q
 
       -- n asks for a field
       module _ {o k : ℕ} (q : n .core .effect ≡ act.Read o k) where
-        pub list-reads : Leveled s masks × (IsBusy s noting level × ReadReady s cache o k)
+        pub list-reads : Leveled s masks × (IsBusy s w level × ReadReady s cache o k)
         list-reads =
             (y, (asks-busy (g .read) (busy-here advancing) fresh x q, asks-represents (g .read) (busy-here advancing) fresh x q))
 
-        module _ {cache' : List ℕ} (represents : Answered s noting cache cache' level o k) where
+        module _ {cache' : List ℕ} (represents : Answered s w cache cache' level o k) where
           pub list-able-represents : Advanceable s masks index (w .current) cache' n
           list-able-represents = again-able (g .read) (busy-here advancing) fresh x q represents
 
           pub list-forgets : FieldThere cache' o k
           list-forgets = again-forgets (g .read) (busy-here advancing) fresh x q represents
 
-          pub list-answered : {cache'' : List ℕ} {r : code.Manager} → Stepped s (w .current) cache' n r → Forgotten cache' cache'' o k → ScriptStep s noting level cache'' m r
+          pub list-answered : {cache'' : List ℕ} {r : code.Manager} → Stepped s (w .current) cache' n r → Forgotten cache' cache'' o k → ScriptStep s w level cache'' m r
           list-answered e forgotten = again-made (g .read) (busy-here advancing) fresh x q represents e forgotten
 
     -- what the step did outside is done
-    module _ {cache' : List ℕ} {r : code.Manager} (made : ScriptStep s noting level cache' m r) where
-      pub list-performs : PerformReady (w .current) t (w .queue) (w .work) level (r .core .first) (r .core .forks) (effectOf (r .core .effect)) × SettleReady (w .ended) t (w .queue) level
+    module _ {cache' : List ℕ} {r : code.Manager} (made : ScriptStep s w level cache' m r) where
+      pub list-performs : PerformReady (w .current) (w .tallies) (w .queue) (w .work) level (r .core .first) (r .core .forks) (effectOf (r .core .effect)) × SettleReady (w .ended) (w .tallies) (w .queue) level
       list-performs = (done-performs advancing made, done-settles advancing made)
 
-      pub list-done : {w' : Words} → StepDone noting w' level (r .core) → length cache' ≡ length cache → length (w' .current) ≡ length (w .current) → length (w' .ended) ≡ length (w .ended) → length (w' .tallies) ≡ length t → length (w' .queue) ≡ length (w .queue) → length (w' .work) ≡ length (w .work) → ListLoop s ls d w₀ w' (set managers level r) cache' (i + 1)
+      pub list-done : {w' : Words} → StepDone w w' level (r .core) → length cache' ≡ length cache → length (w' .current) ≡ length (w .current) → length (w' .ended) ≡ length (w .ended) → length (w' .tallies) ≡ length (w .tallies) → length (w' .queue) ≡ length (w .queue) → length (w' .work) ≡ length (w .work) → ListLoop s ls d w₀ w' (set managers level r) cache' (i + 1)
       list-done x = again (step-represented advancing made x)

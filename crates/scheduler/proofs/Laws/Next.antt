@@ -27,6 +27,7 @@ use Rattle.managers.specs.declared.Manager as code
 use Rattle.model.specs.Limits.{maxManagers}
 use Rattle.model.specs.Level.{idle, hasManager}
 use Rattle.model.specs.Step.{State, levelAt}
+use Rattle.model.specs.Rules.{conservative}
 use Rattle.model.proofs.Laws.Code.Progress.{allowed}
 use Rattle.tallies.specs.Places.{nextPlace, waitingPlace, busyPlace, tallyNumbers}
 use Rattle.level_managers.specs.Representation.{Words, Roomy, Runs, placed}
@@ -282,7 +283,7 @@ pub record Turns (s : List ℕ) (w₀ w : Words) (l : ℕ) : Type 0 where
 module _ (s : List ℕ) (a : verdictOf s ≡ Accepted) (w₀ : Words) (l : ℕ) (q : LevelReady s w₀ l) where
   there : l < levelCount s
   unfolding programOf
-  there = allowed (programOf s) (q .0) l (q .1 .1) .0
+  there = allowed conservative (programOf s) (q .0) l (q .1 .1) .0
 
   pub turns-small : l < maxLevels
   turns-small = omega (arith, there, level-limit s a)

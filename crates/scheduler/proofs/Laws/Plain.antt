@@ -5,7 +5,7 @@ use mathlib.Core.Bool.{true, false, cond}
 use mathlib.Core.List.{List, [], _∷_, _++_}
 use native.Mathlib.Decide.{ℕ-discrete}
 use native.Mathlib.Omega.{arith}
-use lib.ListN.{length, getD, set}
+use lib.ListN.{length, getD}
 use Rattle.lattice.proofs.Laws.Range.{not-both}
 use Rattle.session.specs.Limits.{maxLevels}
 use Rattle.session.specs.Parts.{levelCount, masksOf}
@@ -19,20 +19,18 @@ use Rattle.scripts.specs.Valid.{Leveled}
 use Rattle.model.specs.Limits.{maxManagers}
 use Rattle.model.specs.Level.{idle, Level, isBusy, hasManager}
 use Rattle.model.specs.Step.{State, levelAt, stepAt}
-use Rattle.model.specs.Schedule.{initialState, finished, question15, stepRefusal, runOf, Leads}
+use Rattle.model.specs.Schedule.{initialState, finished, question14, question15, refusalUnder, stepRefusal, runOf, Leads}
+use Rattle.model.specs.Rules.{conservative}
 use Rattle.model.proofs.Laws.Order.Accepted.{sound}
 use Rattle.model.proofs.Laws.Invariant.Measure.{left, cost}
 use Rattle.model.proofs.Laws.Invariant.Bounded.{total, step-less}
 use Rattle.model.proofs.Laws.Code.Reached.{ReachedState, live-step}
 use Rattle.model.proofs.Laws.Code.Progress.{allowed, all-ended, leads-none, leads-run}
-use Rattle.tallies.specs.Places.{clearPlace}
 use Rattle.level_managers.specs.Representation.{Words, RunInvariant}
-use Rattle.tallies.specs.Permits.{numberOfPermit, permitOf, noted, Countable, isGiven}
+use Rattle.tallies.specs.Permits.{lowestOf, Countable}
 use Rattle.scheduler.specs.Runs.{Quiescent, SameRest, LevelReady, LevelDone, Done}
-use Rattle.tallies.specs.declared.Permit.{Permit}
-use Rattle.tallies.specs.declared.Permit.the-variants.{Given, Absent, Idle, Blocked}
 use Rattle.level_managers.proofs.Laws.Step.{invariant-live}
-use Rattle.level_managers.proofs.Laws.Asked.{asked-is, wordsNoted, noted-invariant}
+use Rattle.level_managers.proofs.Laws.Asked.{lowest-allowed, lowest-refused}
 use Rattle.scheduler.proofs.Laws.Listed.{anyManager}
 
 -- the managers that the levels from i on, k of them, have room for still
@@ -80,9 +78,9 @@ leads-then p (l ∷ ls) ks st t u a b =
 module _ (s : List ℕ) (a : verdictOf s ≡ Accepted) where
   less : (st : State) → ReachedState s st → (l : ℕ) → stepRefusal (programOf s) st l ≡ 0 → (total (stepAt (programOf s) l st) < total st) × ReachedState s (stepAt (programOf s) l st)
   less st i l ok =
-      let yes = allowed (programOf s) st l ok in (
+      let yes = allowed question14 (programOf s) st l ok in (
         step-less (programOf s) (sound s a) st (i .reachable .steady .fork-invariant) (i .reachable .steady .bounded) l (yes .0) (yes .1 .0),
-        live-step s a st i l (unfold programOf in yes .0) (yes .1 .0),
+        live-step s a st i l (unfold programOf in yes .0) ok,
       )
 
   no-more : (ls : List ℕ) (st t : State) → ReachedState s st → Leads (programOf s) st ls t → total t ≤ total st
@@ -110,13 +108,13 @@ module _ (s : List ℕ) (a : verdictOf s ≡ Accepted) where
       let f = less st i k (q .0) in
       omega (arith, f .0, no-more ls (stepAt (programOf s) k st) t (f .1) (q .1))
 
--- allowed steps were made from the session as read in; no manager runs, and no level below this number may step
+-- allowed steps were made from the session as read in; no manager runs, and no level below this number may step by the conservative rule
 pub record Ran (s : List ℕ) (w : Words) (level : ℕ) : Type 0 where
   pub state : State
   pub list : List ℕ
   pub leads : Leads (programOf s) (initialState s) list state
   pub quiescent : Quiescent s w state
-  pub lower : (j : ℕ) → j < level → stepRefusal (programOf s) state j ≡ 0 → ⊥
+  pub lower : (j : ℕ) → j < level → refusalUnder conservative (programOf s) state j ≡ 0 → ⊥
 
 pub ran-start : (s : List ℕ) (w : Words) → Quiescent s w (initialState s) → Ran s w 0
 ran-start s w r =
@@ -128,57 +126,39 @@ ran-start s w r =
       lower = λ j h _. absurd (omega (arith, h));
     }
 
-module _ (s masks : List ℕ) (a : verdictOf s ≡ Accepted) (few : levelCount s ≤ maxLevels) (table : masks ≡ masksOf s) (long : length masks ≡ levelCount s) (w : Words) (level : ℕ) (g : Ran s w level) where
+module _ (s masks : List ℕ) (a : verdictOf s ≡ Accepted) (table : masks ≡ masksOf s) (long : length masks ≡ levelCount s) (w : Words) (level : ℕ) (g : Ran s w level) where
   abbrev st : State
   st = g .state
 
   abbrev represented : RunInvariant s w (λ _. anyManager) st
   represented = g .quiescent .invariant (λ _. anyManager)
 
-  refusal-is : (p : Permit) → p ≡ permitOf masks (w .tallies) level → numberOfPermit p ≡ stepRefusal (programOf s) st level
-  refusal-is p e = ap numberOfPermit e ∙ asked-is s masks table long w (λ _. anyManager) st represented level
-
   -- a level that may not step is passed
-  pub ran-skip : (p : Permit) → p ≡ permitOf masks (w .tallies) level → isGiven p ≡ false → Ran s w (level + 1)
-  ran-skip p e z =
+  pub ran-skip : level < length masks → lowestOf masks (w .tallies) level ≡ false → Ran s w (level + 1)
+  ran-skip h z =
       record { state = st; list = g .list; leads = g .leads; quiescent = g .quiescent; lower = lower }
     where
-      none : (p : Permit) → isGiven p ≡ false → numberOfPermit p ≡ 0 → ⊥
-      none Given z q = not-both true refl z
-      none Absent z q = omega (arith, q)
-      none Idle z q = omega (arith, q)
-      none Blocked z q = omega (arith, q)
+      own : (j : ℕ) → j ≡ level → refusalUnder conservative (programOf s) st j ≡ 0 → ⊥
+      own j q o =
+          lowest-refused s masks table long w (λ _. anyManager) st (represented .represents) level h z (ap (refusalUnder conservative (programOf s) st) (sym q) ∙ o)
 
-      own : (j : ℕ) → j ≡ level → stepRefusal (programOf s) st j ≡ 0 → ⊥
-      own j q o = none p z (refusal-is p e ∙ ap (stepRefusal (programOf s) st) (sym q) ∙ o)
-
-      lower : (j : ℕ) → j < level + 1 → stepRefusal (programOf s) st j ≡ 0 → ⊥
+      lower : (j : ℕ) → j < level + 1 → refusalUnder conservative (programOf s) st j ≡ 0 → ⊥
       lower j h o = elim (ℕ-discrete j level) [
         | yes q ↦ own j q o
         | no q ↦ g .lower j (omega (arith, h, q)) o
       ]
 
   -- one that may step is run
-  module _ (p : Permit) (e : p ≡ permitOf masks (w .tallies) level) (z : isGiven p ≡ true) where
-    given : (p : Permit) → isGiven p ≡ true → numberOfPermit p ≡ 0
-    given Given z = refl
-    given Absent z = absurd (not-both false z refl)
-    given Idle z = absurd (not-both false z refl)
-    given Blocked z = absurd (not-both false z refl)
+  module _ (h : level < length masks) (z : lowestOf masks (w .tallies) level ≡ true) where
+    ran-allowed : refusalUnder conservative (programOf s) st level ≡ 0
+    ran-allowed = lowest-allowed s masks table long w (λ _. anyManager) st (represented .represents) level h z
 
-    pub ran-allowed : stepRefusal (programOf s) st level ≡ 0
-    ran-allowed = sym (refusal-is p e) ∙ given p z
+    pub ran-ready : LevelReady s w level
+    ran-ready = (st, (g .quiescent, ran-allowed))
 
-    pub ran-quiescent : Quiescent s (wordsNoted w level) st
-    ran-quiescent =
-        record { invariant = λ ms. noted-invariant s w ms st level few (g .quiescent .invariant ms) ran-allowed; idle-all = g .quiescent .idle-all }
-
-    pub ran-ready : LevelReady s (wordsNoted w level) level
-    ran-ready = (st, (ran-quiescent, ran-allowed))
-
-    pub ran-level : (w' : Words) → LevelDone s (wordsNoted w level) w' level → Ran s w' 0
+    pub ran-level : (w' : Words) → LevelDone s w w' level → Ran s w' 0
     ran-level w' d =
-        let r = d .ran st ran-quiescent ran-allowed in
+        let r = d .ran st (g .quiescent) ran-allowed in
         record {
           state = r .state;
           list = g .list ++ r .list;
@@ -197,11 +177,11 @@ module _ (s masks : List ℕ) (a : verdictOf s ≡ Accepted) (few : levelCount s
         zero-less j = omega arith
 
     -- and then there is room for fewer managers
-    pub ran-less : (w' : Words) → LevelDone s (wordsNoted w level) w' level → roomFrom (w' .tallies) 0 (length masks) < roomFrom (w .tallies) 0 (length masks)
+    pub ran-less : (w' : Words) → LevelDone s w w' level → roomFrom (w' .tallies) 0 (length masks) < roomFrom (w .tallies) 0 (length masks)
     ran-less w' d =
-        let r = d .ran st ran-quiescent ran-allowed in
+        let r = d .ran st (g .quiescent) ran-allowed in
         let live = invariant-live s a w (λ _. anyManager) st represented in
-        let f = fewer s a (r .list) st (r .state) level live (r .leads) (allowed (programOf s) st level ran-allowed .1 .0) (r .no-manager) in
+        let f = fewer s a (r .list) st (r .state) level live (r .leads) (allowed conservative (programOf s) st level ran-allowed .1 .0) (r .no-manager) in
         omega (arith, f, counted w st (g .quiescent), counted w' (r .state) (r .quiescent))
 
   -- where none may step all managers have ended
@@ -217,24 +197,6 @@ module _ (s masks : List ℕ) (a : verdictOf s ≡ Accepted) (few : levelCount s
 
       over : runOf (programOf s) (rootOf s) (g .list) ≡ finished st
       over = unfold runOf in leads-run 0 (programOf s) (initialState s) (g .list) st (g .leads) ended
-
--- what is noted of question 14, by the permit
-noted-given : (p : Permit) (l : ℕ) (t : List ℕ) → isGiven p ≡ true → noted p l t ≡ set t (clearPlace l) 1
-noted-given Given l t e = refl
-noted-given Absent l t e = absurd (not-both false e refl)
-noted-given Idle l t e = absurd (not-both false e refl)
-noted-given Blocked l t e = absurd (not-both false e refl)
-
-noted-refused : (p : Permit) (l : ℕ) (t : List ℕ) → isGiven p ≡ false → noted p l t ≡ t
-noted-refused Given l t e = absurd (not-both true refl e)
-noted-refused Absent l t e = refl
-noted-refused Idle l t e = refl
-noted-refused Blocked l t e = refl
-
--- words with other counts
-abbrev pub withTallies : Words → List ℕ → Words
-withTallies w t =
-    record { current = w .current; ended = w .ended; tallies = t; queue = w .queue; work = w .work }
 
 -- the loop over the levels
 pub record PlainLoop (s masks : List ℕ) (w₀ w : Words) (level : ℕ) : Type 0 where
@@ -279,64 +241,46 @@ module _ {s masks : List ℕ} (y : Leveled s masks) {w₀ w : Words} {level : �
       record { few = omega (arith, long, few); room = i .ran .quiescent .invariant (λ _. anyManager) .represents .roomy .tallies }
 
   pub plain-done : length masks ≤ level → Done s w
-  plain-done h = ran-end s masks a few (y .masks-are) long w level (i .ran) h
+  plain-done h = ran-end s masks a (y .masks-are) long w level (i .ran) h
 
-  module _ (h : level < length masks) {p : Permit} (e : p ≡ permitOf masks (w .tallies) level) {t : List ℕ} (n : t ≡ noted p level (w .tallies)) where
+  module _ (h : level < length masks) where
     -- a level that may not step
-    module _ (z : isGiven p ≡ false) where
-      same : t ≡ w .tallies
-      same = n ∙ noted-refused p level (w .tallies) z
+    module _ (z : lowestOf masks (w .tallies) level ≡ false) where
+      pub plain-skip : PlainLoop s masks w₀ w (level + 1)
+      plain-skip =
+          record {
+            ran = ran-skip s masks a (y .masks-are) long w level (i .ran) h z;
+            low = omega (arith, h);
+            rest = i .rest;
+            current-long = i .current-long;
+            ended-long = i .ended-long;
+            tallies-long = i .tallies-long;
+            queue-long = i .queue-long;
+            work-long = i .work-long;
+          }
 
-      pub plain-skip : PlainLoop s masks w₀ (withTallies w t) (level + 1)
-      plain-skip = by (sym same)
-        where
-          skipped : PlainLoop s masks w₀ w (level + 1)
-          skipped =
-              record {
-                ran = ran-skip s masks a few (y .masks-are) long w level (i .ran) p e z;
-                low = omega (arith, h);
-                rest = i .rest;
-                current-long = i .current-long;
-                ended-long = i .ended-long;
-                tallies-long = i .tallies-long;
-                queue-long = i .queue-long;
-                work-long = i .work-long;
-              }
-
-          by : {t : List ℕ} → w .tallies ≡ t → PlainLoop s masks w₀ (withTallies w t) (level + 1)
-          by q = rw (sym q) skipped
-
-      pub plain-skip-less : plainLeft masks t (level + 1) < plainLeft masks (w .tallies) level
-      plain-skip-less = rw same (omega (arith, h))
+      pub plain-skip-less : plainLeft masks (w .tallies) (level + 1) < plainLeft masks (w .tallies) level
+      plain-skip-less = omega (arith, h)
 
     -- one that may
-    module _ (z : isGiven p ≡ true) where
-      with-noted : withTallies w t ≡ wordsNoted w level
-      with-noted = ap (withTallies w) (n ∙ noted-given p level (w .tallies) z)
+    module _ (z : lowestOf masks (w .tallies) level ≡ true) where
+      pub plain-ready : LevelReady s w level
+      plain-ready = ran-ready s masks a (y .masks-are) long w level (i .ran) h z
 
-      ready-at : {u : Words} → u ≡ wordsNoted w level → LevelReady s u level
-      ready-at q = rw q (ran-ready s masks a few (y .masks-are) long w level (i .ran) p e z)
-
-      done-at : {u w' : Words} → u ≡ wordsNoted w level → LevelDone s u w' level → LevelDone s (wordsNoted w level) w' level
-      done-at q d = rw (sym q) d
-
-      pub plain-ready : LevelReady s (withTallies w t) level
-      plain-ready = ready-at with-noted
-
-      module _ {w' : Words} (d : LevelDone s (withTallies w t) w' level) where
+      module _ {w' : Words} (d : LevelDone s w w' level) where
         pub plain-less : plainLeft masks (w' .tallies) 0 < plainLeft masks (w .tallies) level
         plain-less =
-            omega (arith, h, long, few, ran-less s masks a few (y .masks-are) long w level (i .ran) p e z w' (done-at with-noted d))
+            omega (arith, h, long, few, ran-less s masks a (y .masks-are) long w level (i .ran) h z w' d)
 
-        pub plain-again : length (w' .current) ≡ length (w .current) → length (w' .ended) ≡ length (w .ended) → length (w' .tallies) ≡ length t → length t ≡ length (w .tallies) → length (w' .queue) ≡ length (w .queue) → length (w' .work) ≡ length (w .work) → PlainLoop s masks w₀ w' 0
-        plain-again c1 c2 c3 c4 c5 c6 =
+        pub plain-again : length (w' .current) ≡ length (w .current) → length (w' .ended) ≡ length (w .ended) → length (w' .tallies) ≡ length (w .tallies) → length (w' .queue) ≡ length (w .queue) → length (w' .work) ≡ length (w .work) → PlainLoop s masks w₀ w' 0
+        plain-again c1 c2 c3 c4 c5 =
             record {
-              ran = ran-level s masks a few (y .masks-are) long w level (i .ran) p e z w' (done-at with-noted d);
+              ran = ran-level s masks a (y .masks-are) long w level (i .ran) h z w' d;
               low = omega arith;
               rest = d .rest ∙ i .rest;
               current-long = c1 ∙ i .current-long;
               ended-long = c2 ∙ i .ended-long;
-              tallies-long = c3 ∙ c4 ∙ i .tallies-long;
-              queue-long = c5 ∙ i .queue-long;
-              work-long = c6 ∙ i .work-long;
+              tallies-long = c3 ∙ i .tallies-long;
+              queue-long = c4 ∙ i .queue-long;
+              work-long = c5 ∙ i .work-long;
             }

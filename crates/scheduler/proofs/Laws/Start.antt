@@ -4,7 +4,6 @@ use mathlib.Core.Path.{_≡_, refl, sym, _∙_, ap, ap₂}
 use mathlib.Core.List.{List, [], _++_}
 use native.Mathlib.Omega.{arith}
 use lib.ListN.{length, getD, set, drop, replicate, length-replicate, getD-replicate}
-use lib.Seq.{getD-set-other}
 use Rattle.session.specs.Limits.{maxLevels, maxMethods, fields}
 use Rattle.session.specs.Lists.{risingFrom}
 use Rattle.session.specs.Parts.{levelCount, objectCount}
@@ -31,10 +30,10 @@ use Rattle.queues.specs.Queue.{forkOfRow, RootRow, Room, Arrived}
 use Rattle.queues.proofs.Laws.Queue.{forks-none, rises-none}
 use Rattle.versions.specs.Log.{logStart}
 use Rattle.versions.proofs.Laws.Log.{log-none}
-use Rattle.tallies.specs.Places.{nextPlace, waitingPlace, versionsPlace, busyPlace, clearPlace, startTallies}
+use Rattle.tallies.specs.Places.{nextPlace, waitingPlace, versionsPlace, busyPlace, startTallies}
 use Rattle.level_managers.specs.Representation.{Words, LevelRepresents, Roomy, Represents}
 use Rattle.scheduler.specs.Runs.{Quiescent, Fresh, InitialWords}
-use Rattle.tallies.proofs.Laws.First.{first-ended, first-next, first-waiting, first-versions, first-busy, first-clear}
+use Rattle.tallies.proofs.Laws.First.{first-ended, first-next, first-waiting, first-versions, first-busy}
 use Rattle.level_managers.proofs.Laws.Representation.{Limited}
 use Rattle.level_managers.proofs.Laws.Arrive.{represents-arrive}
 use Rattle.level_managers.proofs.Laws.Advance.{represents-state}
@@ -145,19 +144,12 @@ module _ (s : List ℕ) (a : verdictOf s ≡ Accepted) where
           (came-first _ _ (omega (arith, ended-first level small, busy-first level small)) (waiting-first level small))
           refl)
 
-      -- question 14 has not yet said yes of any level
-      none-clear : (l : ℕ) → l < levelCount s → getD tallies (clearPlace l) 0 ≡ 0
-      none-clear l h =
-          getD-set-other (w .tallies) (waitingPlace level) (clearPlace l) count 0 (λ e. omega (arith, e, small))
-          ∙ at-first (clearPlace l) (first-clear l (omega (arith, h, level-limit s a)))
-
       quiescent-start : Quiescent s words (initialState s)
       quiescent-start =
           record {
             invariant = λ ms. record {
               represents = represents-start ms;
               reached = ([], leads-none (programOf s) (initialState s));
-              clear = λ l h n. absurd (n (none-clear l h));
             };
             idle-all = λ k h. start-idle k;
           }

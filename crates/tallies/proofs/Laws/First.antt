@@ -10,11 +10,11 @@ use lib.ListN.{getD, set, replicate}
 use Rattle.lattice.specs.Range.{all}
 use Rattle.lattice.proofs.Laws.Range.{all-each}
 use Rattle.session.specs.Limits.{maxLevels}
-use Rattle.tallies.specs.Places.{nextPlace, waitingPlace, versionsPlace, busyPlace, clearPlace, startTallies}
+use Rattle.tallies.specs.Places.{nextPlace, waitingPlace, versionsPlace, busyPlace, startTallies}
 
 -- what is counted, with the first write stamps of n levels
 abbrev pub firstStamps : ℕ → List ℕ
-firstStamps n = replicate maxLevels 0 ++ replicate n 1 ++ replicate (5 * maxLevels - n) 0
+firstStamps n = replicate maxLevels 0 ++ replicate n 1 ++ replicate (4 * maxLevels - n) 0
 
 pub stamps-more : (n : ℕ) → n < maxLevels → set (firstStamps n) (nextPlace n) 1 ≡ firstStamps (n + 1)
 stamps-more zero h = refl
@@ -45,6 +45,3 @@ first-versions = at-first versionsPlace 0 (unfold all in refl)
 
 pub first-busy : (l : ℕ) → l < maxLevels → getD startTallies (busyPlace l) 0 ≡ 0
 first-busy = at-first busyPlace 0 (unfold all in refl)
-
-pub first-clear : (l : ℕ) → l < maxLevels → getD startTallies (clearPlace l) 0 ≡ 0
-first-clear = at-first clearPlace 0 (unfold all in refl)

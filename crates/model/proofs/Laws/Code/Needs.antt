@@ -25,7 +25,7 @@ use Rattle.scripts.proofs.Laws.Valid.{stepped-present}
 use Rattle.model.specs.Limits.{maxManagers, stampDigits}
 use Rattle.model.specs.Fork.{Fork}
 use Rattle.model.specs.History.{endBefore}
-use Rattle.model.specs.Level.{Activity, idle, busy, Level, isBusy, startedCount}
+use Rattle.model.specs.Level.{Activity, idle, busy, Level, isBusy, forksOf, startedCount}
 use Rattle.model.specs.Step.{State, levelAt}
 use Rattle.model.proofs.Laws.Each.{Each, each-map}
 use Rattle.model.proofs.Laws.Invariant.Rank.{rank, rank-positive}
@@ -37,6 +37,7 @@ use Rattle.model.proofs.Laws.Invariant.Measure.{Bounded}
 use Rattle.model.proofs.Laws.Invariant.WriteStamps.{stampBy, writeStamp}
 use Rattle.model.proofs.Laws.Invariant.Versions.{Falling}
 use Rattle.model.proofs.Laws.Safe.Reads.{last-below}
+use Rattle.model.proofs.Laws.Safe.Asked.{first-entry}
 use Rattle.model.proofs.Laws.Order.Accepted.{sound}
 use Rattle.model.proofs.Laws.Code.Bounds.{Fits32, PacedBy, Paced}
 use Rattle.model.proofs.Laws.Code.Reached.{Sendable, Runs, ReachedState, present, next-paced, next-startable}
@@ -90,6 +91,13 @@ module _ (s : List ℕ) (a : verdictOf s ≡ Accepted) (st : State) (i : Reached
       low =
           stamp-low (levelAt st l .activity) (levelAt st l .next) (length (levelAt st l .ended)) (length (levelAt st l .versions)) (omega (arith, live-room)) paced
 
+  -- the fork of its first manager that has not ended is not too deep to have stamps
+  pub live-shallow : (x : Fork) (xs : List Fork) → forksOf (levelAt st l) ≡ x ∷ xs → x .depth ≤ stampDigits + 1
+  live-shallow x xs e =
+      let p = programOf s in
+      let a = first-entry (λ e. e .depth + rank (p .levels) (p .dom) l ≤ stampDigits + 1) l (levelAt st l) x xs e (i .reachable .steady .fork-invariant .grown .shallow l (present s l h)) in
+      omega (arith, a .depth, a .holds)
+
   -- the first fork that waits may start
   pub live-startable : (x : Fork) (xs : List Fork) → levelAt st l .waiting ≡ x ∷ xs → Startable s l (levelAt st l .next) (x .message)
   live-startable x xs e =
@@ -113,17 +121,17 @@ module _ (s : List ℕ) (a : verdictOf s ≡ Accepted) (st : State) (i : Reached
     entries : entriesIn st l ≡ runningEntry l x (m .forks) ∷ map (waitingEntry l) (levelAt st l .waiting)
     entries = ap (λ b. entriesBy l b (levelAt st l .waiting)) q
 
-    first-entry : (P : Entry → Type 0) → Each P (entriesIn st l) → P (runningEntry l x (m .forks))
-    first-entry P e = first-of P (runningEntry l x (m .forks)) (map (waitingEntry l) (levelAt st l .waiting)) (entriesIn st l) entries e
+    running-entry : (P : Entry → Type 0) → Each P (entriesIn st l) → P (runningEntry l x (m .forks))
+    running-entry P e = first-of P (runningEntry l x (m .forks)) (map (waitingEntry l) (levelAt st l .waiting)) (entriesIn st l) entries e
 
     shallow : x .depth ≤ stampDigits
     shallow =
         let p = programOf s in
-        omega (arith, first-entry (λ e. e .depth + rank (p .levels) (p .dom) l ≤ stampDigits + 1) (i .reachable .steady .fork-invariant .grown .shallow l (present s l h)), rank-positive (p .levels) (p .dom) (sound s a .lattice .order) l (present s l h))
+        omega (arith, running-entry (λ e. e .depth + rank (p .levels) (p .dom) l ≤ stampDigits + 1) (i .reachable .steady .fork-invariant .grown .shallow l (present s l h)), rank-positive (p .levels) (p .dom) (sound s a .lattice .order) l (present s l h))
 
     -- what it forks goes to another present level, and the child's stamp fits 32 bits
     pub live-fork : (read : ℕ → ℕ → Value) (u : ℕ) (message : Message) → stepped (programOf s) read m .effect ≡ effect.Fork u message → (u < levelCount s) × ((u ≡ l → ⊥) × ((x .depth ≤ stampDigits) × ((m .forks < maxForks) × (x .stamp + 16 ^ (stampDigits + 1 - x .depth) ≤ 2 ^ 32))))
     unfolding programOf
     live-fork read u message e =
         let f = subst (Fits (programOf s) m) e (fits read) in
-        (f .0, (λ t. other-level (programOf s) u (m .level) (f .1 .0) (live-runs .1 .0 ∙ sym t), (shallow, (f .1 .1, first-entry Fits32 (i .reachable .fits l (present s l h))))))
+        (f .0, (λ t. other-level (programOf s) u (m .level) (f .1 .0) (live-runs .1 .0 ∙ sym t), (shallow, (f .1 .1, running-entry Fits32 (i .reachable .fits l (present s l h))))))

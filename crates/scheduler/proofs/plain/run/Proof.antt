@@ -1,9 +1,8 @@
 -- `scheduler::plain::run` meets its contract. The invariant: allowed steps were made from the session as read in, no manager runs, and no
--- level before this one may step. Assumes nothing.
+-- level before this one may step by the conservative rule. Assumes nothing.
 use mathlib.Core.Path.{sym, _∙_}
 use native.Mathlib.Omega.{arith}
 use Rattle.scheduler.proofs.Laws.Plain.{PlainLoop, plainLeft, plain-start, plain-counted, plain-skip, plain-skip-less, plain-ready, plain-less, plain-again, plain-done}
-use borrow.Author.Needs.{needs}
 use Rattle.scheduler.proofs.plain.run.Statement.{statement}
 use Rattle.scheduler.proofs.plain.run.Tie as tie
 
@@ -20,49 +19,50 @@ loop-holds c =
     let z = c .before .before .before .before .before .before .before .before in
     plain-start (z .pre .1)
 
-ask-requires : tie.Need-ask-requires Inv-loop μ-loop
-ask-requires c κs =
-    let z = c .before .before .before .before .before .before .before .before .before .before .before in
-    let l = c .before .before .loop in
-    plain-counted (z .pre .0 .leveled) (l .inv)
-
-is-given-requires : tie.Need-is-given-requires Inv-loop μ-loop
-is-given-requires c κs = search needs
+is-lowest-requires : tie.Need-is-lowest-requires Inv-loop μ-loop
+is-lowest-requires c κs =
+    let l = c .before .before in
+    let z = l .before .before .before .before .before .before .before .before .before in
+    (plain-counted (z .pre .0 .leveled) (l .loop .inv), c .before .loop-test .taken)
 
 run-level-requires : tie.Need-run-level-requires Inv-loop μ-loop
 run-level-requires c κs =
-    let z = c .before .before .before .before .before .before .before .before .before .before .before .before .before .before .before .before .before .before .before .before .before in
-    let l = c .before .before .before .before .before .before .before .before .before .before .before .before .loop in
-    (z .pre .0, plain-ready (z .pre .0 .leveled) (l .inv) (c .before .before .before .before .before .before .before .before .before .before .before .loop-test .taken) (c .before .before .before .before .before .before .before .before .before .ask .ensures .0) (c .before .before .before .before .before .before .before .before .before .ask .ensures .1) (sym (c .before .before .before .before .before .before .is-given .ensures) ∙ c .before .before .before .before .before .if1 .taken))
+    let f = c .before .before .before .before .before in
+    let l = f .before .before .before .before in
+    let z = l .before .before .before .before .before .before .before .before .before in
+    (z .pre .0, plain-ready (z .pre .0 .leveled) (l .loop .inv) (f .before .before .before .loop-test .taken) (sym (f .before .is-lowest .ensures) ∙ f .if1 .taken))
 
 loop-less : tie.Need-loop-less Inv-loop μ-loop
 loop-less c =
-    let z = c .before .before .before .before .before .before .before .before .before .before .before .before .before .before .before .before .before .before .before .before .before .before .before .before .before .before .before .before .before .before .before .before in
-    let l = c .before .before .before .before .before .before .before .before .before .before .before .before .before .before .before .before .before .before .before .before .before .before .before .loop in
-    let r = c .before .before .before .before .before .before .before .before .before .before .run-level in
-    plain-less (z .pre .0 .leveled) (l .inv) (c .before .before .before .before .before .before .before .before .before .before .before .before .before .before .before .before .before .before .before .before .before .before .loop-test .taken) (c .before .before .before .before .before .before .before .before .before .before .before .before .before .before .before .before .before .before .before .before .ask .ensures .0) (c .before .before .before .before .before .before .before .before .before .before .before .before .before .before .before .before .before .before .before .before .ask .ensures .1) (sym (c .before .before .before .before .before .before .before .before .before .before .before .before .before .before .before .before .before .is-given .ensures) ∙ c .before .before .before .before .before .before .before .before .before .before .before .before .before .before .before .before .if1 .taken) (r .ensures)
+    let r = c .before .before .before .before .before .before .before .before .before .before in
+    let f = r .before .before .before .before .before .before in
+    let l = f .before .before .before .before in
+    let z = l .before .before .before .before .before .before .before .before .before in
+    plain-less (z .pre .0 .leveled) (l .loop .inv) (f .before .before .before .loop-test .taken) (sym (f .before .is-lowest .ensures) ∙ f .if1 .taken) (r .run-level .ensures)
 
 loop-again : tie.Need-loop-again Inv-loop μ-loop
 loop-again c =
-    let z = c .before .before .before .before .before .before .before .before .before .before .before .before .before .before .before .before .before .before .before .before .before .before .before .before .before .before .before .before .before .before .before .before in
-    let l = c .before .before .before .before .before .before .before .before .before .before .before .before .before .before .before .before .before .before .before .before .before .before .before .loop in
-    let r = c .before .before .before .before .before .before .before .before .before .before .run-level in
-    plain-again (z .pre .0 .leveled) (l .inv) (c .before .before .before .before .before .before .before .before .before .before .before .before .before .before .before .before .before .before .before .before .before .before .loop-test .taken) (c .before .before .before .before .before .before .before .before .before .before .before .before .before .before .before .before .before .before .before .before .ask .ensures .0) (c .before .before .before .before .before .before .before .before .before .before .before .before .before .before .before .before .before .before .before .before .ask .ensures .1) (sym (c .before .before .before .before .before .before .before .before .before .before .before .before .before .before .before .before .before .is-given .ensures) ∙ c .before .before .before .before .before .before .before .before .before .before .before .before .before .before .before .before .if1 .taken) (r .ensures) (r .kept .1 .1 .1 .0) (r .kept .1 .1 .1 .1 .0) (r .kept .1 .1 .1 .1 .1 .0) (c .before .before .before .before .before .before .before .before .before .before .before .before .before .before .before .before .before .before .before .before .ask .kept .1 .0) (r .kept .1 .1 .1 .1 .1 .1 .0) (r .kept .1 .1 .1 .1 .1 .1 .1 .0)
+    let r = c .before .before .before .before .before .before .before .before .before .before in
+    let f = r .before .before .before .before .before .before in
+    let l = f .before .before .before .before in
+    let z = l .before .before .before .before .before .before .before .before .before in
+    let k = r .run-level .kept in
+    plain-again (z .pre .0 .leveled) (l .loop .inv) (f .before .before .before .loop-test .taken) (sym (f .before .is-lowest .ensures) ∙ f .if1 .taken) (r .run-level .ensures) (k .1 .1 .1 .0) (k .1 .1 .1 .1 .0) (k .1 .1 .1 .1 .1 .0) (k .1 .1 .1 .1 .1 .1 .0) (k .1 .1 .1 .1 .1 .1 .1 .0)
 
 add-level : tie.Need-add-level Inv-loop μ-loop
-add-level c = omega (arith, c .before .before .before .before .before .before .loop-test .taken)
+add-level c = omega (arith, c .before .before .before .loop-test .taken)
 
 loop-less-2 : tie.Need-loop-less-2 Inv-loop μ-loop
 loop-less-2 c =
-    let z = c .before .before .before .before .before .before .before .before .before .before .before .before .before .before .before .before in
-    let l = c .before .before .before .before .before .before .before .loop in
-    plain-skip-less (z .pre .0 .leveled) (l .inv) (c .before .before .before .before .before .before .loop-test .taken) (c .before .before .before .before .ask .ensures .0) (c .before .before .before .before .ask .ensures .1) (sym (c .before .is-given .ensures) ∙ c .if1 .left)
+    let l = c .before .before .before .before in
+    let z = l .before .before .before .before .before .before .before .before .before in
+    plain-skip-less (z .pre .0 .leveled) (l .loop .inv) (c .before .before .before .loop-test .taken) (sym (c .before .is-lowest .ensures) ∙ c .if1 .left)
 
 loop-again-2 : tie.Need-loop-again-2 Inv-loop μ-loop
 loop-again-2 c =
-    let z = c .before .before .before .before .before .before .before .before .before .before .before .before .before .before .before .before in
-    let l = c .before .before .before .before .before .before .before .loop in
-    plain-skip (z .pre .0 .leveled) (l .inv) (c .before .before .before .before .before .before .loop-test .taken) (c .before .before .before .before .ask .ensures .0) (c .before .before .before .before .ask .ensures .1) (sym (c .before .is-given .ensures) ∙ c .if1 .left)
+    let l = c .before .before .before .before in
+    let z = l .before .before .before .before .before .before .before .before .before in
+    plain-skip (z .pre .0 .leveled) (l .loop .inv) (c .before .before .before .loop-test .taken) (sym (c .before .is-lowest .ensures) ∙ c .if1 .left)
 
 same-length : tie.Need-same-length Inv-loop μ-loop
 same-length c = c .before .loop .inv .current-long
@@ -88,4 +88,4 @@ returns c =
 pub run-spec : {M : Type 1} → statement M
 run-spec =
     tie.close
-    (tie.spec Inv-loop μ-loop loop-holds ask-requires is-given-requires run-level-requires loop-less loop-again add-level loop-less-2 loop-again-2 same-length same-length-2 same-length-3 same-length-4 same-length-5 returns)
+    (tie.spec Inv-loop μ-loop loop-holds is-lowest-requires run-level-requires loop-less loop-again add-level loop-less-2 loop-again-2 same-length same-length-2 same-length-3 same-length-4 same-length-5 returns)

@@ -11,19 +11,18 @@ use types.Run.{OneOf, miss}
 use denote.Enum.Declared.{tagOf}
 use borrow.Author.Needs.{needs}
 use borrow.Author.Tests.{not-true, not-false}
-use Rattle.lattice.proofs.Laws.Range.{not-both}
 use Rattle.session.specs.declared.Value.the-variants.{Nil}
 use Rattle.scripts.specs.Ending.{isRunning}
 use Rattle.scripts.specs.declared.Ending.the-variants.{Running}
 use Rattle.managers.specs.declared.Effect.the-variants.{Nothing}
 use Rattle.managers.specs.declared.Manager.{Manager}
 use Rattle.level_managers.specs.Representation.{Words}
-use Rattle.tallies.specs.Permits.{isGiven}
+use Rattle.tallies.specs.Permits.{numberOfPermit}
 use Rattle.tallies.specs.declared.Permit.{Permit}
 use Rattle.tallies.specs.declared.Permit.the-variants.{Given, Absent, Idle, Blocked}
 use Rattle.tallies.proofs.Permit as permit
 use Rattle.scheduler.proofs.Laws.Asks.{asks-nothing}
-use Rattle.scheduler.proofs.Laws.Listed.{ListLoop, list-start, list-counted, list-fits, list-ends, list-refused, Permitted, permitted, list-present, list-numbers, list-starts, list-started, list-able, list-made, list-reads, list-able-represents, list-forgets, list-answered, list-performs, list-done}
+use Rattle.scheduler.proofs.Laws.Listed.{ListLoop, list-start, list-askable, list-fits, list-ends, list-refused, Permitted, permitted, list-present, list-numbers, list-starts, list-started, list-able, list-made, list-reads, list-able-represents, list-forgets, list-answered, list-performs, list-done}
 use Rattle.scheduler.proofs.timetable.run.Statement.{statement}
 use Rattle.scheduler.proofs.timetable.run.Tie as tie
 
@@ -49,9 +48,9 @@ none =
 -- a permit of another tag than the given one's
 not-given : (p : Permit) → OneOf (1 ∷ 2 ∷ 3 ∷ []) (tagOf permit.the-type p) → p ≡ Given → ⊥
 not-given Given h e = miss (1 ∷ 2 ∷ 3 ∷ []) 0 tt h
-not-given Absent h e = not-both (isGiven Given) refl (sym (ap isGiven e))
-not-given Idle h e = not-both (isGiven Given) refl (sym (ap isGiven e))
-not-given Blocked h e = not-both (isGiven Given) refl (sym (ap isGiven e))
+not-given Absent h e = omega (arith, ap numberOfPermit e)
+not-given Idle h e = omega (arith, ap numberOfPermit e)
+not-given Blocked h e = omega (arith, ap numberOfPermit e)
 
 -- the bytes of a manager
 abbrev managerBytes : ℕ
@@ -78,10 +77,9 @@ reached c =
     record { current = c .loop .current; ended = c .loop .ended; tallies = c .loop .tallies; queue = c .loop .queue; work = c .loop .work }
 
 -- a step that is permitted
-here : (c : tie.After-enum-told Inv-loop μ-loop) → Permitted (c .before .before .before .before .before .before .before .before .before .before .before .before .before .before .before .before .before .before .before .args .session .now) (c .before .before .before .before .before .before .before .before .before .before .before .before .before .before .before .before .before .before .before .args .masks .now) (c .before .before .before .before .before .before .before .before .before .before .before .before .before .before .before .before .before .before .before .args .index .now) (c .before .before .before .before .before .before .before .before .before .before .before .before .before .before .before .before .before .before .before .args .timetable .now) none (entry (c .before .before .before .before .before .before .before .before .before .before .before .before .before .before .before .before .before .before .before)) (reached (c .before .before .before .before .before .before .before .before)) (c .before .before .before .before .before .before .before .before .loop .managers) (c .before .before .before .before .before .before .before .before .loop .cache) (c .before .before .before .before .before .before .before .before .loop .i) (c .before .before .before .before .ask .last .1 .0)
+here : (c : tie.After-enum-told Inv-loop μ-loop) → Permitted (c .before .before .before .before .before .before .before .before .before .before .before .before .before .before .before .before .before .before .args .session .now) (c .before .before .before .before .before .before .before .before .before .before .before .before .before .before .before .before .before .before .args .masks .now) (c .before .before .before .before .before .before .before .before .before .before .before .before .before .before .before .before .before .before .args .index .now) (c .before .before .before .before .before .before .before .before .before .before .before .before .before .before .before .before .before .before .args .timetable .now) none (entry (c .before .before .before .before .before .before .before .before .before .before .before .before .before .before .before .before .before .before)) (reached (c .before .before .before .before .before .before .before)) (c .before .before .before .before .before .before .before .loop .managers) (c .before .before .before .before .before .before .before .loop .cache) (c .before .before .before .before .before .before .before .loop .i)
 here c =
-    let a = c .before .before .before .before .ask in
-    permitted (c .before .before .before .before .before .before .before .before .before .before .before .before .before .before .before .before .before .before .before .pre .0) (c .before .before .before .before .before .before .before .before .loop .inv) (c .before .before .before .before .before .before .before .loop-test .taken) (a .ensures .0) (a .ensures .1) (c .enum-told .given .1)
+    permitted (c .before .before .before .before .before .before .before .before .before .before .before .before .before .before .before .before .before .before .pre .0) (c .before .before .before .before .before .before .before .loop .inv) (c .before .before .before .before .before .before .loop-test .taken) (c .before .before .ask .ensures) (c .enum-told .given .1)
 
 none-requires : tie.Need-none-requires Inv-loop μ-loop
 none-requires c κs = search needs
@@ -97,40 +95,38 @@ cast-level : tie.Need-cast-level Inv-loop μ-loop
 cast-level c = omega (arith, c .shared-slice-known5 .given (c .before .before .loop .i))
 
 ask-requires : tie.Need-ask-requires Inv-loop μ-loop
-ask-requires c κs =
-    list-counted (c .before .before .before .before .before .before .before .before .before .before .before .before .before .before .pre .0 .leveled) (c .before .before .before .loop .inv)
+ask-requires c κs = list-askable (c .before .before .before .before .before .before .before .before .before .before .before .before .before .before .before .pre .0 .leveled) (c .before .before .before .before .loop .inv)
 
 enum-told : tie.Need-enum-told Inv-loop μ-loop
 enum-told c = search (needs, c .match .keys1)
 
 cast-refused-at : tie.Need-cast-refused-at Inv-loop μ-loop
 cast-refused-at c =
-    record { fits = list-fits (c .before .before .before .before .before .before .before .before .before .before .before .before .before .before .before .before .before .before .pre .0 .leveled) (c .before .before .before .before .before .before .before .loop .inv) }
+    record { fits = list-fits (c .before .before .before .before .before .before .before .before .before .before .before .before .before .before .before .before .before .pre .0 .leveled) (c .before .before .before .before .before .before .loop .inv) }
 
 refused-at-requires : tie.Need-refused-at-requires Inv-loop μ-loop
 refused-at-requires c κs = search needs
 
 same-length : tie.Need-same-length Inv-loop μ-loop
-same-length c = c .before .before .before .before .before .before .before .before .loop .inv .current-long
+same-length c = c .before .before .before .before .before .before .before .loop .inv .current-long
 
 same-length-2 : tie.Need-same-length-2 Inv-loop μ-loop
-same-length-2 c = c .before .before .before .before .before .before .before .before .loop .inv .ended-long
+same-length-2 c = c .before .before .before .before .before .before .before .loop .inv .ended-long
 
 same-length-3 : tie.Need-same-length-3 Inv-loop μ-loop
-same-length-3 c =
-    c .before .before .before .before .ask .kept .1 .0 ∙ c .before .before .before .before .before .before .before .before .loop .inv .tallies-long
+same-length-3 c = c .before .before .before .before .before .before .before .loop .inv .tallies-long
 
 same-length-4 : tie.Need-same-length-4 Inv-loop μ-loop
-same-length-4 c = c .before .before .before .before .before .before .before .before .loop .inv .queue-long
+same-length-4 c = c .before .before .before .before .before .before .before .loop .inv .queue-long
 
 same-length-5 : tie.Need-same-length-5 Inv-loop μ-loop
-same-length-5 c = c .before .before .before .before .before .before .before .before .loop .inv .work-long
+same-length-5 c = c .before .before .before .before .before .before .before .loop .inv .work-long
 
 returns : tie.Need-returns Inv-loop μ-loop
 returns c =
-    let a = c .before .before .before .before .ask in
-    let l = c .before .before .before .before .before .before .before .before .loop in
-    (list-refused (c .before .before .before .before .before .before .before .before .before .before .before .before .before .before .before .before .before .before .before .pre .0 .leveled) (l .inv) (c .before .before .before .before .before .before .before .loop-test .taken) (a .ensures .0) (a .ensures .1) (not-given (a .result) (c .before .match .keys2)) (record { current = l .current; ended = l .ended; tallies = a .last .1 .0; queue = l .queue; work = l .work }) (c .refused-at .ensures), l .inv .rest)
+    let a = c .before .before .ask in
+    let l = c .before .before .before .before .before .before .before .loop in
+    (list-refused (c .before .before .before .before .before .before .before .before .before .before .before .before .before .before .before .before .before .before .pre .0 .leveled) (l .inv) (c .before .before .before .before .before .before .loop-test .taken) (a .ensures) (not-given (a .result) (c .before .match .keys2)) (record { current = l .current; ended = l .ended; tallies = l .tallies; queue = l .queue; work = l .work }) (c .refused-at .ensures), l .inv .rest)
 
 is-busy-requires : tie.Need-is-busy-requires Inv-loop μ-loop
 is-busy-requires c κs = list-numbers (here (c .before))
@@ -169,7 +165,7 @@ array-copy-out-m c = list-present (here (c .before .before .before))
 
 slice-aggregate-step : tie.Need-slice-aggregate-step Inv-loop μ-loop
 slice-aggregate-step c =
-    search (needs, c .before .before .before .before .before .before .before .before .before .before .before .before .before .before .loop .inv .cache-long)
+    search (needs, c .before .before .before .before .before .before .before .before .before .before .before .before .before .loop .inv .cache-long)
 
 step-requires : tie.Need-step-requires Inv-loop μ-loop
 step-requires c κs =
@@ -180,7 +176,7 @@ enum-known-effect c = search needs
 
 slice-aggregate-answer-read : tie.Need-slice-aggregate-answer-read Inv-loop μ-loop
 slice-aggregate-answer-read c =
-    search (needs, c .before .before .before .before .before .before .before .before .before .before .before .before .before .before .before .before .before .before .before .before .before .before .before .before .before .loop .inv .cache-long)
+    search (needs, c .before .before .before .before .before .before .before .before .before .before .before .before .before .before .before .before .before .before .before .before .before .before .before .before .loop .inv .cache-long)
 
 answer-read-requires : tie.Need-answer-read-requires Inv-loop μ-loop
 answer-read-requires c κs =
@@ -188,7 +184,7 @@ answer-read-requires c κs =
 
 slice-aggregate-step-2 : tie.Need-slice-aggregate-step-2 Inv-loop μ-loop
 slice-aggregate-step-2 c =
-    search (needs, c .before .before .before .answer-read .kept .1 .1 .1 .1 .1 .1 .1 .0 ∙ c .before .before .before .before .before .before .before .before .before .before .before .before .before .before .before .before .before .before .before .before .before .before .before .before .before .before .before .before .before .loop .inv .cache-long)
+    search (needs, c .before .before .before .answer-read .kept .1 .1 .1 .1 .1 .1 .1 .0 ∙ c .before .before .before .before .before .before .before .before .before .before .before .before .before .before .before .before .before .before .before .before .before .before .before .before .before .before .before .before .loop .inv .cache-long)
 
 step-requires-2 : tie.Need-step-requires-2 Inv-loop μ-loop
 step-requires-2 c κs =
@@ -196,7 +192,7 @@ step-requires-2 c κs =
 
 slice-aggregate-forget : tie.Need-slice-aggregate-forget Inv-loop μ-loop
 slice-aggregate-forget c =
-    search (needs, c .before .before .before .before .before .answer-read .kept .1 .1 .1 .1 .1 .1 .1 .0 ∙ c .before .before .before .before .before .before .before .before .before .before .before .before .before .before .before .before .before .before .before .before .before .before .before .before .before .before .before .before .before .before .before .loop .inv .cache-long)
+    search (needs, c .before .before .before .before .before .answer-read .kept .1 .1 .1 .1 .1 .1 .1 .0 ∙ c .before .before .before .before .before .before .before .before .before .before .before .before .before .before .before .before .before .before .before .before .before .before .before .before .before .before .before .before .before .before .loop .inv .cache-long)
 
 cast-forget : tie.Need-cast-forget Inv-loop μ-loop
 cast-forget c = search needs
@@ -278,7 +274,7 @@ loop-again-3 c =
 
 at-end-requires : tie.Need-at-end-requires Inv-loop μ-loop
 at-end-requires c κs =
-    list-counted (c .before .before .before .before .before .before .before .before .before .before .before .before .before .pre .0 .leveled) (c .before .before .loop .inv)
+    list-askable (c .before .before .before .before .before .before .before .before .before .before .before .before .before .pre .0 .leveled) (c .before .before .loop .inv) .countable
 
 same-length-6 : tie.Need-same-length-6 Inv-loop μ-loop
 same-length-6 c = c .before .before .before .loop .inv .current-long
