@@ -62,6 +62,7 @@ events! {
     BeforeAncestor "step before an ancestor of its manager has ended",
     BeforeLater "step before one of larger fork stamp, at a level below, has ended",
     BeforeAside "step before one of smaller fork stamp, at a level not below, has ended",
+    AboveDropped "step above a level that dropped a fork of smaller stamp",
     HeldBack "timetable that question 14 refuses",
     HeldBackByWaiting "timetable that question 14 refuses for waiting managers alone",
     NilOfFork "NIL seen in place of a number sent to a fork",

@@ -12,6 +12,8 @@ pub struct Level {
     pub ended: Vec<History>,
     /// Forks that reached the level, kept or dropped.
     pub reached: usize,
+    /// The smallest fork stamp that was dropped. For the tally alone.
+    pub least_dropped: Option<u32>,
 }
 
 /// A manager that has not ended: it runs, or waits.

@@ -94,24 +94,24 @@ impl Scheduler<'_> {
         }
     }
 
-    /// Of which managers that have not ended question 14 does not ask.
+    /// Of what question 14 does not ask: which managers that have not ended, and
+    /// forks that were dropped.
     fn not_asked(&self, level: usize, next: Unended) -> Vec<Event> {
         let lattice = &self.session.lattice;
+        let is_below = |other: usize| lattice.strictly_dominates(level, other);
+        let is_before = |stamp: u32| stamp < next.fork_stamp;
         let others = self.levels.iter().flat_map(Level::unended);
-        others
-            .filter_map(|other| {
-                let is_below = lattice.strictly_dominates(level, other.level);
-                let is_before = other.fork_stamp < next.fork_stamp;
-                if next.has_ancestor(&other) {
-                    Some(Event::BeforeAncestor)
-                } else if is_below && !is_before {
-                    Some(Event::BeforeLater)
-                } else if is_before && !is_below {
-                    Some(Event::BeforeAside)
-                } else {
-                    None
-                }
-            })
-            .collect()
+        let left =
+            others.filter_map(
+                |other| match (is_below(other.level), is_before(other.fork_stamp)) {
+                    _ if next.has_ancestor(&other) => Some(Event::BeforeAncestor),
+                    (true, false) => Some(Event::BeforeLater),
+                    (false, true) => Some(Event::BeforeAside),
+                    _ => None,
+                },
+            );
+        let below = self.levels.iter().enumerate().filter(|(i, _)| is_below(*i));
+        let dropped = below.filter(|(_, level)| level.least_dropped.is_some_and(is_before));
+        left.chain(dropped.map(|_| Event::AboveDropped)).collect()
     }
 }

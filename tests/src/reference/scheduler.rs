@@ -207,6 +207,10 @@ impl World for Scheduler<'_> {
         } else {
             None
         };
+        if let Some(fork) = &dropped {
+            let least = level.least_dropped.get_or_insert(fork.stamp);
+            *least = fork.stamp.min(*least);
+        }
         if is_next {
             self.saw(Event::ThirtyThirdFork);
         }

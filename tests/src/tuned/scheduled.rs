@@ -35,26 +35,14 @@ pub fn run_timetable(
     result: &mut [u8],
 ) -> Answer {
     let mut scheduler = Scheduler::new(tables, work);
-    let mut running: [Option<Manager>; LEVELS_MAX] = [const { None }; LEVELS_MAX];
+    let mut running = [const { None }; LEVELS_MAX];
     for (position, &level) in timetable.iter().enumerate() {
-        // A manager that runs may step: it was not held back when it started, and
-        // what is forked below it from then on has larger stamps.
-        if let Some(Some(manager)) = running.get_mut(usize::from(level)) {
-            if let Some(ending) = manager.step(tables, &mut scheduler) {
-                scheduler.end(manager, ending);
-                running[usize::from(level)] = None;
-            }
-            continue;
-        }
-        let number = scheduler.refusal(level);
+        let Some(running) = running.get_mut(usize::from(level)) else {
+            return Answer::refused(12, position);
+        };
+        let number = scheduler.step(level, running);
         if number != 0 {
             return Answer::refused(number, position);
-        }
-        let manager = scheduler.start(level);
-        if manager.is_empty() {
-            scheduler.end(&manager, 0);
-        } else {
-            running[usize::from(level)] = Some(manager);
         }
     }
     if scheduler.active != 0 {
@@ -93,6 +81,31 @@ impl<'a> Scheduler<'a> {
         };
         scheduler.fork(tables.root_level(), Fork::root(tables));
         scheduler
+    }
+
+    /// A scheduler step, or the number of the question that refuses it.
+    #[inline]
+    fn step(&mut self, level: u8, running: &mut Option<Manager>) -> u32 {
+        // A manager that runs may step: it was not held back when it started, and
+        // what is forked below it from then on has larger stamps.
+        if let Some(manager) = running {
+            if let Some(ending) = manager.step(self.tables, self) {
+                self.end(manager, ending);
+                *running = None;
+            }
+            return 0;
+        }
+        let number = self.refusal(level);
+        if number != 0 {
+            return number;
+        }
+        let manager = self.start(level);
+        if manager.is_empty() {
+            self.end(&manager, 0);
+        } else {
+            *running = Some(manager);
+        }
+        0
     }
 
     /// What questions 12 to 14 say of a level where no manager runs.
