@@ -122,8 +122,8 @@ impl<'a> Scheduler<'a> {
     }
 
     /// Whether a manager below the level's next one has a smaller stamp and is no
-    /// ancestor. The first of each level tells: no other of its level has a smaller
-    /// stamp, or is an ancestor.
+    /// ancestor. The first of each level tells: the others come after it and all
+    /// that descend from it.
     fn is_held_back(&self, level: u8) -> bool {
         let stamp = self.first(level).stamp;
         let mut below = self.active & self.tables.strictly_dominated(level);
