@@ -120,7 +120,7 @@ impl Counts {
         report + &self.limits.report()
     }
 
-    /// What ought to have occurred and never did.
+    /// What ought to have occurred and did too rarely.
     pub fn missing(&self) -> Vec<String> {
         let calls = self.calls.iter().filter(|(_, &count)| count == 0);
         let clearances = self.clearances.iter().filter(|(_, &count)| count == 0);

@@ -1,4 +1,4 @@
-//! Tests of the library against an independent implementation of document 01.
+//! Tests of the library against an independent implementation of documents 01 and 02.
 
 pub mod clearances;
 pub mod counts;

@@ -1,4 +1,5 @@
-//! What is measured: four sessions and the four entries.
+//! What is measured: four sessions and the four entries, the timetabled run with
+//! two lists.
 
 use crate::library::{Answer, Library};
 use crate::limits::{PLACE_AND_COUNT_LENGTH, RESULT_LENGTH, WORK_LENGTH};
@@ -19,20 +20,24 @@ pub const SESSIONS: [(&str, &str, Fixed); 4] = [
 pub type Entry = fn(&dyn Library, &Case, &mut Buffers) -> u32;
 
 /// The entries by name.
-pub const ENTRIES: [(&str, Entry); 4] = [
+pub const ENTRIES: [(&str, Entry); 5] = [
     (CHECK, check),
     ("plain", plain),
     ("timetabled", timetabled),
+    ("timetabled-early", timetabled_early),
     ("depth-first", depth_first),
 ];
 
 /// The entry without result.
 pub const CHECK: &str = "check";
 
-/// A session, a finishing list and the clearance of its top level.
+/// A session, two finishing lists and the clearance of its top level.
 pub struct Case {
     pub session: Vec<u8>,
+    /// Each level steps when those below it are done.
     pub timetable: Vec<u8>,
+    /// Upper levels step as early as they may.
+    pub early: Vec<u8>,
     pub clearance: usize,
 }
 
@@ -42,7 +47,8 @@ impl Case {
         let session = Session::read(&bytes);
         let top = session.lattice.top();
         Case {
-            timetable: timetables::finishing(&mut Random::new(1), &session, &mut Tally::idle()),
+            timetable: timetables::conservative(&mut Random::new(1), &session, &mut Tally::idle()),
+            early: timetables::depth_first(&session),
             clearance: top.expect("levels with joins have a top"),
             session: bytes,
         }
@@ -92,9 +98,17 @@ fn plain(library: &dyn Library, case: &Case, lent: &mut Buffers) -> u32 {
 }
 
 fn timetabled(library: &dyn Library, case: &Case, lent: &mut Buffers) -> u32 {
+    run_timetable(library, case, &case.timetable, lent)
+}
+
+fn timetabled_early(library: &dyn Library, case: &Case, lent: &mut Buffers) -> u32 {
+    run_timetable(library, case, &case.early, lent)
+}
+
+fn run_timetable(library: &dyn Library, case: &Case, list: &[u8], lent: &mut Buffers) -> u32 {
     library.run_timetable(
         &case.session,
-        &case.timetable,
+        list,
         case.clearance,
         &mut lent.work,
         &mut lent.result,

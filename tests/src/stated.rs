@@ -1,5 +1,5 @@
-//! The cases M1 to M12 that document 01 states with their answers, and two with
-//! more than 65,536 bytes.
+//! The cases M1 to M12 that document 01 states with their answers, M5's as
+//! document 02 changes it, and two with more than 65,536 bytes.
 
 use crate::library::Answer;
 use crate::limits::*;
@@ -30,7 +30,7 @@ pub fn cases() -> Vec<(&'static str, Vector)> {
         ("M4", vector(w(), timetable(&[1], 0), refused(13, 0))),
         (
             "M5",
-            vector(w(), timetable(&[0, 0, 0, 1], 0), refused(14, 3)),
+            vector(w(), timetable(&[0, 0, 0, 1], 0), refused(15, 0)),
         ),
         ("M6", vector(w(), timetable(&m6, 0), refused(13, 12))),
         ("M7", vector(w(), timetable(&[0; 6], 0), refused(15, 0))),

@@ -1,6 +1,6 @@
-//! Counts how often each limit and each special case of document 01 occurs, and
-//! each case that the library treats apart, so that a test that never reaches one
-//! is noticed.
+//! Counts how often each limit and each special case of documents 01 and 02 occurs,
+//! and each case that the library treats apart, so that a test that reaches one too
+//! rarely is noticed.
 
 macro_rules! events {
     ($($name:ident $text:literal,)*) => {
@@ -57,6 +57,14 @@ events! {
     ReadByTheNext "field at another level found changed by a later manager of a level",
     ReplyLost "root ended with frames",
     Choice "scheduler step with several levels allowed",
+    EarlyStep "step of a timetable that the conservative rule refuses",
+    EarlyFinished "timetable that finishes, with a step that the conservative rule refuses",
+    BeforeAncestor "step before an ancestor of its manager has ended",
+    BeforeLater "step before one of larger fork stamp, at a level below, has ended",
+    BeforeAside "step before one of smaller fork stamp, at a level not below, has ended",
+    AboveDropped "step above a level that dropped a fork of smaller stamp",
+    HeldBack "timetable that question 14 refuses",
+    HeldBackByWaiting "timetable that question 14 refuses for waiting managers alone",
     NilOfFork "NIL seen in place of a number sent to a fork",
     NilOfSixteenth "NIL seen in place of a number sent to a 16th fork",
     NilOfInside "NIL seen in place of a number sent upward inside a manager",
@@ -64,6 +72,10 @@ events! {
     NilOfNinth "NIL seen in place of a number sent to a 9th frame",
     NilOfIncomparable "NIL seen in place of a number sent to an incomparable level",
 }
+
+/// What document 02 changes must occur in many sessions, all else in one.
+const FREQUENT: [Event; 2] = [Event::EarlyFinished, Event::HeldBack];
+const MANY: u64 = 1_000;
 
 /// How often each event occurred.
 #[derive(Clone)]
@@ -132,11 +144,15 @@ impl Totals {
             .collect()
     }
 
-    /// The names of the events that never occurred.
+    /// The names of the events that occurred in too few sessions.
     pub fn missing(&self) -> Vec<&'static str> {
-        let counts = self.sessions.counts.iter().zip(NAMES);
+        let mut least = vec![1; NAMES.len()];
+        for event in FREQUENT {
+            least[event as usize] = MANY;
+        }
+        let counts = self.sessions.counts.iter().zip(least).zip(NAMES);
         counts
-            .filter(|(&count, _)| count == 0)
+            .filter(|((&count, least), _)| count < *least)
             .map(|(_, &name)| name)
             .collect()
     }

@@ -1,4 +1,4 @@
-//! Random timetables of accepted sessions: allowed, spoiled and cut.
+//! Random timetables of accepted sessions: allowed, held back, spoiled and cut.
 
 use crate::random::Random;
 use crate::reference::{Scheduler, Session};
@@ -6,29 +6,101 @@ use crate::tally::{Event, Tally};
 
 /// An allowed list of scheduler steps in which all managers end.
 pub fn finishing(random: &mut Random, session: &Session, tally: &mut Tally) -> Vec<u8> {
-    // Small: the levels take turns often; large: rarely.
-    let patience = random.pick(&[1, 2, 8, 64]);
-    let mut list = Vec::new();
+    match random.below(4) {
+        0 => conservative(random, session, tally),
+        1 => depth_first(session),
+        _ => {
+            let mut turns = Turns::new(random, tally);
+            steps(session, |scheduler| turns.choose(&scheduler.allowed()))
+        }
+    }
+}
+
+/// Such a list in which each step passes the conservative rule.
+pub fn conservative(random: &mut Random, session: &Session, tally: &mut Tally) -> Vec<u8> {
+    let mut turns = Turns::new(random, tally);
+    steps(session, |scheduler| {
+        let mut levels = scheduler.with_managers();
+        levels.retain(|&level| scheduler.is_conservative(level));
+        turns.choose(&levels)
+    })
+}
+
+/// The order of the depth-first run: of the managers that have not ended the one
+/// of largest fork stamp steps. Upper levels step as early as they may.
+pub fn depth_first(session: &Session) -> Vec<u8> {
+    steps(session, |scheduler| {
+        let levels = scheduler.with_managers().into_iter();
+        levels.max_by_key(|&level| scheduler.next_stamp(level))
+    })
+}
+
+/// The steps that are chosen one after the other, until none is.
+fn steps(session: &Session, mut choose: impl FnMut(&Scheduler) -> Option<u8>) -> Vec<u8> {
     let mut unseen = Tally::idle();
     let mut scheduler = Scheduler::new(session, &mut unseen);
-    let mut last = None;
-    loop {
-        let allowed: Vec<u8> = scheduler.allowed().collect();
-        if allowed.is_empty() {
-            break;
-        }
-        let level = match last {
-            Some(level) if allowed.contains(&level) && !random.one_in(patience) => level,
-            _ => random.pick(&allowed),
-        };
-        if allowed.len() > 1 {
-            tally.saw(Event::Choice);
-        }
+    let mut list = Vec::new();
+    while let Some(level) = choose(&scheduler) {
         scheduler.step(level);
         list.push(level);
-        last = Some(level);
     }
     list
+}
+
+/// Levels that take turns at random.
+struct Turns<'a> {
+    random: &'a mut Random,
+    /// Small: they take turns often; large: rarely.
+    patience: usize,
+    last: Option<u8>,
+    tally: &'a mut Tally,
+}
+
+impl<'a> Turns<'a> {
+    fn new(random: &'a mut Random, tally: &'a mut Tally) -> Self {
+        Turns {
+            patience: random.pick(&[1, 2, 8, 64]),
+            random,
+            last: None,
+            tally,
+        }
+    }
+
+    /// One of the levels, if there are any.
+    fn choose(&mut self, levels: &[u8]) -> Option<u8> {
+        if levels.len() > 1 {
+            self.tally.saw(Event::Choice);
+        }
+        self.last = match self.last {
+            _ if levels.is_empty() => None,
+            Some(level) if levels.contains(&level) && !self.random.one_in(self.patience) => {
+                Some(level)
+            }
+            _ => Some(self.random.pick(levels)),
+        };
+        self.last
+    }
+}
+
+/// The allowed list with a step put in that question 14 refuses, at a random
+/// place or the next where there is one; none if there is none.
+pub fn held_back(random: &mut Random, session: &Session, list: &[u8]) -> Option<Vec<u8>> {
+    let mut unseen = Tally::idle();
+    let mut scheduler = Scheduler::new(session, &mut unseen);
+    let start = random.below(list.len());
+    for (place, &level) in list.iter().enumerate() {
+        if place >= start {
+            let mut levels = scheduler.with_managers();
+            levels.retain(|&level| scheduler.refusal(level) == Some(14));
+            if !levels.is_empty() {
+                let mut list = list.to_vec();
+                list.insert(place, random.pick(&levels));
+                return Some(list);
+            }
+        }
+        scheduler.step(level);
+    }
+    None
 }
 
 /// One byte of the list changed, inserted, removed or exchanged for the next, or

@@ -144,7 +144,6 @@ impl<'a> Trial<'a> {
         {
             return Err("runs of the reference differ".to_string());
         }
-        self.counts.limits.add(&tally);
         for clearance in session.lattice.levels() {
             let whole = self.runs_agree(bytes, clearance, &list)?;
             let expected = Outcome::finished(left.shown(&session, clearance));
@@ -155,7 +154,8 @@ impl<'a> Trial<'a> {
                 .map_err(|message| format!("clearance {clearance}: {message}"))?;
             self.tuned_agrees(bytes, clearance, &list, &expected)?;
         }
-        self.other_timetables(bytes, &session, &list)?;
+        self.other_timetables(bytes, &session, &list, &mut tally)?;
+        self.counts.limits.add(&tally);
         self.other_buffers(bytes, &session, &list)
     }
 
@@ -229,26 +229,37 @@ impl<'a> Trial<'a> {
             _ => Run::Timetabled(list.to_vec()),
         };
         let request = self.finishing(run, clearance);
-        let outcome = self.call(&Tuned, session, &request)?;
+        self.expect_of_tuned(session, &request, expected)
+    }
+
+    fn expect_of_tuned(
+        &mut self,
+        session: &[u8],
+        request: &Request,
+        expected: &Outcome,
+    ) -> Result<(), String> {
+        let outcome = self.call(&Tuned, session, request)?;
         let compared = outcome.compare(expected);
         compared.map_err(|message| format!("tuned variant: {message}\n{request:?}"))
     }
 
-    /// Spoiled and cut lists.
+    /// Lists that are cut, held back and spoiled.
     fn other_timetables(
         &mut self,
         bytes: &[u8],
         session: &Session,
         list: &[u8],
+        tally: &mut Tally,
     ) -> Result<(), String> {
         let levels = session.lattice.levels().len();
-        for i in 0..4 {
-            let timetable = match i {
-                0 => timetables::cut(&mut self.random, list),
-                _ => timetables::spoiled(&mut self.random, list, levels),
-            };
+        let mut timetables = vec![timetables::cut(&mut self.random, list)];
+        timetables.extend(timetables::held_back(&mut self.random, session, list));
+        for _ in 0..3 {
+            timetables.push(timetables::spoiled(&mut self.random, list, levels));
+        }
+        for timetable in timetables {
             let clearance = self.random.below(levels);
-            let expected = match reference::timetabled(session, &timetable, &mut Tally::idle()) {
+            let expected = match reference::timetabled(session, &timetable, tally) {
                 Ok(outcome) => Outcome::finished(outcome.shown(session, clearance)),
                 Err(refusal) => Outcome::refused(refusal),
             };
@@ -263,6 +274,7 @@ impl<'a> Trial<'a> {
                 lengths,
             };
             self.expect(bytes, &request, &expected)?;
+            self.expect_of_tuned(bytes, &request, &expected)?;
         }
         Ok(())
     }

@@ -1,6 +1,6 @@
 //! The recorded calls in vectors/, one a line after the session that they are
 //! about. Those in sharp.txt are small, and each tells wrong readings of
-//! document 01 from the right one.
+//! documents 01 and 02 from the right one.
 //!
 //!     session RECORDS
 //!     shows RECORDS

@@ -1,6 +1,7 @@
 //! Measures the library next to the reference and next to the tuned variant, in
 //! rounds that alternate between the two: check, plain, timetabled and depth-first
-//! run of session W, of a typical one and of largest ones. Prints a table.
+//! run of session W, of a typical one and of largest ones, the timetabled run also
+//! by a list in which upper levels step as early as they may. Prints a table.
 //! Argument: number of rounds (201).
 
 use lupinpause_tests::ffi::Compiled;

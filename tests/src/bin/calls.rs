@@ -1,6 +1,6 @@
 //! Makes calls of one entry, and nothing else: for counting instructions.
-//! Arguments: library, reference or tuned; check, plain, timetabled or
-//! depth-first; w, typical, forks or steps; number of calls.
+//! Arguments: library, reference or tuned; check, plain, timetabled,
+//! timetabled-early or depth-first; w, typical, forks or steps; number of calls.
 
 use lupinpause_tests::ffi::Compiled;
 use lupinpause_tests::library::Library;
@@ -15,7 +15,8 @@ fn main() -> ExitCode {
         Some(()) => ExitCode::SUCCESS,
         None => {
             eprintln!(
-                "library|reference|tuned check|plain|timetabled|depth-first \
+                "library|reference|tuned \
+                 check|plain|timetabled|timetabled-early|depth-first \
                  w|typical|forks|steps CALLS"
             );
             ExitCode::FAILURE

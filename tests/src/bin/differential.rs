@@ -1,8 +1,8 @@
 //! Compares the library with the reference: on the recorded vectors, on the
 //! stated cases, on fixed sessions and on generated ones, valid and damaged, with
 //! all three runs. Ends with a report of how often each answer, each length, each
-//! clearance, each broken rule and each limit occurred; if one never did, that is
-//! a failure, unless fewer sessions were asked for than by default.
+//! clearance, each broken rule and each limit occurred; if one occurred too rarely,
+//! that is a failure, unless fewer sessions were asked for than by default.
 //! Arguments: number of sessions of each sort (20000), seed (1), first case (0).
 
 use lupinpause_tests::counts::Counts;
@@ -25,7 +25,7 @@ use std::{env, fs, thread, time::Instant};
 const ENOUGH: u64 = 20_000;
 
 /// So many vectors are recorded.
-const VECTORS: usize = 2_411;
+const VECTORS: usize = 2_981;
 
 fn main() -> ExitCode {
     match run() {
@@ -62,7 +62,7 @@ fn run() -> Result<(), String> {
     if missing.is_empty() || count < ENOUGH {
         Ok(())
     } else {
-        Err(format!("never occurred: {}", missing.join("; ")))
+        Err(format!("occurred too rarely: {}", missing.join("; ")))
     }
 }
 

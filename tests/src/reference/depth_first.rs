@@ -1,7 +1,8 @@
 //! The depth-first run: a fork that is made and kept runs whole, forks
 //! included, before its sender continues. Fields are simply current.
 
-use super::manager::{Fork, Manager, World};
+use super::fork::Fork;
+use super::manager::{Manager, World};
 use super::outcome::Outcome;
 use super::session::Session;
 use crate::limits::*;

@@ -2,6 +2,7 @@
 //! from run to run is the `World`: where fields are kept and what a fork does.
 
 use super::filter::{filter, Delivery};
+use super::fork::{Ancestor, Fork};
 use super::session::Session;
 use crate::limits::*;
 use crate::record::{History, Operation, Value};
@@ -14,33 +15,6 @@ pub trait World {
     /// A fork that is made; the world keeps or drops it.
     fn fork(&mut self, fork: Fork);
     fn saw(&mut self, event: Event);
-}
-
-/// A manager to be: the message and what the fork carries.
-pub struct Fork {
-    pub level: usize,
-    pub stamp: u32,
-    /// How many forks deep: 0 for the root.
-    pub depth: u32,
-    /// The ancestors' levels, with the write stamp of each one's fork on the way.
-    pub ancestors: Vec<(usize, u32)>,
-    pub object: u8,
-    pub name: u8,
-    pub parameter: Value,
-}
-
-impl Fork {
-    pub fn root(session: &Session) -> Fork {
-        Fork {
-            level: session.root_level(),
-            stamp: 0,
-            depth: 0,
-            ancestors: Vec::new(),
-            object: session.root_object,
-            name: session.root_name,
-            parameter: session.root_parameter,
-        }
-    }
 }
 
 struct Frame {
@@ -58,7 +32,7 @@ struct Frame {
 pub struct Manager {
     pub level: usize,
     pub fork_stamp: u32,
-    pub ancestors: Vec<(usize, u32)>,
+    pub ancestors: Vec<Ancestor>,
     depth: u32,
     frames: Vec<Frame>,
     steps: u32,
@@ -334,7 +308,11 @@ impl Manager {
             world.saw(Event::FifteenthFork);
         }
         let mut ancestors = self.ancestors.clone();
-        ancestors.push((self.level, self.write_stamp));
+        ancestors.push(Ancestor {
+            level: self.level,
+            fork_stamp: self.fork_stamp,
+            write_stamp: self.write_stamp,
+        });
         self.write_stamp += 1;
         world.fork(Fork {
             level,

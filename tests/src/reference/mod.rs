@@ -1,12 +1,15 @@
-//! Document 01, written from its text and from nothing else: the check, and the
-//! timetabled, the plain and the depth-first run.
+//! Document 01 as document 02 changes it, written from the texts and from nothing
+//! else: the check, and the timetabled, the plain and the depth-first run.
 
 mod check;
 mod depth_first;
 mod filter;
+mod fork;
 mod lattice;
+mod level;
 mod manager;
 mod outcome;
+mod permits;
 mod runs;
 mod scheduler;
 mod session;

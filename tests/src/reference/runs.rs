@@ -17,6 +17,7 @@ pub fn timetabled(
 ) -> Result<Outcome, Answer> {
     let mut scheduler = Scheduler::new(session, tally);
     for (position, &byte) in timetable.iter().enumerate() {
+        scheduler.note_turn(byte);
         if let Some(number) = scheduler.refusal(byte) {
             return Err(Answer::refused(number, position));
         }
@@ -39,7 +40,8 @@ pub fn plain(session: &Session, tally: &mut Tally) -> Outcome {
 }
 
 fn lowest_allowed(scheduler: &Scheduler) -> Option<u8> {
-    scheduler.allowed().next()
+    let mut levels = scheduler.with_managers().into_iter();
+    levels.find(|&level| scheduler.refusal(level).is_none())
 }
 
 /// The depth-first run of an accepted session.

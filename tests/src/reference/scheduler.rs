@@ -1,11 +1,13 @@
 //! The level scheduler: managers that wait, run and end at each level, and the
 //! versions of the fields.
 
-use super::manager::{Fork, Manager, World};
+use super::fork::Fork;
+use super::level::Level;
+use super::manager::{Manager, World};
 use super::outcome::Outcome;
 use super::session::Session;
 use crate::limits::*;
-use crate::record::{History, Value};
+use crate::record::Value;
 use crate::tally::{Event, Tally};
 use std::collections::HashMap;
 
@@ -14,37 +16,19 @@ struct Version {
     value: Value,
 }
 
-#[derive(Default)]
-struct Level {
-    /// In stamp order.
-    waiting: Vec<Fork>,
-    running: Option<Manager>,
-    ended: Vec<History>,
-    /// Forks that reached the level, kept or dropped.
-    reached: usize,
-}
-
-impl Level {
-    fn has_manager(&self) -> bool {
-        self.running.is_some() || !self.waiting.is_empty()
-    }
-
-    /// Managers kept: waiting, running and ended.
-    fn kept(&self) -> usize {
-        self.waiting.len() + usize::from(self.running.is_some()) + self.ended.len()
-    }
-}
-
 pub struct Scheduler<'a> {
-    session: &'a Session,
-    levels: Vec<Level>,
+    pub(super) session: &'a Session,
+    pub(super) levels: Vec<Level>,
     /// The versions of each object's fields, oldest first.
     versions: Vec<[Vec<Version>; FIELDS]>,
     reply: Value,
     /// For a level, an object and a field of another level: the fork stamp of the
     /// manager that read it last, and what it read. For the tally alone.
     reads: HashMap<(usize, u8, u8), (u32, Value)>,
-    tally: &'a mut Tally,
+    /// Whether a step was made that the conservative rule refuses. For the tally
+    /// alone.
+    pub(super) is_early: bool,
+    pub(super) tally: &'a mut Tally,
 }
 
 impl<'a> Scheduler<'a> {
@@ -70,31 +54,9 @@ impl<'a> Scheduler<'a> {
                 .collect(),
             reply: None,
             reads: HashMap::new(),
+            is_early: false,
             tally,
         }
-    }
-
-    /// The number of the question, 12 to 14, that refuses a step, if any.
-    pub fn refusal(&self, byte: u8) -> Option<u32> {
-        let lattice = &self.session.lattice;
-        let level = usize::from(byte);
-        if level >= self.levels.len() {
-            return Some(12);
-        }
-        if !self.levels[level].has_manager() {
-            return Some(13);
-        }
-        let mut below = lattice
-            .levels()
-            .filter(|&lower| lattice.strictly_dominates(level, lower));
-        below
-            .any(|lower| self.levels[lower].has_manager())
-            .then_some(14)
-    }
-
-    /// The levels that may step, by rising number.
-    pub fn allowed(&self) -> impl Iterator<Item = u8> + use<'_, 'a> {
-        (0..self.levels.len() as u8).filter(|&level| self.refusal(level).is_none())
     }
 
     pub fn all_ended(&self) -> bool {
@@ -142,9 +104,9 @@ impl<'a> Scheduler<'a> {
         if level == reader.level {
             return u32::MAX;
         }
-        let ancestor = reader.ancestors.iter().find(|(l, _)| *l == level);
-        if let Some((_, write_stamp)) = ancestor {
-            return *write_stamp;
+        let mut ancestors = reader.ancestors.iter();
+        if let Some(ancestor) = ancestors.find(|ancestor| ancestor.level == level) {
+            return ancestor.write_stamp;
         }
         let earlier = self.levels[level].ended.iter();
         let last = earlier
@@ -172,6 +134,9 @@ impl<'a> Scheduler<'a> {
     /// What all managers, once ended, have left.
     pub fn outcome(self) -> Outcome {
         let tally = self.tally;
+        if self.is_early {
+            tally.saw(Event::EarlyFinished);
+        }
         for level in &self.levels {
             if level.reached == KEPT_MAX {
                 tally.saw(Event::ThirtyTwoForks);
@@ -197,8 +162,8 @@ impl World for Scheduler<'_> {
             .expect("version 0 is always there");
         let value = versions[position].value;
         if position + 1 < versions.len() {
-            let is_ancestor = reader.ancestors.iter().any(|(l, _)| *l == level);
-            if is_ancestor {
+            let mut ancestors = reader.ancestors.iter();
+            if ancestors.any(|ancestor| ancestor.level == level) {
                 self.saw(Event::OlderAtAncestor);
             } else {
                 self.saw(Event::OlderElsewhere);
@@ -242,6 +207,10 @@ impl World for Scheduler<'_> {
         } else {
             None
         };
+        if let Some(fork) = &dropped {
+            let least = level.least_dropped.get_or_insert(fork.stamp);
+            *least = fork.stamp.min(*least);
+        }
         if is_next {
             self.saw(Event::ThirtyThirdFork);
         }

@@ -59,7 +59,8 @@ fn watched_up(scene: &mut Scene, level: usize) -> Vec<Operation> {
 }
 
 /// A level that 31 to 34 forks reach, or many more: from the root, and with
-/// smaller stamps but later from the root's forks at a level between.
+/// smaller stamps but later from the root's forks at a level between. The root's
+/// last fork may be above that level.
 pub fn crowd(random: &mut Random) -> Draft {
     let levels = random.between(3, LEVELS_MAX);
     let masks = match random.one_in(3) {
@@ -90,6 +91,10 @@ pub fn crowd(random: &mut Random) -> Draft {
     let mut script = vec![to_middle; managers];
     script.extend(vec![to_high; direct]);
     scene.random.shuffle(&mut script);
+    let high_level = scene.level_of(high);
+    if let Some(upper) = scene.object_above(high_level) {
+        script.push(send(name, upper));
+    }
     let object = scene.object_at(low);
     scene.start_with(object, script);
     scene.draft

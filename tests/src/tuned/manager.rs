@@ -44,6 +44,12 @@ impl Fork {
             ..Fork::NONE
         }
     }
+
+    /// The largest stamp that a descendant could have. Those from the fork's own
+    /// to this one are its descendants' alone.
+    pub fn last_descendant(&self) -> u32 {
+        self.stamp | u32::MAX >> (4 * self.depth)
+    }
 }
 
 #[derive(Clone, Copy, Default)]

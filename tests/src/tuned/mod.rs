@@ -1,5 +1,5 @@
-//! Document 01 once more, as plain optimised Rust: what the proved library is
-//! measured against. Nothing is allocated, tables have fixed sizes, and versions
+//! Documents 01 and 02 once more, as plain optimised Rust: what the proved library
+//! is measured against. Nothing is allocated, tables have fixed sizes, and versions
 //! are kept in the work slice.
 
 mod check;

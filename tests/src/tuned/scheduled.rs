@@ -37,11 +37,13 @@ pub fn run_timetable(
     let mut scheduler = Scheduler::new(tables, work);
     let mut running = [const { None }; LEVELS_MAX];
     for (position, &level) in timetable.iter().enumerate() {
-        let number = scheduler.refusal(level);
+        let Some(running) = running.get_mut(usize::from(level)) else {
+            return Answer::refused(12, position);
+        };
+        let number = scheduler.step(level, running);
         if number != 0 {
             return Answer::refused(number, position);
         }
-        scheduler.step(level, &mut running[usize::from(level)]);
     }
     if scheduler.active != 0 {
         return Answer::refused(15, 0);
@@ -51,9 +53,9 @@ pub fn run_timetable(
 
 pub fn run_plain(tables: &Tables, clearance: usize, work: &mut [u32], result: &mut [u8]) -> Answer {
     let mut scheduler = Scheduler::new(tables, work);
-    // A level stays the lowest-numbered one that may step until its managers
-    // have ended: those that it forks are above it.
-    while let Some(level) = scheduler.lowest_allowed() {
+    // Every order that is allowed leaves the same. This one runs a level to its
+    // end once none below it has managers: those that it forks are above it.
+    while let Some(level) = scheduler.lowest() {
         while scheduler.active >> level & 1 == 1 {
             scheduler.run_next(level);
         }
@@ -81,44 +83,72 @@ impl<'a> Scheduler<'a> {
         scheduler
     }
 
+    /// A scheduler step, or the number of the question that refuses it.
+    #[inline]
+    fn step(&mut self, level: u8, running: &mut Option<Manager>) -> u32 {
+        // A manager that runs may step: it was not held back when it started, and
+        // what is forked below it from then on has larger stamps.
+        if let Some(manager) = running {
+            if let Some(ending) = manager.step(self.tables, self) {
+                self.end(manager, ending);
+                *running = None;
+            }
+            return 0;
+        }
+        let number = self.refusal(level);
+        if number != 0 {
+            return number;
+        }
+        let manager = self.start(level);
+        if manager.is_empty() {
+            self.end(&manager, 0);
+        } else {
+            *running = Some(manager);
+        }
+        0
+    }
+
+    /// What questions 12 to 14 say of a level where no manager runs.
     fn refusal(&self, level: u8) -> u32 {
         if usize::from(level) >= self.tables.levels {
             12
         } else if self.active >> level & 1 == 0 {
             13
-        } else if self.active & self.tables.strictly_dominated(level) != 0 {
+        } else if self.is_held_back(level) {
             14
         } else {
             0
         }
     }
 
-    fn lowest_allowed(&self) -> Option<u8> {
+    /// Whether a manager below the level's next one has a smaller stamp and is no
+    /// ancestor. The first of each level tells: the others come after it and all
+    /// that descend from it.
+    fn is_held_back(&self, level: u8) -> bool {
+        let stamp = self.first(level).stamp;
+        let mut below = self.active & self.tables.strictly_dominated(level);
+        while below != 0 {
+            let lower = below.trailing_zeros() as u8;
+            below &= below - 1;
+            if self.first(lower).last_descendant() < stamp {
+                return true;
+            }
+        }
+        false
+    }
+
+    /// The fork of a level's first manager that has not ended.
+    fn first(&self, level: u8) -> &Fork {
+        let ended = self.histories.of(level).len();
+        &self.queues[usize::from(level)].forks[ended]
+    }
+
+    /// The lowest-numbered level with managers that dominates no other with some.
+    fn lowest(&self) -> Option<u8> {
         (0..self.tables.levels as u8).find(|&level| {
             self.active >> level & 1 == 1
                 && self.active & self.tables.strictly_dominated(level) == 0
         })
-    }
-
-    /// A scheduler step at a level that may step.
-    #[inline]
-    fn step(&mut self, level: u8, running: &mut Option<Manager>) {
-        match running {
-            Some(manager) => {
-                if let Some(ending) = manager.step(self.tables, self) {
-                    self.end(manager, ending);
-                    *running = None;
-                }
-            }
-            None => {
-                let manager = self.start(level);
-                if manager.is_empty() {
-                    self.end(&manager, 0);
-                } else {
-                    *running = Some(manager);
-                }
-            }
-        }
     }
 
     /// Runs the level's next manager from start to end.
@@ -143,8 +173,9 @@ impl<'a> Scheduler<'a> {
         manager
     }
 
-    /// What the reads of a manager may see. All managers below its level have
-    /// ended, so it is the same for all its reads.
+    /// What the reads of a manager may see. All managers below its level that are
+    /// before it have ended, but for its ancestors, so it is the same for all its
+    /// reads.
     fn seen(&self, level: u8, fork: &Fork) -> [u16; LEVELS_MAX] {
         let mut seen = fork.carried;
         let mut below = self.tables.strictly_dominated(level);
