@@ -18,14 +18,12 @@ use Rattle.scripts.proofs.Laws.Effects.{Sound, Fits, stepped-fits}
 use Rattle.model.specs.Fork.{Fork, childOf}
 use Rattle.model.specs.History.{historyOf}
 use Rattle.model.specs.Level.{Version, Activity, idle, busy, Level, arrived, after}
-use Rattle.model.specs.Step.{State, levelAt, viewOf, readAt, Arrival, at, versionsAfter, begun, advanced, moved, moveAt, stepAt}
+use Rattle.model.specs.Step.{State, levelAt, viewOf, readAt, at, versionsAfter, begun, advanced, moved, moveAt, stepAt}
 use Rattle.model.specs.Limits.{stampDigits}
 use Rattle.model.proofs.Laws.Each.{Each}
 use Rattle.model.proofs.Laws.Steps.Moves.{AtLevel, move-is, seen-sound}
-use Rattle.model.proofs.Laws.Invariant.Rank.{rank}
 use Rattle.model.proofs.Laws.Invariant.Tree.{Entry, upTo, childIn, Fertile}
-use Rattle.model.proofs.Laws.Invariant.Forest.{rest-each}
-use Rattle.model.proofs.Laws.Invariant.Entries.{runningEntry, waitingEntry, entriesOf, child-entry, arrived-joins}
+use Rattle.model.proofs.Laws.Invariant.Entries.{runningEntry, waitingEntry, entriesOf, child-entry}
 use Rattle.model.proofs.Laws.Invariant.Change.{Change, internal, forks}
 use Rattle.model.proofs.Laws.Invariant.Forks.{entriesIn, step-change, ForkInvariant}
 use Rattle.model.proofs.Laws.Invariant.Preserved.{fertile, first-of}

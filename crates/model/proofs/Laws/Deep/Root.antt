@@ -1,14 +1,13 @@
 -- The depth-first run of the root message is a list of safe steps that ends with all managers ended: so every list of scheduler steps
 -- that finishes leaves what the depth-first run leaves. Assumes nothing.
-use Prim.Native.Nat.{ℕ, zero, suc, _≤_, _<_}
+use Prim.Native.Nat.{ℕ, _≤_, _<_}
 use mathlib.Core.Path.{_≡_, refl, sym, _∙_, ap}
 use mathlib.Core.Bool.{true, false}
-use mathlib.Core.List.{List, [], _∷_}
+use mathlib.Core.List.{List, []}
 use native.Mathlib.Decide.{ℕ-discrete, decLt}
 use native.Mathlib.Omega.{arith}
-use borrow.Author.Tests.{not-true}
 use lib.ListN.{getD, replicate, length-replicate, List·getD-eq-default}
-use Rattle.lattice.proofs.Laws.Range.{not-both, all-each, all-every}
+use Rattle.lattice.proofs.Laws.Range.{not-both, all-every}
 use Rattle.session.specs.Program.{Program}
 use Rattle.session.specs.declared.Message.{Message}
 use Rattle.session.proofs.Laws.Lists.{Truth, holds, fails, truth}
@@ -16,12 +15,12 @@ use Rattle.session.specs.Limits.{maxLevels}
 use Rattle.scripts.proofs.Laws.Effects.{Sound}
 use Rattle.model.specs.Lists.{inserted, lastOr}
 use Rattle.model.specs.Fork.{Fork, rootFork}
-use Rattle.model.specs.Level.{Level, newLevel, hasManager, arrived, newest, forksOf}
+use Rattle.model.specs.Level.{Level, newLevel, hasManager, arrived, newest}
 use Rattle.model.specs.Step.{State, levelAt, stepAt}
 use Rattle.model.specs.Schedule.{readIn, question15, finished, runOf}
 use Rattle.model.specs.DepthFirst.{Tally, Progress, newTally, tallyAt, current, depthFirst}
 use Rattle.model.specs.Result.{resultOf, resultOfDepthFirst}
-use Rattle.model.proofs.Laws.Confluence.{ran, Allowed, Over, confluent}
+use Rattle.model.proofs.Laws.Confluence.{ran, confluent}
 use Rattle.model.proofs.Laws.Each.{Each}
 use Rattle.model.proofs.Laws.Invariant.Rank.{count-most}
 use Rattle.model.proofs.Laws.Invariant.Preserved.{other-level}

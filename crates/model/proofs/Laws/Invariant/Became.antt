@@ -7,19 +7,18 @@ use native.Mathlib.Decide.{ℕ-discrete}
 use lib.Dec.{eqb}
 use Rattle.lattice.specs.Order.{strictly}
 use Rattle.lattice.proofs.Laws.Range.{and-left, not-both}
-use Rattle.session.specs.Program.{Program, seenBy}
+use Rattle.session.specs.Program.{Program}
 use Rattle.scripts.proofs.Laws.Effects.{Sound}
 use Rattle.model.specs.Lists.{modify}
 use Rattle.model.specs.Fork.{Fork}
 use Rattle.model.specs.Level.{Level, arrived}
-use Rattle.model.specs.Step.{State, levelAt, viewOf, Arrival, none, at, moveAt, delivered, stepAt}
+use Rattle.model.specs.Step.{State, levelAt, Arrival, none, at, moveAt, delivered, stepAt}
 use Rattle.model.proofs.Laws.Each.{Each}
 use Rattle.model.proofs.Laws.Invariant.Tree.{Entry, forkedFrom}
 use Rattle.model.proofs.Laws.Invariant.Forest.{rest-each}
 use Rattle.model.proofs.Laws.Invariant.Entries.{waitingEntry, runningEntry, entriesOf, arrived-joins}
 use Rattle.model.proofs.Laws.Invariant.Change.{Change, internal, forks}
 use Rattle.model.proofs.Laws.Steps.Locality.{Above}
-use Rattle.model.proofs.Laws.Steps.Diamond.{seen-level}
 use Rattle.model.proofs.Laws.Steps.Moves.{move-above}
 use Rattle.model.proofs.Laws.Invariant.Forks.{entriesIn, step-change, marks-at, level-own, level-target, level-other, ForkInvariant}
 use Rattle.model.proofs.Laws.Invariant.Preserved.{other-level}

@@ -3,7 +3,7 @@
 use Prim.Native.Nat.{ℕ, _<_}
 use mathlib.Core.Path.{_≡_, refl, sym, _∙_}
 use mathlib.Core.Bool.{true}
-use mathlib.Core.List.{List, [], _∷_}
+use mathlib.Core.List.{List, _∷_}
 use native.Mathlib.Decide.{ℕ-discrete}
 use Rattle.lattice.specs.Order.{Dominance, strictly, PartialOrder}
 use Rattle.model.proofs.Laws.Each.{Each, Pairwise, each-map, each-both, each-swap}

@@ -6,24 +6,23 @@ use mathlib.Core.Bool.{true, false, not, _||_}
 use mathlib.Core.List.{List, [], _∷_, map}
 use native.Mathlib.Decide.{ℕ-discrete, decLt}
 use native.Mathlib.Omega.{arith}
-use borrow.Author.Tests.{lt-ltb, ltb-true, leb-true, le-leb}
-use lib.Dec.{ltb, leb}
+use borrow.Author.Tests.{leb-true, le-leb}
+use lib.Dec.{leb}
 use Rattle.lattice.proofs.Laws.Range.{not-both, all-each, all-every, first-found, first-passes}
 use Rattle.lattice.specs.Range.{first}
-use Rattle.session.specs.Lists.{every}
 use Rattle.session.specs.Limits.{maxLevels}
 use Rattle.session.specs.Program.{Program}
 use Rattle.session.specs.declared.Message.{Message}
-use Rattle.session.proofs.Laws.Lists.{holds, fails, truth}
+use Rattle.session.proofs.Laws.Lists.{holds}
 use Rattle.scripts.proofs.Laws.Effects.{Sound}
 use Rattle.model.specs.Limits.{maxSchedule}
 use Rattle.model.specs.Fork.{Fork, rootFork, childOf}
 use Rattle.model.specs.Level.{Activity, idle, busy, Level, isBusy, isEmpty, hasManager, forksBy, forksOf}
 use Rattle.model.specs.Step.{State, levelAt, Arrival, none, at, moveAt, stepAt}
-use Rattle.model.specs.Schedule.{readIn, question15, finished, runFrom, runOf, chosenFrom}
+use Rattle.model.specs.Schedule.{readIn, question15, finished, runOf}
 use Rattle.model.specs.Rules.{isLargest, latest, depthFirstOrder}
 use Rattle.model.proofs.Laws.Each.{Each, Pairwise, each-map, each-both, every-is, is-every}
-use Rattle.model.proofs.Laws.Invariant.Stamps.{span-positive, child-after}
+use Rattle.model.proofs.Laws.Invariant.Stamps.{span-positive}
 use Rattle.model.proofs.Laws.Invariant.Tree.{Entry, upTo, Related, left, right, over, under, related-sym, forkedFrom}
 use Rattle.model.proofs.Laws.Invariant.Forest.{Forest}
 use Rattle.model.proofs.Laws.Invariant.Entries.{waitingEntry, runningEntry, entriesBy, entriesOf, child-entry}
@@ -31,9 +30,8 @@ use Rattle.model.proofs.Laws.Invariant.Change.{Change, internal, forks}
 use Rattle.model.proofs.Laws.Invariant.Forks.{entriesIn, step-change}
 use Rattle.model.proofs.Laws.Invariant.Preserved.{fertile, other-level, first-of}
 use Rattle.model.proofs.Laws.Invariant.Became.{step-each}
-use Rattle.model.proofs.Laws.Invariant.Bounded.{total, step-less}
-use Rattle.model.proofs.Laws.Invariant.State.{StateInvariant, steady-preserves}
-use Rattle.model.proofs.Laws.Steps.May.{MayStep, first-managed, managed-first, may-managed, forks-entries, entries-forks}
+use Rattle.model.proofs.Laws.Invariant.State.{StateInvariant}
+use Rattle.model.proofs.Laws.Steps.May.{MayStep, forks-entries}
 use Rattle.model.proofs.Laws.Safe.Safe.{head-same, at-fork, at-none}
 use Rattle.model.proofs.Laws.Safe.Asked.{first-entry}
 use Rattle.model.proofs.Laws.Order.Orderly.{tail-same}

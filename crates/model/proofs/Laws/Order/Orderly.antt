@@ -2,14 +2,10 @@
 -- it. So the first manager of a level that has not ended tells of all the others there. Assumes nothing.
 use Prim.Native.Nat.{ℕ, _+_, _-_, _≤_, _<_}
 use mathlib.Core.Path.{_≡_, refl, sym, _∙_, ap}
-use mathlib.Core.Bool.{true, false, not}
+use mathlib.Core.Bool.{true}
 use mathlib.Core.List.{List, [], _∷_, map}
 use native.Mathlib.Decide.{ℕ-discrete}
 use native.Mathlib.Omega.{arith}
-use lib.Dec.{eqb}
-use lib.ListN.{take}
-use Rattle.lattice.specs.Order.{strictly}
-use Rattle.lattice.proofs.Laws.Range.{and-both, not-both}
 use Rattle.session.specs.Program.{Program}
 use Rattle.scripts.proofs.Laws.Effects.{Sound}
 use Rattle.model.specs.Limits.{maxManagers}
@@ -17,7 +13,7 @@ use Rattle.model.specs.Lists.{inserted}
 use Rattle.model.specs.Fork.{Fork, span}
 use Rattle.model.specs.Level.{Activity, idle, busy, Level, isBusy, startedCount, forksBy, forksOf, arrived}
 use Rattle.model.specs.Step.{State, levelAt, stepAt}
-use Rattle.model.proofs.Laws.Each.{Each, Pairwise, each-map, each-both, pairwise-take, rising-inserted}
+use Rattle.model.proofs.Laws.Each.{Each, Pairwise, each-map, pairwise-take, rising-inserted}
 use Rattle.model.proofs.Laws.Invariant.Stamps.{span-positive}
 use Rattle.model.proofs.Laws.Invariant.Tree.{Entry, upTo, Related, left, right, over, under}
 use Rattle.model.proofs.Laws.Invariant.Forest.{Rest, whole, tail}

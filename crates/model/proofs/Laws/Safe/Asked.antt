@@ -1,13 +1,13 @@
 -- A step that questions 12 to 14 allow is safe, and stays allowed whatever other level steps. So does that of a running manager after its own.
 -- Assumes nothing.
-use Prim.Native.Nat.{ℕ, _≤_, _<_}
+use Prim.Native.Nat.{ℕ, _<_}
 use mathlib.Core.Path.{_≡_, refl, sym, _∙_, ap}
-use mathlib.Core.Bool.{true, false, not}
+use mathlib.Core.Bool.{true, not}
 use mathlib.Core.List.{List, [], _∷_, map}
 use native.Mathlib.Omega.{arith}
 use lib.Dec.{eqb}
 use Rattle.lattice.specs.Order.{strictly}
-use Rattle.lattice.proofs.Laws.Range.{and-left, not-both}
+use Rattle.lattice.proofs.Laws.Range.{and-left}
 use Rattle.session.specs.Program.{Program}
 use Rattle.scripts.proofs.Laws.Effects.{Sound}
 use Rattle.model.specs.Fork.{Fork}
@@ -18,7 +18,7 @@ use Rattle.model.proofs.Laws.Invariant.Stamps.{span-positive, child-aft
 use Rattle.model.proofs.Laws.Invariant.Tree.{Entry, upTo, Related, left, right, over, under, strictly-over}
 use Rattle.model.proofs.Laws.Invariant.Entries.{waitingEntry, runningEntry, entriesBy, entriesOf, arrived-joins}
 use Rattle.model.proofs.Laws.Invariant.Forks.{entriesIn}
-use Rattle.model.proofs.Laws.Invariant.Preserved.{other-level, first-of}
+use Rattle.model.proofs.Laws.Invariant.Preserved.{other-level}
 use Rattle.model.proofs.Laws.Invariant.Became.{Became, own, got, stayed, became, step-marks, level-stepped, own-each}
 use Rattle.model.proofs.Laws.Invariant.State.{StateInvariant}
 use Rattle.model.proofs.Laws.Steps.May.{MayStep}

@@ -7,16 +7,15 @@ use native.Mathlib.Omega.{arith}
 use borrow.Author.Tests.{ltb-true, lt-ltb}
 use Rattle.lattice.specs.Order.{PartialOrder}
 use Rattle.lattice.proofs.Laws.Range.{not-both, implies-then, implies-when, all-each, all-every}
-use Rattle.session.specs.Lists.{every}
 use Rattle.session.specs.Program.{Program}
 use Rattle.model.specs.Fork.{Fork, span}
 use Rattle.model.specs.Level.{Activity, idle, busy, Level, isBusy, isEmpty, hasManager, forksBy, forksOf}
 use Rattle.model.specs.Step.{State, levelAt, viewOf}
-use Rattle.model.specs.Schedule.{question12, question13, holdsBack, isFree, firstFree, question14, Rule, refusalUnder, stepRefusal}
-use Rattle.model.proofs.Laws.Each.{Each, each-map, every-is, is-every}
+use Rattle.model.specs.Schedule.{question12, question13, holdsBack, isFree, firstFree, question14, refusalUnder, stepRefusal}
+use Rattle.model.proofs.Laws.Each.{Each, every-is, is-every}
 use Rattle.model.proofs.Laws.Invariant.Stamps.{within-free, free-within}
-use Rattle.model.proofs.Laws.Invariant.Tree.{Entry, upTo}
-use Rattle.model.proofs.Laws.Invariant.Entries.{waitingEntry, runningEntry, entriesBy, entriesOf}
+use Rattle.model.proofs.Laws.Invariant.Tree.{upTo}
+use Rattle.model.proofs.Laws.Invariant.Entries.{waitingEntry, entriesBy, entriesOf}
 use Rattle.model.proofs.Laws.Steps.Diamond.{seen-level}
 
 -- a step at level l is allowed: questions 12 to 14 say yes. The stamp of the manager about to step lies before the end of the interval of each
