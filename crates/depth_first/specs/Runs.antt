@@ -25,7 +25,7 @@ pub record RootFork (s : List ℕ) (f : Fork) : Type 0 where
 abbrev pub initialProgress : List ℕ → Progress
 initialProgress s = record { written = []; levels = replicate (levelCount s) newTally }
 
--- the bytes of the records that clearance c is shown of the run, the level groups by rising number
+-- the bytes of the records that clearance c is shown of the run
 abbrev pub bytesShown : List ℕ → ℕ → List ℕ
 bytesShown s c =
     bytesIn s (resultOfDepthFirst (programOf s) (depthFirst (programOf s) (rootOf s))) c (levelOf s (rootObject s))

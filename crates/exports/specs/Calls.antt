@@ -5,15 +5,15 @@ use mathlib.Core.Bool.{cond}
 use mathlib.Core.List.{List, _∷_}
 use lib.Dec.{leb}
 use lib.ListN.{length, drop}
-use Rattle.model.specs.Entries.{Request, Answer, Answers}
+use Rattle.model.specs.Entries.{Answer, Answers}
 
 -- two numbers at the front of a slice, where it has room for them
 abbrev pub reported : ℕ → ℕ → List ℕ → List ℕ
 reported a b slice = cond (leb 2 (length slice)) (a ∷ b ∷ drop 2 slice) slice
 
 -- a run: its number, what the lent work slice and result buffer hold afterwards, and its place and count at the front of a lent slice
-pub record Call (q : Request) (of : List ℕ → Answer) (work buffer before after : List ℕ) (number : ℕ) : Type 0 where
+pub record Call (of : Answer) (work buffer before after : List ℕ) (number : ℕ) : Type 0 where
   pub place : ℕ
   pub count : ℕ
-  pub answers : Answers q of number place count work buffer
+  pub answers : Answers of number place count work buffer
   pub both : after ≡ reported place count before

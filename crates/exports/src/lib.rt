@@ -46,7 +46,7 @@ pub extern "C" fn lupinpause_run_timetable(
     result: &mut [u8],
     place_and_count: &mut [u32],
 ) -> u32
-    ensures { λ r. ⌜ Call (record { session = now (session .entry); clearance = clearance; work = now (work .entry); buffer = now (result .entry) }) (λ order. timetabled (record { session = now (session .entry); clearance = clearance; work = now (work .entry); buffer = now (result .entry) }) order (now (timetable .entry))) (now (work .exit)) (now (result .exit)) (now («place_and_count» .entry)) (now («place_and_count» .exit)) r ⌝ }
+    ensures { λ r. ⌜ Call (timetabled (record { session = now (session .entry); clearance = clearance; work = now (work .entry); buffer = now (result .entry) }) (now (timetable .entry))) (now (work .exit)) (now (result .exit)) (now («place_and_count» .entry)) (now («place_and_count» .exit)) r ⌝ }
 {
     let answer = scheduler::run_timetable(session, timetable, clearance, work, result);
     report(place_and_count, answer)
@@ -61,7 +61,7 @@ pub extern "C" fn lupinpause_run_plain(
     result: &mut [u8],
     place_and_count: &mut [u32],
 ) -> u32
-    ensures { λ r. ⌜ Call (record { session = now (session .entry); clearance = clearance; work = now (work .entry); buffer = now (result .entry) }) (plain (record { session = now (session .entry); clearance = clearance; work = now (work .entry); buffer = now (result .entry) })) (now (work .exit)) (now (result .exit)) (now («place_and_count» .entry)) (now («place_and_count» .exit)) r ⌝ }
+    ensures { λ r. ⌜ Call (plain (record { session = now (session .entry); clearance = clearance; work = now (work .entry); buffer = now (result .entry) })) (now (work .exit)) (now (result .exit)) (now («place_and_count» .entry)) (now («place_and_count» .exit)) r ⌝ }
 {
     let answer = scheduler::run_plain(session, clearance, work, result);
     report(place_and_count, answer)
@@ -75,7 +75,7 @@ pub extern "C" fn lupinpause_run_depth_first(
     result: &mut [u8],
     place_and_count: &mut [u32],
 ) -> u32
-    ensures { λ r. ⌜ Call (record { session = now (session .entry); clearance = clearance; work = []; buffer = now (result .entry) }) (deep (record { session = now (session .entry); clearance = clearance; work = []; buffer = now (result .entry) })) [] (now (result .exit)) (now («place_and_count» .entry)) (now («place_and_count» .exit)) r ⌝ }
+    ensures { λ r. ⌜ Call (deep (record { session = now (session .entry); clearance = clearance; work = []; buffer = now (result .entry) })) [] (now (result .exit)) (now («place_and_count» .entry)) (now («place_and_count» .exit)) r ⌝ }
 {
     let answer = depth_first::run_depth_first(session, clearance, result);
     report(place_and_count, answer)

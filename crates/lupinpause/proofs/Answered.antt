@@ -22,30 +22,29 @@ use Rattle.model.specs.Entries.{Request, question10, entryRefusal, bytesFor, an
 use Rattle.records.specs.Writing.{Written}
 
 -- the count of an answer is within its buffer
-answer-fits : (q : Request) (order : List ℕ) (o : Outcome) → answerOf q order o .count ≤ length (answerOf q order o .buffer)
+answer-fits : (q : Request) (o : Outcome) → answerOf q o .count ≤ length (answerOf q o .buffer)
 unfolding answerOf
-answer-fits q order (finished st) =
-    let bytes = bytesFor q order (resultOf (programOf (q .session)) st) in
+answer-fits q (finished st) =
+    let bytes = bytesFor q (resultOf (programOf (q .session)) st) in
     omega (arith, length-append bytes (drop (length bytes) (q .buffer)))
-answer-fits q order (refused number place) = omega arith
+answer-fits q (refused number place) = omega arith
 
-timetabled-fits : (q : Request) (order timetable : List ℕ) → timetabled q order timetable .count ≤ length (timetabled q order timetable .buffer)
+timetabled-fits : (q : Request) (timetable : List ℕ) → timetabled q timetable .count ≤ length (timetabled q timetable .buffer)
 unfolding timetabled
-timetabled-fits q order timetable = elim (truth (eqb (entryRefusal (question10 q) q) 0)) [
-  | holds e ↦ rw e (answer-fits q order _)
+timetabled-fits q timetable = elim (truth (eqb (entryRefusal (question10 q) q) 0)) [
+  | holds e ↦ rw e (answer-fits q _)
   | fails e ↦ rw e (omega arith)
 ]
 
 -- the result bytes written stand in the result buffer
-pub answered-fits : (q : Request) (number place count : ℕ) (work buffer : List ℕ) → Answers q (plain q) number place count work buffer → count ≤ length buffer
+pub answered-fits : (q : Request) (number place count : ℕ) (work buffer : List ℕ) → Answers (plain q) number place count work buffer → count ≤ length buffer
 unfolding plain
 answered-fits q number place count work buffer a =
-    let order = a .order in
     omega (
       arith,
-      ap (λ x. x .count) (a .answer),
-      ap (λ x. length (x .buffer)) (a .answer),
-      timetabled-fits q order (plainOrder (programOf (q .session)) (rootOf (q .session))),
+      ap (λ x. x .count) a,
+      ap (λ x. length (x .buffer)) a,
+      timetabled-fits q (plainOrder (programOf (q .session)) (rootOf (q .session))),
     )
 
 -- what is written stands in the text

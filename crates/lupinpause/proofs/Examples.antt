@@ -3,7 +3,6 @@ use Prim.Native.Nat.{ℕ}
 use Prim.Native.Char.{code}
 use Prim.Native.String.{String, [] as []ᵗ, _∷_ as _∷ᵗ_}
 use mathlib.Core.Path.{_≡_, refl}
-use mathlib.Core.Bool.{true}
 use mathlib.Core.List.{List, [], _∷_}
 use lib.ListN.{take, replicate}
 use Rattle.lattice.specs.Range.{all, first}
@@ -27,7 +26,7 @@ use Rattle.model.specs.History.{endBefore}
 use Rattle.model.specs.Level.{arrived, after, newest, newestTo}
 use Rattle.model.specs.Step.{viewOf, readAt, advanced, begun, moved, delivered, moveAt, stepAt}
 use Rattle.model.specs.Schedule.{readIn, isFree, question14, question15, refusalUnder, runUnder, runOf, lowest, chosenFrom, plainOrder}
-use Rattle.model.specs.Result.{objectRecord, historyRecord, replyRecord, objectsShown, historiesShown, replyShown, bytesOf, ordersShown}
+use Rattle.model.specs.Result.{objectRecord, historyRecord, replyRecord, objectsShown, historiesShown, replyShown, bytesOf}
 use Rattle.model.specs.Limits.{workNumbers, resultBytes}
 use Rattle.model.specs.Entries.{Request, Answer, entryRefusal, cleared, answerOf, timetabled, plain}
 use Rattle.lupinpause.specs.Lines.{lineOf, linesOf, decimalIn, refusalLine, textOf}
@@ -52,14 +51,13 @@ abbrev printed : Answer → List ℕ
 printed a = textOf (a .number) (a .place) (take (a .count) (a .buffer))
 
 pub record Examples : Type 0 where
-  order : ordersShown (programOf sessionW) (levelOf sessionW (rootObject sessionW)) (0 ∷ []) ≡ true
-  session-w : printed (plain (lent sessionW) (0 ∷ []))
+  session-w : printed (plain (lent sessionW))
       ≡ codes "05000001090000000000000000000000\n06000001000000000100020005000000\n07000001090000000000000000000000\n"
   -- M8
-  empty-file : printed (plain (lent []) []) ≡ codes "1 0\n"
+  empty-file : printed (plain (lent [])) ≡ codes "1 0\n"
   place : refusalLine 13 12 ≡ codes "13 12\n"
   largest : refusalLine 15 0xFFFFFFFF ≡ codes "15 4294967295\n"
 
 pub examples : Examples
-unfolding codes lineOf linesOf decimalIn refusalLine textOf all first reflexive antisymmetric transitive isOrder isLeast join hasJoins dominates namesPresent isOrdered every select risingFrom countsFrom tab joined recordAt recordsOf wordOf zeroAt stepOf ofKind masksOf methodRecords question1 kindsRise question2 question3 objectValid question6 operandsFit unusedBytes stepValid scriptValid scriptsValid rootValid firstNo verdictOf methodOf sessionW programOf seenBy fateOf sum isNilOr0 withRegister popped settled concluded started written called forked sent operated stepped inserted modify lastOr childOf endBefore arrived after newest newestTo viewOf readAt advanced begun moved delivered moveAt stepAt readIn isFree question14 question15 refusalUnder runUnder runOf lowest chosenFrom plainOrder objectRecord historyRecord replyRecord objectsShown historiesShown replyShown bytesOf ordersShown entryRefusal cleared answerOf timetabled plain
-examples = record { order = refl; session-w = refl; empty-file = refl; place = refl; largest = refl }
+unfolding codes lineOf linesOf decimalIn refusalLine textOf all first reflexive antisymmetric transitive isOrder isLeast join hasJoins dominates namesPresent isOrdered every select risingFrom countsFrom tab joined recordAt recordsOf wordOf zeroAt stepOf ofKind masksOf methodRecords question1 kindsRise question2 question3 objectValid question6 operandsFit unusedBytes stepValid scriptValid scriptsValid rootValid firstNo verdictOf methodOf sessionW programOf seenBy fateOf sum isNilOr0 withRegister popped settled concluded started written called forked sent operated stepped inserted modify lastOr childOf endBefore arrived after newest newestTo viewOf readAt advanced begun moved delivered moveAt stepAt readIn isFree question14 question15 refusalUnder runUnder runOf lowest chosenFrom plainOrder objectRecord historyRecord replyRecord objectsShown historiesShown replyShown bytesOf entryRefusal cleared answerOf timetabled plain
+examples = record { session-w = refl; empty-file = refl; place = refl; largest = refl }

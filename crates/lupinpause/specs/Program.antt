@@ -23,5 +23,5 @@ pub record Prints (q : Request) (work result before after : List ℕ) (printed :
   pub number : ℕ
   pub place : ℕ
   pub count : ℕ
-  pub answers : Answers q (plain q) number place count work result
+  pub answers : Answers (plain q) number place count work result
   pub text : Written (textOf number place (take count result)) before after printed

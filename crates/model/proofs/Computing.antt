@@ -31,12 +31,12 @@ use Rattle.model.specs.Level.{arrived, after, newest, newestTo}
 use Rattle.model.specs.Step.{viewOf, readAt, advanced, begun, moved, delivered, moveAt, stepAt}
 use Rattle.model.specs.Schedule.{Outcome, finished, refused, readIn, isFree, question14, question15, refusalUnder, runUnder, runOf, lowest, chosenFrom, plainOrder}
 use Rattle.model.specs.DepthFirst.{current, close, effected, finish, runFork, depthFirst}
-use Rattle.model.specs.Result.{resultOf, resultOfDepthFirst, byNumber, objectRecord, historyRecord, replyRecord, objectsShown, historiesShown, replyShown, bytesOf, ordersShown}
+use Rattle.model.specs.Result.{resultOf, resultOfDepthFirst, objectRecord, historyRecord, replyRecord, objectsShown, historiesShown, replyShown, bytesOf}
 use Rattle.model.specs.Entries.{Request, Answer, entryRefusal, cleared, answerOf, timetabled, plain, deep}
 use Rattle.model.specs.Reader.{bytesWritten}
 
 unfoldable pub computing : Unit {0}
-unfolding table.verdictOf all first reflexive antisymmetric transitive isOrder isLeast join hasJoins dominates namesPresent isOrdered every select risingFrom countsFrom tab joined recordAt recordsOf wordOf zeroAt stepOf ofKind masksOf methodRecords question1 kindsRise question2 question3 objectValid question6 operandsFit unusedBytes stepValid scriptValid scriptsValid rootValid firstNo verdictOf methodOf emptied blanked stays sessionW programOf seenBy fateOf sum isNilOr0 withRegister popped settled concluded started written called forked sent operated stepped inserted modify lastOr childOf endBefore arrived after newest newestTo viewOf readAt advanced begun moved delivered moveAt stepAt readIn isFree question14 question15 refusalUnder runUnder runOf lowest chosenFrom plainOrder current close effected finish runFork depthFirst objectRecord historyRecord replyRecord objectsShown historiesShown replyShown bytesOf ordersShown entryRefusal cleared answerOf timetabled plain deep
+unfolding table.verdictOf all first reflexive antisymmetric transitive isOrder isLeast join hasJoins dominates namesPresent isOrdered every select risingFrom countsFrom tab joined recordAt recordsOf wordOf zeroAt stepOf ofKind masksOf methodRecords question1 kindsRise question2 question3 objectValid question6 operandsFit unusedBytes stepValid scriptValid scriptsValid rootValid firstNo verdictOf methodOf emptied blanked stays sessionW programOf seenBy fateOf sum isNilOr0 withRegister popped settled concluded started written called forked sent operated stepped inserted modify lastOr childOf endBefore arrived after newest newestTo viewOf readAt advanced begun moved delivered moveAt stepAt readIn isFree question14 question15 refusalUnder runUnder runOf lowest chosenFrom plainOrder current close effected finish runFork depthFirst objectRecord historyRecord replyRecord objectsShown historiesShown replyShown bytesOf entryRefusal cleared answerOf timetabled plain deep
 computing = tt
 
 -- a session run for a clearance, lent so many numbers, each 7, and so many bytes, each 9
@@ -70,7 +70,7 @@ message o = record { object = o; name = 0; parameter = Nil }
 
 -- the result bytes of a program's plain run, and of its depth-first run, of that message, for a clearance
 abbrev pub bytesAfter : Program → ℕ → ℕ → Outcome → List ℕ
-bytesAfter p o c (finished st) = bytesOf p (p .level o) (resultOf p st) c (byNumber p c)
+bytesAfter p o c (finished st) = bytesOf p (p .level o) (resultOf p st) c
 bytesAfter p o c (refused number place) = []
 
 abbrev pub plainBytes : Program → ℕ → ℕ → List ℕ
@@ -78,4 +78,4 @@ plainBytes p o c = bytesAfter p o c (runOf p (message o) (plainOrder p (message 
 
 abbrev pub deepBytes : Program → ℕ → ℕ → List ℕ
 deepBytes p o c =
-    bytesOf p (p .level o) (resultOfDepthFirst p (depthFirst p (message o))) c (byNumber p c)
+    bytesOf p (p .level o) (resultOfDepthFirst p (depthFirst p (message o))) c

@@ -21,9 +21,9 @@ use Rattle.model.specs.Limits.{resultBytes}
 use Rattle.model.specs.Step.{State}
 use Rattle.model.specs.Schedule.{plainOrder}
 use Rattle.model.specs.DepthFirst.{depthFirst}
-use Rattle.model.specs.Result.{resultOf, resultOfDepthFirst, bytesOf, ordersShown}
+use Rattle.model.specs.Result.{resultOf, resultOfDepthFirst, bytesOf}
 use Rattle.model.specs.Entries.{Request, Answer, question10, entryRefusal, bytesFor, timetabled, plain, deep}
-use Rattle.model.specs.Reader.{Finished, bytesWritten, SameBytes, EqualToReader}
+use Rattle.model.specs.Reader.{Finished, bytesWritten, EqualToReader, ComparedByRecords}
 use Rattle.model.specs.Demands.{OneEnd, EmptiedAccepted, PlainFinishes, DeepFinishes, StepFromView, EmptiedRuns, Demand2, Demand2Plain, Isolation, TimetabledRun, DepthFirstRun, Demand3}
 use Rattle.model.proofs.Laws.Order.Accepted.{sound, any-order}
 use Rattle.model.proofs.Laws.Order.PlainRun.{accepted-plain}
@@ -32,9 +32,12 @@ use Rattle.model.proofs.Laws.Code.Reached.{present}
 use Rattle.model.proofs.Laws.Code.Progress.{leads-live}
 use Rattle.model.proofs.Laws.Deep.Root.{same-result}
 use Rattle.model.proofs.Laws.Reader.Isolation as laws
-use Rattle.model.proofs.Laws.Reader.Bytes.{same-sym, same-trans}
+use Rattle.model.proofs.Laws.Reader.Bytes.{by-records}
 use Rattle.model.proofs.Laws.Reader.Shown.{reader-sees}
 use Rattle.model.proofs.Laws.Reader.Answers.{Passes, passed, passes, finished-run, run-finished, deep-finished, deep-passes, deep-bytes}
+
+pub compared-by-records : ComparedByRecords
+compared-by-records = by-records
 
 pub one-end : OneEnd
 one-end s a ls ks t w = any-order s a ls ks t w
@@ -44,12 +47,12 @@ emptied-accepted s a c = session.emptied-accepted s c a
 
 pub plain-finishes : PlainFinishes
 unfolding plain
-plain-finishes q order e =
+plain-finishes q e =
     let (t, run) = accepted-plain (q .session) (passes (question10 q) q e .accepted) in
-    run-finished q order (plainOrder (programOf (q .session)) (rootOf (q .session))) e t run
+    run-finished q (plainOrder (programOf (q .session)) (rootOf (q .session))) e t run
 
 pub deep-finishes : DeepFinishes
-deep-finishes q order e = deep-finished q order e
+deep-finishes q e = deep-finished q e
 
 pub step-from-view : StepFromView
 step-from-view s a ls st r l h =
@@ -60,15 +63,13 @@ few-of : (s : List ℕ) → verdictOf s ≡ Accepted → programOf s .levels ≤
 few-of s a = unfold programOf in few-levels s (accepted s a .three)
 
 pub emptied-runs : EmptiedRuns
-emptied-runs s a c h q of reader room order groups =
+emptied-runs s a c h q of reader room =
     record {
       request = q;
       of = of;
       reader = reader;
-      order = order;
-      groups = groups;
       answer = refl;
-      finished = deep-finished q order (passed true q (record {
+      finished = deep-finished q (passed true q (record {
         accepted = rw of (emptied-accepted s a c);
         level = rw (of, reader, emptied-level-count s c) h;
         work = refl;
@@ -82,76 +83,66 @@ deep-may q p =
     passed true q (record { accepted = p .accepted; level = p .level; work = refl; room = p .room })
 
 pub demand-2 : Demand2
-demand-2 q order ls f =
-    let r = finished-run q order ls f in
+demand-2 q ls f =
+    let r = finished-run q ls f in
     let a = r .passes .accepted in
     let e = deep-may q (r .passes) in (
-      deep-finished q order e,
+      deep-finished q e,
       r .bytes
-          ∙ ap (bytesFor q order) (same-result (programOf (q .session)) (sound (q .session) a) (few-of (q .session) a) (rootOf (q .session)) ls (r .state) (r .ends))
-          ∙ sym (deep-bytes q order e),
+          ∙ ap (bytesFor q) (same-result (programOf (q .session)) (sound (q .session) a) (few-of (q .session) a) (rootOf (q .session)) ls (r .state) (r .ends))
+          ∙ sym (deep-bytes q e),
     )
 
 pub demand-2-plain : Demand2Plain
 unfolding plain
-demand-2-plain q order f = demand-2 q order (plainOrder (programOf (q .session)) (rootOf (q .session))) f
+demand-2-plain q f = demand-2 q (plainOrder (programOf (q .session)) (rootOf (q .session))) f
 
 pub isolation : Isolation
 isolation s a c h ls t e = laws.isolation s a c h ls t e
 
 -- the bytes of a depth-first run of a program
-abbrev pub deepBytes : Program → Message → ℕ → List ℕ → List ℕ
-deepBytes p root c order =
-    bytesOf p (p .level (root .object)) (resultOfDepthFirst p (depthFirst p root)) c order
+abbrev pub deepBytes : Program → Message → ℕ → List ℕ
+deepBytes p root c = bytesOf p (p .level (root .object)) (resultOfDepthFirst p (depthFirst p root)) c
 
-pub session-bytes : (q : Request) (order : List ℕ) → bytesFor q order (resultOfDepthFirst (programOf (q .session)) (depthFirst (programOf (q .session)) (rootOf (q .session)))) ≡ deepBytes (programOf (q .session)) (rootOf (q .session)) (q .clearance) order
+pub session-bytes : (q : Request) → bytesFor q (resultOfDepthFirst (programOf (q .session)) (depthFirst (programOf (q .session)) (rootOf (q .session)))) ≡ deepBytes (programOf (q .session)) (rootOf (q .session)) (q .clearance)
 unfolding programOf
-session-bytes q order = refl
+session-bytes q = refl
 
-run-bytes : (q : Request) (order : List ℕ) (t : State) → bytesFor q order (resultOf (programOf (q .session)) t) ≡ bytesOf (programOf (q .session)) (programOf (q .session) .level (rootOf (q .session) .object)) (resultOf (programOf (q .session)) t) (q .clearance) order
+run-bytes : (q : Request) (t : State) → bytesFor q (resultOf (programOf (q .session)) t) ≡ bytesOf (programOf (q .session)) (programOf (q .session) .level (rootOf (q .session) .object)) (resultOf (programOf (q .session)) t) (q .clearance)
 unfolding programOf
-run-bytes q order t = refl
+run-bytes q t = refl
 
-seen-bytes : (c : ℕ) (p : Program) (root : Message) (order : List ℕ) → deepBytes (seenBy c p) root c order ≡ bytesOf (seenBy c p) (p .level (root .object)) (resultOfDepthFirst (seenBy c p) (depthFirst (seenBy c p) root)) c order
+seen-bytes : (c : ℕ) (p : Program) (root : Message) → deepBytes (seenBy c p) root c ≡ bytesOf (seenBy c p) (p .level (root .object)) (resultOfDepthFirst (seenBy c p) (depthFirst (seenBy c p) root)) c
 unfolding seenBy
-seen-bytes c p root order = refl
-
-pub same-as : (a b a' b' : List ℕ) → a ≡ a' → b ≡ b' → SameBytes a' b' → SameBytes a b
-same-as a b a' b' q e s = rw (q, e) s
+seen-bytes c p root = refl
 
 -- a run, and the depth-first run of the emptied session
-run-and-deep : (q q' : Request) (order order' ls : List ℕ) → q' .session ≡ emptied (q .clearance) (q .session) → q' .clearance ≡ q .clearance → ordersShown (programOf (q .session)) (q .clearance) order ≡ true → ordersShown (programOf (q' .session)) (q' .clearance) order' ≡ true → Finished (timetabled q order ls) → Finished (deep q' order') → EqualToReader (timetabled q order ls) (deep q' order')
-run-and-deep q q' order order' ls of reader g g' f f' =
-    let r = finished-run q order ls f in
+run-and-deep : (q q' : Request) (ls : List ℕ) → q' .session ≡ emptied (q .clearance) (q .session) → q' .clearance ≡ q .clearance → Finished (timetabled q ls) → Finished (deep q') → EqualToReader (timetabled q ls) (deep q')
+run-and-deep q q' ls of reader f f' =
+    let r = finished-run q ls f in
     let a = r .passes .accepted in
     let p = programOf (q .session) in
     let c = q .clearance in
     let program : programOf (q' .session) ≡ seenBy c p = ap programOf of ∙ emptied-program (q .session) c a in
     let root : rootOf (q' .session) ≡ rootOf (q .session) = ap rootOf of ∙ emptied-message (q .session) c in
-    let deeper : bytesWritten (deep q' order') ≡ deepBytes (seenBy c p) (rootOf (q .session)) c order' =
-    deep-bytes q' order' (deep-passes q' order' f')
-    ∙ session-bytes q' order'
-    ∙ (λ i. deepBytes (program i) (root i) (reader i) order') in
-    let shown : ordersShown (seenBy c p) c order' ≡ true = rw (sym program, sym reader) g' in
-    let sees = reader-sees p (sound (q .session) a) (few-of (q .session) a) (rootOf (q .session)) c (present (q .session) c (r .passes .level)) ls (r .state) (r .ends) order order' g shown in
-    same-as (bytesWritten (timetabled q order ls)) (bytesWritten (deep q' order')) _ _ (r .bytes ∙ run-bytes q order (r .state)) (deeper ∙ seen-bytes c p (rootOf (q .session)) order') sees
+    let deeper : bytesWritten (deep q') ≡ deepBytes (seenBy c p) (rootOf (q .session)) c =
+    deep-bytes q' (deep-passes q' f') ∙ session-bytes q' ∙ (λ i. deepBytes (program i) (root i) (reader i)) in
+    r .bytes
+    ∙ run-bytes q (r .state)
+    ∙ reader-sees p (sound (q .session) a) (few-of (q .session) a) (rootOf (q .session)) c (present (q .session) c (r .passes .level)) ls (r .state) (r .ends)
+    ∙ sym (deeper ∙ seen-bytes c p (rootOf (q .session)))
 
 -- a finished run is equal to the reader to the depth-first run of the emptied session
 reader-same : (c : ℕ) (s : List ℕ) (a d : Answer) → TimetabledRun s c a → DepthFirstRun (emptied c s) c d → EqualToReader a d
 reader-same c s a d r x =
     let q = r .request in
     let of : x .request .session ≡ emptied (q .clearance) (q .session) = x .of ∙ (λ i. emptied (sym (r .reader) i) (sym (r .of) i)) in
-    same-as (bytesWritten a) (bytesWritten d) _ _ (ap bytesWritten (r .answer)) (ap bytesWritten (x .answer))
-    (run-and-deep q (x .request) (r .order) (x .order) (r .list) of (x .reader ∙ sym (r .reader)) (rw (r .of, r .reader) (r .groups)) (rw (x .of, x .reader) (x .groups)) (rw (sym (r .answer)) (r .finished)) (rw (sym (x .answer)) (x .finished)))
+    ap bytesWritten (r .answer)
+    ∙ run-and-deep q (x .request) (r .list) of (x .reader ∙ sym (r .reader)) (rw (sym (r .answer)) (r .finished)) (rw (sym (x .answer)) (x .finished))
+    ∙ sym (ap bytesWritten (x .answer))
 
 pub demand-3 : Demand3
 demand-3 c s s' a a' d d' r r' x x' =
     let left = reader-same c s a d r x in
     let right = reader-same c s' a' d' r' x' in
-    let A = bytesWritten a in
-    let A' = bytesWritten a' in
-    let D = bytesWritten d in
-    let D' = bytesWritten d' in (
-      λ e. same-trans D A D' (same-sym A D left) (same-trans A A' D' e right),
-      λ e. same-trans A D A' left (same-trans D D' A' e (same-sym A' D' right)),
-    )
+    (λ e. sym left ∙ e ∙ right, λ e. left ∙ e ∙ sym right)

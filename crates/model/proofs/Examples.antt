@@ -1,13 +1,14 @@
 -- What the proved cases M1 to M12 do not show, computed over the definitions. Assumes nothing.
 use Prim.Native.Nat.{ℕ, _+_, _*_}
 use mathlib.Core.Path.{_≡_, refl}
-use mathlib.Core.Bool.{true, false}
 use mathlib.Core.List.{List, [], _∷_, _++_, map}
 use lib.ListN.{length, replicate}
 use Rattle.session.specs.Lists.{tab}
 use Rattle.model.specs.Schedule.{runOf, plainOrder, Outcome, finished, refused}
 use Rattle.model.specs.DepthFirst.{Progress, depthFirst, tallyAt}
-use Rattle.model.specs.Result.{ordersShown, Result, resultOf, resultOfDepthFirst, byNumber}
+use Rattle.model.specs.Result.{Result, resultOf, resultOfDepthFirst}
+use Rattle.session.specs.Record.{byteOf}
+use Rattle.session.specs.Parts.{ofKind}
 use Rattle.session.specs.Program.{Program}
 use Rattle.session.specs.declared.Value.{Value}
 use Rattle.session.specs.declared.Value.the-variants.{Number}
@@ -15,7 +16,7 @@ use Rattle.session.specs.declared.Message.{Message}
 use Rattle.session.specs.declared.Step.the-variants.{Set, Read, Write, Send, Quit}
 use Rattle.model.specs.History.{History}
 use Rattle.model.specs.Step.{levelAt}
-use Rattle.model.proofs.Computing.{computing, eachLevel, message}
+use Rattle.model.proofs.Computing.{computing, eachLevel, message, plainBytes}
 
 -- Levels 3 over 1 and 2, these over 0, an object at each. The root, at 0, sends to 1, to 2 and three times to 3; those at 1 and 2 send 15
 -- times to 3: 33 forks there, whose methods are empty.
@@ -88,6 +89,18 @@ countsAfter (refused number place) = []
 abbrev countsDeep : Progress → List ℕ
 countsDeep g = map (λ t. length (t .ended)) (g .levels)
 
+-- Levels 0 over 1 and 2, these over 3. The root, at 3, sends to 0, 2 and 1, whose methods are empty: the first manager to end is level 0's
+abbrev hanging : Program
+hanging =
+    eachLevel (0x0F ∷ 0x0A ∷ 0x0C ∷ 0x08 ∷ []) ([] ∷ [] ∷ [] ∷ ((Send 1 0 0 ∷ Send 1 0 2 ∷ Send 1 0 1 ∷ []) ∷ []) ∷ [])
+
+-- the bytes of its plain run for a clearance, and the levels of the kind 6 records in them
+abbrev ranHanging : ℕ → List ℕ
+ranHanging c = plainBytes hanging 3 c
+
+abbrev levelsOf : List ℕ → List ℕ
+levelsOf bytes = map (λ rec. byteOf rec 1) (ofKind 6 bytes)
+
 pub record Examples : Type 0 where
   -- "32 and 33 forks at one level": the one of largest stamp is dropped, whichever arrived last
   fan-arrived : stampsAfter (runOf fan root lateFirst) ≡ kept
@@ -102,12 +115,9 @@ pub record Examples : Type 0 where
   -- "the end stamp of the largest smaller fork stamp there"; "starts one above the last one's end stamp"
   chain-plain : fieldsAfter (runOf chain root (plainOrder chain root)) ≡ Number 8 ∷ Number 7 ∷ []
   chain-depth-first : firstFields (resultOfDepthFirst chain (depthFirst chain root)) ≡ Number 8 ∷ Number 7 ∷ []
-  -- "levels' groups in any order", each shown level once
-  by-number : ordersShown fan 1 (byNumber fan 1) ≡ true
-  other-order : ordersShown fan 1 (1 ∷ 0 ∷ []) ≡ true
-  left-out : ordersShown fan 1 (1 ∷ []) ≡ false
-  twice : ordersShown fan 1 (0 ∷ 1 ∷ 0 ∷ []) ≡ false
-  not-shown : ordersShown fan 1 (0 ∷ 1 ∷ 2 ∷ []) ≡ false
+  -- "groups of kind 6 stand by rising level number": of the levels that the clearance dominates, whichever first ended a manager
+  groups-of-1 : levelsOf (ranHanging 1) ≡ 1 ∷ 3 ∷ []
+  groups-of-0 : levelsOf (ranHanging 0) ≡ 0 ∷ 1 ∷ 2 ∷ 3 ∷ []
 
 pub examples : Examples
 unfolding computing
@@ -122,9 +132,6 @@ examples =
       broad-depth-first = refl;
       chain-plain = refl;
       chain-depth-first = refl;
-      by-number = refl;
-      other-order = refl;
-      left-out = refl;
-      twice = refl;
-      not-shown = refl;
+      groups-of-1 = refl;
+      groups-of-0 = refl;
     }

@@ -232,9 +232,9 @@ finished-made s ls t e = by (listed-of s ls)
     by (ended u x) = rw (ap stateIn (sym (ended-is s ls u x) ∙ e)) at x
 
 -- a call that questions 1 to 11 end
-run-refused : (q : Request) (order ls : List ℕ) (k : ℕ) → LowestNo (runAsks q) k → timetabled q order ls ≡ record { number = k; place = 0; count = 0; work = q .work; buffer = q .buffer }
+run-refused : (q : Request) (ls : List ℕ) (k : ℕ) → LowestNo (runAsks q) k → timetabled q ls ≡ record { number = k; place = 0; count = 0; work = q .work; buffer = q .buffer }
 unfolding timetabled
-run-refused q order ls k w =
+run-refused q ls k w =
     rw (run-no q k w, ne-eqb k 0 (lowest-not (runAsks q) k w (run-numbered q))) refl
 
 pub demand-1-timetabled : Demand1Timetabled
@@ -242,9 +242,9 @@ unfolding answerOf
 demand-1-timetabled =
     record {
       refused = run-refused;
-      stopped = λ q order ls k i y x. timetabled-is q order ls (run-yes q y) ∙ ap (answerOf q order) (stops-is (q .session) ls k i x);
-      unended = λ q order ls t y x. timetabled-is q order ls (run-yes q y) ∙ ap (answerOf q order) (unended-is (q .session) ls t x);
-      ended = λ q order ls t y x. timetabled-is q order ls (run-yes q y) ∙ ap (answerOf q order) (ended-is (q .session) ls t x);
+      stopped = λ q ls k i y x. timetabled-is q ls (run-yes q y) ∙ ap (answerOf q) (stops-is (q .session) ls k i x);
+      unended = λ q ls t y x. timetabled-is q ls (run-yes q y) ∙ ap (answerOf q) (unended-is (q .session) ls t x);
+      ended = λ q ls t y x. timetabled-is q ls (run-yes q y) ∙ ap (answerOf q) (ended-is (q .session) ls t x);
       put = λ q. put-of (runAsks q);
       listed = listed-of;
     }
@@ -253,12 +253,12 @@ pub demand-1-plain : Demand1Plain
 unfolding plain
 demand-1-plain =
     record {
-      refused = λ q order k w. run-refused q order (plainOrder (programOf (q .session)) (rootOf (q .session))) k w;
-      ended = λ q order y.
+      refused = λ q k w. run-refused q (plainOrder (programOf (q .session)) (rootOf (q .session))) k w;
+      ended = λ q y.
           let ls = plainOrder (programOf (q .session)) (rootOf (q .session)) in
           let (t, e) = accepted-plain (q .session) (passes (question10 q) q (run-yes q y) .accepted) in
           let m = finished-made (q .session) ls t e in
-          (t, (m, demand-1-timetabled .ended q order ls t y m));
+          (t, (m, demand-1-timetabled .ended q ls t y m));
       put = λ q. put-of (runAsks q);
     }
 
@@ -266,7 +266,7 @@ pub demand-1-depth-first : Demand1DepthFirst
 unfolding deep
 demand-1-depth-first =
     record {
-      refused = λ q order k w. rw (deep-no q k w, ne-eqb k 0 (lowest-not (deepAsks q) k w (deep-numbered q))) refl;
-      ended = λ q order y. deep-is q order (deep-yes q y);
+      refused = λ q k w. rw (deep-no q k w, ne-eqb k 0 (lowest-not (deepAsks q) k w (deep-numbered q))) refl;
+      ended = λ q y. deep-is q (deep-yes q y);
       put = λ q. put-of (deepAsks q);
     }

@@ -1,7 +1,7 @@
--- What tells two results apart to the reader, and what does not: computed pairs. Each pair of the first record differs in one place, so that
--- an equality which leaves out the objects, the histories of a level or the reply is refused here. Assumes nothing.
+-- What tells two results apart, record by record, and what does not: computed pairs that differ in one place, so that a comparison which leaves
+-- out the objects, the histories of a level or the reply is refused here. And runs that are not equal to the reader. Assumes nothing.
 use Prim.Native.Nat.{ℕ, zero, suc}
-use mathlib.Core.Path.{_≡_, refl, sym, ap}
+use mathlib.Core.Path.{_≡_, refl, sym, _∙_, ap}
 use mathlib.Core.List.{List, [], _∷_, _++_}
 use native.Mathlib.Omega.{arith}
 use borrow.Author.Tests.{eqb-false, ne-eqb}
@@ -11,7 +11,7 @@ use Rattle.session.specs.Lists.{joined, select}
 use Rattle.session.specs.Record.{Record, byteOf}
 use Rattle.session.specs.SessionW.{sessionW}
 use Rattle.model.specs.Entries.{Answer, plain}
-use Rattle.model.specs.Reader.{bytesWritten, SameBytes, EqualToReader}
+use Rattle.model.specs.Reader.{bytesWritten, SameRecords, EqualToReader}
 use Rattle.model.proofs.Computing.{computing, lent}
 
 -- a kind 5 record of object o at level 0, its first field x
@@ -74,9 +74,9 @@ quitsNil = set sessionW 132 2
 abbrev longer : List ℕ
 longer = take 224 sessionW ++ (3 ∷ 1 ∷ 0 ∷ 1 ∷ 2 ∷ replicate 11 0) ++ drop 224 sessionW
 
--- a plain run for a reader cleared to level 1, the level groups in the given order
-abbrev ran : List ℕ → List ℕ → Answer
-ran s order = plain (lent s 1) order
+-- a plain run for a reader cleared to level 1
+abbrev ran : List ℕ → Answer
+ran s = plain (lent s 1)
 
 -- the records that session W's run writes
 abbrev objectsW : List Record
@@ -98,10 +98,7 @@ replyW = 7 ∷ 0 ∷ 0 ∷ 1 ∷ 9 ∷ replicate 11 0
 abbrev bytesW : List ℕ
 bytesW = joined (objectsW ++ lowW ∷ highW ∷ replyW ∷ [])
 
--- the level groups in the other order, another reply, another history
-abbrev bytesTurned : List ℕ
-bytesTurned = joined (objectsW ++ highW ∷ lowW ∷ replyW ∷ [])
-
+-- another reply, another history
 abbrev bytesNil : List ℕ
 bytesNil = joined (objectsW ++ lowW ∷ highW ∷ (7 ∷ replicate 15 0) ∷ [])
 
@@ -110,31 +107,26 @@ bytesLonger = joined (objectsW ++ lowW ∷ longerW ∷ replyW ∷ [])
 
 pub record Pairs : Type 0 where
   -- "the same kind 5 records in the same order"
-  object-alone : SameBytes whole otherObject → ⊥
-  objects-turned : SameBytes whole objectsTurned → ⊥
+  object-alone : SameRecords whole otherObject → ⊥
+  objects-turned : SameRecords whole objectsTurned → ⊥
   -- "for every level the same kind 6 records of that level in the same order"
-  low-history-alone : SameBytes whole otherLow → ⊥
-  high-history-alone : SameBytes whole otherHigh → ⊥
-  history-less : SameBytes whole historyLess → ⊥
-  history-more : SameBytes historyLess whole → ⊥
-  histories-turned : SameBytes whole historiesTurned → ⊥
+  low-history-alone : SameRecords whole otherLow → ⊥
+  high-history-alone : SameRecords whole otherHigh → ⊥
+  history-less : SameRecords whole historyLess → ⊥
+  history-more : SameRecords historyLess whole → ⊥
+  histories-turned : SameRecords whole historiesTurned → ⊥
   -- "either the same kind 7 record or none in both"
-  reply-alone : SameBytes whole otherReply → ⊥
-  reply-less : SameBytes whole noReply → ⊥
-  reply-more : SameBytes noReply whole → ⊥
-  -- "levels' groups in any order"
-  groups-turned : SameBytes whole groupsTurned
+  reply-alone : SameRecords whole otherReply → ⊥
+  reply-less : SameRecords whole noReply → ⊥
+  reply-more : SameRecords noReply whole → ⊥
+  -- document 01's "levels' groups in any order": it compares level by level
+  groups-turned : SameRecords whole groupsTurned
 
--- The same of whole runs: session W with another reply, with another step count at level 1, and with its level groups in two orders. Their
--- bytes are literals, of which the reader compares the records
-pub record RunPairs : Type 0 where
-  bytes-W : bytesWritten (ran sessionW (0 ∷ 1 ∷ [])) ≡ bytesW
-  bytes-turned : bytesWritten (ran sessionW (1 ∷ 0 ∷ [])) ≡ bytesTurned
-  bytes-nil : bytesWritten (ran quitsNil (0 ∷ 1 ∷ [])) ≡ bytesNil
-  bytes-longer : bytesWritten (ran longer (0 ∷ 1 ∷ [])) ≡ bytesLonger
-  reply-alone : SameBytes bytesW bytesNil → ⊥
-  history-alone : SameBytes bytesW bytesLonger → ⊥
-  groups-turned : SameBytes bytesW bytesTurned
+-- The bytes of whole runs: session W, with another reply, and with another step count at level 1
+record RunBytes : Type 0 where
+  bytes-W : bytesWritten (ran sessionW) ≡ bytesW
+  bytes-nil : bytesWritten (ran quitsNil) ≡ bytesNil
+  bytes-longer : bytesWritten (ran longer) ≡ bytesLonger
 
 -- a byte of the record at a place
 abbrev byteIn : ℕ → ℕ → List Record → ℕ
@@ -146,12 +138,6 @@ unfolding select
 turned zero = refl
 turned (suc zero) = refl
 turned (suc (suc l)) = rw (ne-eqb 0 (suc (suc l)) (λ e. omega (arith, e)), ne-eqb 1 (suc (suc l)) (λ e. omega (arith, e))) refl
-
-turnedW : (l : ℕ) → select (λ rec. eqb (byteOf rec 1) l) (lowW ∷ highW ∷ []) ≡ select (λ rec. eqb (byteOf rec 1) l) (highW ∷ lowW ∷ [])
-unfolding select
-turnedW zero = refl
-turnedW (suc zero) = refl
-turnedW (suc (suc l)) = rw (ne-eqb 0 (suc (suc l)) (λ e. omega (arith, e)), ne-eqb 1 (suc (suc l)) (λ e. omega (arith, e))) refl
 
 -- some records, with which both sides of an equation are compared
 itself : (rs : List Record) → rs ≡ rs
@@ -174,30 +160,17 @@ pairs =
       groups-turned = record { objects = itself (object 0 3 ∷ object 1 4 ∷ []); histories = turned; reply = itself (reply 9 ∷ []) };
     }
 
-pub runPairs : RunPairs
+runBytes : RunBytes
 unfolding computing
-runPairs =
-    record {
-      bytes-W = refl;
-      bytes-turned = refl;
-      bytes-nil = refl;
-      bytes-longer = refl;
-      reply-alone = λ e. eqb-false 9 0 refl (ap (byteIn 0 4) (e .reply));
-      history-alone = λ e. eqb-false 5 6 refl (ap (byteIn 0 12) (e .histories 1));
-      groups-turned = record { objects = itself objectsW; histories = turnedW; reply = itself (replyW ∷ []) };
-    }
+runBytes = record { bytes-W = refl; bytes-nil = refl; bytes-longer = refl }
 
--- so the runs are unequal, and equal
-held : (a b a' b' : List ℕ) → a ≡ a' → b ≡ b' → SameBytes a b → SameBytes a' b'
-held a b a' b' p q e = rw (sym p, sym q) e
+-- they differ in the reply alone, and in one history alone: neither pair is equal to the reader
+pub runs-reply-alone : EqualToReader (ran sessionW) (ran quitsNil) → ⊥
+unfolding joined
+runs-reply-alone e =
+    eqb-false 9 0 refl (ap (λ bytes. getD bytes 68 0) (sym (runBytes .bytes-W) ∙ e ∙ runBytes .bytes-nil))
 
-pub runs-reply-alone : EqualToReader (ran sessionW (0 ∷ 1 ∷ [])) (ran quitsNil (0 ∷ 1 ∷ [])) → ⊥
-runs-reply-alone e = runPairs .reply-alone (held _ _ bytesW bytesNil (runPairs .bytes-W) (runPairs .bytes-nil) e)
-
-pub runs-history-alone : EqualToReader (ran sessionW (0 ∷ 1 ∷ [])) (ran longer (0 ∷ 1 ∷ [])) → ⊥
+pub runs-history-alone : EqualToReader (ran sessionW) (ran longer) → ⊥
+unfolding joined
 runs-history-alone e =
-    runPairs .history-alone (held _ _ bytesW bytesLonger (runPairs .bytes-W) (runPairs .bytes-longer) e)
-
-pub runs-groups-turned : EqualToReader (ran sessionW (0 ∷ 1 ∷ [])) (ran sessionW (1 ∷ 0 ∷ []))
-runs-groups-turned =
-    held bytesW bytesTurned _ _ (sym (runPairs .bytes-W)) (sym (runPairs .bytes-turned)) (runPairs .groups-turned)
+    eqb-false 5 6 refl (ap (λ bytes. getD bytes 60 0) (sym (runBytes .bytes-W) ∙ e ∙ runBytes .bytes-longer))

@@ -35,9 +35,9 @@ for0 = 0 ∷ 0 ∷ 48 ∷ joined (object0 ∷ history0 ∷ reply ∷ [])
 abbrev for1 : List ℕ
 for1 = 0 ∷ 0 ∷ 80 ∷ joined (object0 ∷ object1 ∷ history0 ∷ history1 ∷ reply ∷ [])
 
--- a timetable of session W, for clearance 1, the level groups by number
+-- a timetable of session W, for clearance 1
 abbrev timetabledW : List ℕ → Answer
-timetabledW = timetabled (lent sessionW 1) (0 ∷ 1 ∷ [])
+timetabledW = timetabled (lent sessionW 1)
 
 abbrev sixAndSix : List ℕ
 sixAndSix = replicate 6 0 ++ replicate 6 1
@@ -47,22 +47,22 @@ abbrev masked : ℕ → ℕ → List ℕ
 masked first second = set (set sessionW 2 first) 18 second
 
 pub record ProvedCases : Type 0 where
-  m1 : answered (plain (lent sessionW 0) (0 ∷ [])) ≡ for0
-  m1-depth-first : answered (deep (lent sessionW 0) (0 ∷ [])) ≡ for0
-  m2 : answered (plain (lent sessionW 1) (0 ∷ 1 ∷ [])) ≡ for1
-  m2-depth-first : answered (deep (lent sessionW 1) (0 ∷ 1 ∷ [])) ≡ for1
+  m1 : answered (plain (lent sessionW 0)) ≡ for0
+  m1-depth-first : answered (deep (lent sessionW 0)) ≡ for0
+  m2 : answered (plain (lent sessionW 1)) ≡ for1
+  m2-depth-first : answered (deep (lent sessionW 1)) ≡ for1
   m3 : answered (timetabledW sixAndSix) ≡ for1
   m4 : answered (timetabledW (1 ∷ sixAndSix)) ≡ 13 ∷ 0 ∷ 0 ∷ []
   m5 : answered (timetabledW (0 ∷ 0 ∷ 0 ∷ 1 ∷ [])) ≡ 15 ∷ 0 ∷ 0 ∷ []
   m5-early : answered (timetabledW (replicate 3 0 ++ replicate 6 1 ++ replicate 3 0)) ≡ for1
   m6 : answered (timetabledW (sixAndSix ++ 0 ∷ [])) ≡ 13 ∷ 12 ∷ 0 ∷ []
   m7 : answered (timetabledW (replicate 6 0)) ≡ 15 ∷ 0 ∷ 0 ∷ []
-  m8 : answered (timetabled (lent [] 0) [] []) ≡ 1 ∷ 0 ∷ 0 ∷ []
+  m8 : answered (timetabled (lent [] 0) []) ≡ 1 ∷ 0 ∷ 0 ∷ []
   m9 : table.joinOf (0x01 ∷ 0x03 ∷ 0x05 ∷ 0x0F ∷ []) 1 2 ≡ 3
   m10 : table.numberOfVerdict (table.verdictOf (0x01 ∷ 0x02 ∷ [])) ≡ 5
-  m10-session : answered (plain (lent (masked 0x01 0x02) 0) []) ≡ 5 ∷ 0 ∷ 0 ∷ []
+  m10-session : answered (plain (lent (masked 0x01 0x02) 0)) ≡ 5 ∷ 0 ∷ 0 ∷ []
   m11 : table.numberOfVerdict (table.verdictOf (0x03 ∷ 0x03 ∷ [])) ≡ 4
-  m11-session : answered (plain (lent (masked 0x03 0x03) 0) []) ≡ 4 ∷ 0 ∷ 0 ∷ []
+  m11-session : answered (plain (lent (masked 0x03 0x03) 0)) ≡ 4 ∷ 0 ∷ 0 ∷ []
   m12-stamp : childStamp (childStamp 0 0 2) 1 1 ≡ 0x21000000
   m12-order : inserted (λ x. x) 0x21000000 (0x20000000 ∷ 0x30000000 ∷ []) ≡ 0x20000000 ∷ 0x21000000 ∷ 0x30000000 ∷ []
 

@@ -1,15 +1,12 @@
 -- The demands are not empty: sessions that are equal to a reader, and sessions that are not. Assumes nothing.
 use Prim.Native.Nat.{ℕ}
 use mathlib.Core.Path.{_≡_, refl, sym, _∙_, ap}
-use mathlib.Core.Bool.{true}
 use mathlib.Core.List.{List, [], _∷_, _++_}
 use lib.ListN.{getD, set, replicate}
 use Rattle.session.specs.Parts.{ofKind}
 use Rattle.session.specs.SessionW.{sessionW}
-use Rattle.session.specs.Program.{programOf}
-use Rattle.model.specs.Result.{ordersShown}
 use Rattle.model.specs.Entries.{timetabled, plain, deep, Answer}
-use Rattle.model.specs.Reader.{bytesWritten, historiesAt, SameBytes, EqualToReader}
+use Rattle.model.specs.Reader.{bytesWritten, EqualToReader}
 use native.Mathlib.Omega.{arith}
 use Rattle.session.specs.Record.{byteOf}
 use Rattle.session.specs.Emptied.{emptied}
@@ -27,22 +24,22 @@ below = set sessionW 104 8
 -- runs of the three for a reader cleared to level 0, the depth-first run of W emptied for him, and runs of two for a reader cleared to
 -- level 1
 abbrev ranW : Answer
-ranW = timetabled (lent sessionW 0) (0 ∷ []) (replicate 6 0 ++ replicate 6 1)
+ranW = timetabled (lent sessionW 0) (replicate 6 0 ++ replicate 6 1)
 
 abbrev ranAbove : Answer
-ranAbove = plain (lent above 0) (0 ∷ [])
+ranAbove = plain (lent above 0)
 
 abbrev ranBelow : Answer
-ranBelow = plain (lent below 0) (0 ∷ [])
+ranBelow = plain (lent below 0)
 
 abbrev deepW : Answer
-deepW = deep (lent (emptied 0 sessionW) 0) (0 ∷ [])
+deepW = deep (lent (emptied 0 sessionW) 0)
 
 abbrev fullW : Answer
-fullW = plain (lent sessionW 1) (0 ∷ 1 ∷ [])
+fullW = plain (lent sessionW 1)
 
 abbrev fullAbove : Answer
-fullAbove = plain (lent above 1) (1 ∷ 0 ∷ [])
+fullAbove = plain (lent above 1)
 
 -- the records that W's reader at level 0 is shown
 abbrev shown : List ℕ
@@ -75,9 +72,7 @@ record Computed : Type 0 where
   byteFull : objectByte 1 12 fullW ≡ 0
   byteFullAbove : objectByte 1 12 fullAbove ≡ 42
   run-finished : ranW .number ≡ 0
-  run-groups : ordersShown (programOf sessionW) 0 (0 ∷ []) ≡ true
   deep-finished : deepW .number ≡ 0
-  deep-groups : ordersShown (programOf (emptied 0 sessionW)) 0 (0 ∷ []) ≡ true
 
 computed : Computed
 unfolding computing
@@ -90,27 +85,19 @@ computed =
       byteFull = refl;
       byteFullAbove = refl;
       run-finished = refl;
-      run-groups = refl;
       deep-finished = refl;
-      deep-groups = refl;
     }
-
-same-bytes : (a b : List ℕ) → a ≡ b → SameBytes a b
-same-bytes a b e =
-    record { objects = ap (ofKind 5) e; histories = λ l. ap (historiesAt l) e; reply = ap (ofKind 7) e }
 
 pub readers : Readers
 readers =
     record {
-      equal-below = same-bytes (bytesWritten ranW) (bytesWritten ranAbove) (computed .bytesW ∙ sym (computed .bytesAbove));
-      unequal-above = λ e. omega (arith, computed .byteFull, computed .byteFullAbove, ap (λ rs. byteOf (getD rs 1 []) 12) (e .objects));
-      unequal = λ e. omega (arith, computed .byteW, computed .byteBelow, ap (λ rs. byteOf (getD rs 0 []) 4) (e .objects));
+      equal-below = computed .bytesW ∙ sym (computed .bytesAbove);
+      unequal-above = λ e. omega (arith, computed .byteFull, computed .byteFullAbove, ap (λ bytes. byteOf (getD (ofKind 5 bytes) 1 []) 12) e);
+      unequal = λ e. omega (arith, computed .byteW, computed .byteBelow, ap (λ bytes. byteOf (getD (ofKind 5 bytes) 0 []) 4) e);
       run = record {
         request = lent sessionW 0;
         of = refl;
         reader = refl;
-        order = 0 ∷ [];
-        groups = computed .run-groups;
         list = replicate 6 0 ++ replicate 6 1;
         answer = refl;
         finished = computed .run-finished;
@@ -119,8 +106,6 @@ readers =
         request = lent (emptied 0 sessionW) 0;
         of = refl;
         reader = refl;
-        order = 0 ∷ [];
-        groups = computed .deep-groups;
         answer = refl;
         finished = computed .deep-finished;
       };

@@ -104,10 +104,10 @@ topmost = eachLevel (0x07 ∷ 0x02 ∷ 0x06 ∷ []) ([] ∷ ((Send 1 0 2 ∷ Sen
 
 pub record Runs : Type 0 where
   -- "For levels the clearance dominates"; "Kind 7, if the root's level is dominated"
-  above-hidden : answered (plain (lent fromAbove 0) (0 ∷ [])) ≡ aboveFor0
-  above-hidden-depth-first : answered (deep (lent fromAbove 0) (0 ∷ [])) ≡ aboveFor0
-  above-shown : answered (plain (lent fromAbove 1) (0 ∷ 1 ∷ [])) ≡ aboveFor1
-  above-shown-depth-first : answered (deep (lent fromAbove 1) (0 ∷ 1 ∷ [])) ≡ aboveFor1
+  above-hidden : answered (plain (lent fromAbove 0)) ≡ aboveFor0
+  above-hidden-depth-first : answered (deep (lent fromAbove 0)) ≡ aboveFor0
+  above-shown : answered (plain (lent fromAbove 1)) ≡ aboveFor1
+  above-shown-depth-first : answered (deep (lent fromAbove 1)) ≡ aboveFor1
   beside-hidden : plainBytes beside 1 2 ≡ besideFor2
   beside-hidden-depth-first : deepBytes beside 1 2 ≡ besideFor2
   beside-shown : plainBytes beside 1 1 ≡ besideFor1
@@ -116,8 +116,8 @@ pub record Runs : Type 0 where
   lineage-reads : fieldsAfter (runOf lineage (message 0) (plainOrder lineage (message 0))) ≡ lineageFields
   lineage-reads-depth-first : fieldsOf (resultOfDepthFirst lineage (depthFirst lineage (message 0))) ≡ lineageFields
   -- "WRITE a to field b", "each NIL or a number"
-  writes-nil : answered (plain (lent writesNil 0) (0 ∷ [])) ≡ writesNilFor0
-  writes-nil-depth-first : answered (deep (lent writesNil 0) (0 ∷ [])) ≡ writesNilFor0
+  writes-nil : answered (plain (lent writesNil 0)) ≡ writesNilFor0
+  writes-nil-depth-first : answered (deep (lent writesNil 0)) ≡ writesNilFor0
   -- "each scheduler step by the lowest-numbered level that may step"
   order-W : plainOrder (programOf sessionW) (rootOf sessionW) ≡ 0 ∷ 0 ∷ 0 ∷ 0 ∷ 0 ∷ 0 ∷ 1 ∷ 1 ∷ 1 ∷ 1 ∷ 1 ∷ 1 ∷ []
   order-diamond : plainOrder diamond (message 0) ≡ 0 ∷ 0 ∷ 0 ∷ 0 ∷ 1 ∷ 1 ∷ 2 ∷ 2 ∷ 3 ∷ []

@@ -13,7 +13,6 @@ use Rattle.session.specs.declared.Verdict.the-variants.{Accepted}
 use Rattle.model.specs.Limits.{resultBytes}
 use Rattle.model.specs.Step.{State, levelAt, moved, moveAt}
 use Rattle.model.specs.Schedule.{readIn, finished, runOf, Leads}
-use Rattle.model.specs.Result.{ordersShown}
 use Rattle.model.specs.Entries.{Request, Answer, question10, entryRefusal, timetabled, plain, deep}
 use Rattle.model.specs.Reader.{Finished, bytesWritten, EqualToReader}
 use Rattle.model.specs.Isolation.{Isolated}
@@ -36,24 +35,24 @@ EmptiedAccepted = (s : List ℕ) → IsAccepted s → (c : ℕ) → IsAccepted (
 
 -- The plain run is finished wherever questions 1 to 11 say yes
 abbrev pub PlainFinishes : Type 0
-PlainFinishes = (q : Request) (order : List ℕ) → entryRefusal (question10 q) q ≡ 0 → Finished (plain q order)
+PlainFinishes = (q : Request) → entryRefusal (question10 q) q ≡ 0 → Finished (plain q)
 
 -- The depth-first run is finished wherever questions 1 to 9 and 11 say yes
 abbrev pub DeepFinishes : Type 0
-DeepFinishes = (q : Request) (order : List ℕ) → entryRefusal true q ≡ 0 → Finished (deep q order)
+DeepFinishes = (q : Request) → entryRefusal true q ≡ 0 → Finished (deep q)
 
--- Demand 2: a finished run has the records of the depth-first run. Byte by byte, for any clearance, with the level groups in any order
+-- Demand 2: a finished run has the records of the depth-first run. Byte by byte, for any clearance
 abbrev pub Demand2 : Type 0
 Demand2 =
-    (q : Request) (order ls : List ℕ)
-    → Finished (timetabled q order ls)
-    → Finished (deep q order) × (bytesWritten (timetabled q order ls) ≡ bytesWritten (deep q order))
+    (q : Request) (ls : List ℕ)
+    → Finished (timetabled q ls)
+    → Finished (deep q) × (bytesWritten (timetabled q ls) ≡ bytesWritten (deep q))
 
 abbrev pub Demand2Plain : Type 0
 Demand2Plain =
-    (q : Request) (order : List ℕ)
-    → Finished (plain q order)
-    → Finished (deep q order) × (bytesWritten (plain q order) ≡ bytesWritten (deep q order))
+    (q : Request)
+    → Finished (plain q)
+    → Finished (deep q) × (bytesWritten (plain q) ≡ bytesWritten (deep q))
 
 -- A step is made from what its level sees alone (`moveAt`). On every state that a run reaches it is the step made from the whole state and
 -- the whole program: nothing that a manager looks at is hidden from its level
@@ -73,16 +72,14 @@ Isolation =
     → (ls : List ℕ) (t : State) → EndsIn s ls t
     → Isolated (programOf s) (programOf (emptied c s)) c ls (readIn (programOf s) (rootOf s)) (readIn (programOf (emptied c s)) (rootOf (emptied c s)))
 
--- a is the answer of a finished timetabled run of session s for a reader cleared to level c, whatever its list, its buffers and its order of
--- the level groups. A plain run is one
+-- a is the answer of a finished timetabled run of session s for a reader cleared to level c, whatever its list and its buffers. A plain run
+-- is one
 pub record TimetabledRun (s : List ℕ) (c : ℕ) (a : Answer) : Type 0 where
   pub request : Request
   pub of : request .session ≡ s
   pub reader : request .clearance ≡ c
-  pub order : List ℕ
-  pub groups : ordersShown (programOf s) c order ≡ true
   pub list : List ℕ
-  pub answer : a ≡ timetabled request order list
+  pub answer : a ≡ timetabled request list
   pub finished : Finished a
 
 -- a is that of a finished depth-first run
@@ -90,20 +87,17 @@ pub record DepthFirstRun (s : List ℕ) (c : ℕ) (a : Answer) : Type 0 where
   pub request : Request
   pub of : request .session ≡ s
   pub reader : request .clearance ≡ c
-  pub order : List ℕ
-  pub groups : ordersShown (programOf s) c order ≡ true
-  pub answer : a ≡ deep request order
+  pub answer : a ≡ deep request
   pub finished : Finished a
 
 -- The depth-first run of an emptied session is there for every accepted session and each of its levels, with any buffer that question 11 lets
--- pass, any work slice and any order of the level groups
+-- pass and any work slice
 abbrev pub EmptiedRuns : Type 0
 EmptiedRuns =
     (s : List ℕ) → IsAccepted s
     → (c : ℕ) → c < levelCount s
     → (q : Request) → q .session ≡ emptied c s → q .clearance ≡ c → resultBytes ≤ length (q .buffer)
-    → (order : List ℕ) → ordersShown (programOf (emptied c s)) c order ≡ true
-    → DepthFirstRun (emptied c s) c (deep q order)
+    → DepthFirstRun (emptied c s) c (deep q)
 
 -- Demand 3: any two accepted sessions, any two whole lists of scheduler steps that finish: the two runs are equal to a reader exactly when
 -- the depth-first runs of the two sessions emptied for that reader are. A finished run's session is accepted and has the level c. By

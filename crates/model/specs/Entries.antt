@@ -14,7 +14,7 @@ use Rattle.session.specs.Program.{programOf}
 use Rattle.model.specs.Limits.{workNumbers, resultBytes}
 use Rattle.model.specs.Schedule.{Outcome, finished, refused, runOf, plainOrder}
 use Rattle.model.specs.DepthFirst.{depthFirst}
-use Rattle.model.specs.Result.{Result, resultOf, resultOfDepthFirst, bytesOf, ordersShown}
+use Rattle.model.specs.Result.{Result, resultOf, resultOfDepthFirst, bytesOf}
 
 -- a session, a clearance, and what the lent work slice and result buffer hold
 pub record Request : Type 0 where
@@ -63,11 +63,11 @@ cleared work = replicate workNumbers 0 ++ drop workNumbers work
 abbrev pub writtenOver : List ℕ → List ℕ → List ℕ
 writtenOver bytes buffer = bytes ++ drop (length bytes) buffer
 
--- the bytes of a result of the request's session, the level groups in the given order
-abbrev pub bytesFor : Request → List ℕ → Result → List ℕ
-bytesFor q order r =
+-- the bytes of a result of the request's session
+abbrev pub bytesFor : Request → Result → List ℕ
+bytesFor q r =
     let s = q .session in
-    bytesOf (programOf s) (levelOf s (rootObject s)) r (q .clearance) order
+    bytesOf (programOf s) (levelOf s (rootObject s)) r (q .clearance)
 
 -- "All yes gives number 0, place 0 and, from a run, the count of result bytes written"
 abbrev pub success : Request → List ℕ → List ℕ → Answer
@@ -75,33 +75,31 @@ success q work bytes =
     record { number = 0; place = 0; count = length bytes; work = work; buffer = writtenOver bytes (q .buffer) }
 
 -- "After 12 to 15 the result buffer is untouched; then, and after success, the work slice's first 8,192 numbers are 0"
-unfoldable pub answerOf : Request → List ℕ → Outcome → Answer
-answerOf q order (finished st) = success q (cleared (q .work)) (bytesFor q order (resultOf (programOf (q .session)) st))
-answerOf q order (refused number place) =
+unfoldable pub answerOf : Request → Outcome → Answer
+answerOf q (finished st) = success q (cleared (q .work)) (bytesFor q (resultOf (programOf (q .session)) st))
+answerOf q (refused number place) =
     record { number = number; place = place; count = 0; work = cleared (q .work); buffer = q .buffer }
 
 -- the timetabled run, for a timetable
-unfoldable pub timetabled : Request → List ℕ → List ℕ → Answer
-timetabled q order timetable =
+unfoldable pub timetabled : Request → List ℕ → Answer
+timetabled q timetable =
     let number = entryRefusal (question10 q) q in
-    let ran = answerOf q order (runOf (programOf (q .session)) (rootOf (q .session)) timetable) in
+    let ran = answerOf q (runOf (programOf (q .session)) (rootOf (q .session)) timetable) in
     cond (eqb number 0) ran (untouched q number)
 
 -- the plain run: "A timetable, or the order of a plain run, is one list of scheduler steps"
-unfoldable pub plain : Request → List ℕ → Answer
-plain q order = timetabled q order (plainOrder (programOf (q .session)) (rootOf (q .session)))
+unfoldable pub plain : Request → Answer
+plain q = timetabled q (plainOrder (programOf (q .session)) (rootOf (q .session)))
 
 -- the depth-first run, which has no work slice
-unfoldable pub deep : Request → List ℕ → Answer
-deep q order =
+unfoldable pub deep : Request → Answer
+deep q =
     let p = programOf (q .session) in
     let number = entryRefusal true q in
-    let ran = success q (q .work) (bytesFor q order (resultOfDepthFirst p (depthFirst p (rootOf (q .session))))) in
+    let ran = success q (q .work) (bytesFor q (resultOfDepthFirst p (depthFirst p (rootOf (q .session))))) in
     cond (eqb number 0) ran (untouched q number)
 
--- an entry's number, place and count, and what the lent slices hold afterwards, are those of a definition's answer, with the level groups in
--- some order: "in whichever order, each shown level's histories stand together, once"
-pub record Answers (q : Request) (of : List ℕ → Answer) (number place count : ℕ) (work buffer : List ℕ) : Type 0 where
-  pub order : List ℕ
-  pub groups : number ≡ 0 → ordersShown (programOf (q .session)) (q .clearance) order ≡ true
-  pub answer : record { number = number; place = place; count = count; work = work; buffer = buffer } ≡ of order
+-- an entry's number, place and count, and what the lent slices hold afterwards, are those of a definition's answer
+abbrev pub Answers : Answer → ℕ → ℕ → ℕ → List ℕ → List ℕ → Type 0
+Answers a number place count work buffer =
+    record { number = number; place = place; count = count; work = work; buffer = buffer } ≡ a

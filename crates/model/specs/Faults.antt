@@ -110,35 +110,35 @@ answerWith q work bytes =
 -- The timetabled run, for any bytes, clearance, timetable and slices
 pub record Demand1Timetabled : Type 0 where
   -- 1 to 11: "otherwise 0", "Up to 11, both buffers stay untouched"
-  pub refused : (q : Request) (order ls : List ℕ) (k : ℕ) → LowestNo (runAsks q) k →
-      timetabled q order ls ≡ record { number = k; place = 0; count = 0; work = q .work; buffer = q .buffer }
+  pub refused : (q : Request) (ls : List ℕ) (k : ℕ) → LowestNo (runAsks q) k →
+      timetabled q ls ≡ record { number = k; place = 0; count = 0; work = q .work; buffer = q .buffer }
   -- 12 to 14: "for 12 to 14 the timetable position from 0", "After 12 to 15 the result buffer is untouched; then .. the work slice's first
   -- 8,192 numbers are 0"
-  pub stopped : (q : Request) (order ls : List ℕ) (k i : ℕ) → AllYes (runAsks q) → StopsAt (q .session) ls k i →
-      timetabled q order ls ≡ record { number = k; place = i; count = 0; work = cleared (q .work); buffer = q .buffer }
+  pub stopped : (q : Request) (ls : List ℕ) (k i : ℕ) → AllYes (runAsks q) → StopsAt (q .session) ls k i →
+      timetabled q ls ≡ record { number = k; place = i; count = 0; work = cleared (q .work); buffer = q .buffer }
   -- 15
-  pub unended : (q : Request) (order ls : List ℕ) (t : State) → AllYes (runAsks q) → ListMade (q .session) ls t false →
-      timetabled q order ls ≡ record { number = 15; place = 0; count = 0; work = cleared (q .work); buffer = q .buffer }
-  pub ended : (q : Request) (order ls : List ℕ) (t : State) → AllYes (runAsks q) → ListMade (q .session) ls t true →
-      timetabled q order ls ≡ answerWith q (cleared (q .work)) (bytesFor q order (resultOf (programOf (q .session)) t))
+  pub unended : (q : Request) (ls : List ℕ) (t : State) → AllYes (runAsks q) → ListMade (q .session) ls t false →
+      timetabled q ls ≡ record { number = 15; place = 0; count = 0; work = cleared (q .work); buffer = q .buffer }
+  pub ended : (q : Request) (ls : List ℕ) (t : State) → AllYes (runAsks q) → ListMade (q .session) ls t true →
+      timetabled q ls ≡ answerWith q (cleared (q .work)) (bytesFor q (resultOf (programOf (q .session)) t))
   pub put : (q : Request) → Put (runAsks q)
   pub listed : (s ls : List ℕ) → Listed s ls
 
 -- The plain run, for any bytes, clearance and slices: past question 11 nothing refuses it
 pub record Demand1Plain : Type 0 where
-  pub refused : (q : Request) (order : List ℕ) (k : ℕ) → LowestNo (runAsks q) k →
-      plain q order ≡ record { number = k; place = 0; count = 0; work = q .work; buffer = q .buffer }
-  pub ended : (q : Request) (order : List ℕ) → AllYes (runAsks q) →
+  pub refused : (q : Request) (k : ℕ) → LowestNo (runAsks q) k →
+      plain q ≡ record { number = k; place = 0; count = 0; work = q .work; buffer = q .buffer }
+  pub ended : (q : Request) → AllYes (runAsks q) →
       (t : State)
       × (ListMade (q .session) (plainOrder (programOf (q .session)) (rootOf (q .session))) t true
-      × (plain q order ≡ answerWith q (cleared (q .work)) (bytesFor q order (resultOf (programOf (q .session)) t))))
+      × (plain q ≡ answerWith q (cleared (q .work)) (bytesFor q (resultOf (programOf (q .session)) t))))
   pub put : (q : Request) → Put (runAsks q)
 
 -- The depth-first run, for any bytes, clearance and buffer. It has no work slice
 pub record Demand1DepthFirst : Type 0 where
-  pub refused : (q : Request) (order : List ℕ) (k : ℕ) → LowestNo (deepAsks q) k →
-      deep q order ≡ record { number = k; place = 0; count = 0; work = q .work; buffer = q .buffer }
-  pub ended : (q : Request) (order : List ℕ) → AllYes (deepAsks q) →
-      deep q order
-      ≡ answerWith q (q .work) (bytesFor q order (resultOfDepthFirst (programOf (q .session)) (depthFirst (programOf (q .session)) (rootOf (q .session)))))
+  pub refused : (q : Request) (k : ℕ) → LowestNo (deepAsks q) k →
+      deep q ≡ record { number = k; place = 0; count = 0; work = q .work; buffer = q .buffer }
+  pub ended : (q : Request) → AllYes (deepAsks q) →
+      deep q
+      ≡ answerWith q (q .work) (bytesFor q (resultOfDepthFirst (programOf (q .session)) (depthFirst (programOf (q .session)) (rootOf (q .session)))))
   pub put : (q : Request) → Put (deepAsks q)

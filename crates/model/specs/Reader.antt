@@ -9,6 +9,8 @@ use lib.ListN.{take}
 use Rattle.session.specs.Lists.{select}
 use Rattle.session.specs.Record.{Record, byteOf}
 use Rattle.session.specs.Parts.{ofKind}
+use Rattle.session.specs.Program.{Program}
+use Rattle.model.specs.Result.{Result, bytesOf}
 use Rattle.model.specs.Entries.{Answer}
 
 -- "A run .. is finished when every question it uses says yes"
@@ -19,16 +21,24 @@ Finished a = a .number ≡ 0
 abbrev pub bytesWritten : Answer → List ℕ
 bytesWritten a = take (a .count) (a .buffer)
 
+-- "Histories are compared as plain bytes from then on" (document 02, job 2): two runs are equal to the reader when the bytes written are the same
+abbrev pub EqualToReader : Answer → Answer → Type 0
+EqualToReader a b = bytesWritten a ≡ bytesWritten b
+
 -- "the .. kind 6 records of that level", in their order
 abbrev pub historiesAt : ℕ → List ℕ → List Record
 historiesAt l bytes = select (λ rec. eqb (byteOf rec 1) l) (ofKind 6 bytes)
 
--- "Two runs are equal to the reader when the result bytes written hold the same kind 5 records in the same order, for every level the same
+-- document 01's comparison, record by record: "the result bytes written hold the same kind 5 records in the same order, for every level the same
 -- kind 6 records of that level in the same order, and either the same kind 7 record or none in both"
-pub record SameBytes (a b : List ℕ) : Type 0 where
+pub record SameRecords (a b : List ℕ) : Type 0 where
   pub objects : ofKind 5 a ≡ ofKind 5 b
   pub histories : (l : ℕ) → historiesAt l a ≡ historiesAt l b
   pub reply : ofKind 7 a ≡ ofKind 7 b
 
-abbrev pub EqualToReader : Answer → Answer → Type 0
-EqualToReader a b = SameBytes (bytesWritten a) (bytesWritten b)
+-- Of results it comes to the same: the bytes of any two, of any programs and for any clearances, are equal exactly where their records are
+abbrev pub ComparedByRecords : Type 0
+ComparedByRecords =
+    (p p' : Program) (rootLevel rootLevel' : ℕ) (r r' : Result) (c c' : ℕ)
+    → (bytesOf p rootLevel r c ≡ bytesOf p' rootLevel' r' c' → SameRecords (bytesOf p rootLevel r c) (bytesOf p' rootLevel' r' c'))
+    × (SameRecords (bytesOf p rootLevel r c) (bytesOf p' rootLevel' r' c') → bytesOf p rootLevel r c ≡ bytesOf p' rootLevel' r' c')

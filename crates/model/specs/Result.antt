@@ -1,13 +1,11 @@
 -- Result records. Assumes nothing.
--- Laws (`proofs/Laws/Reader/Bytes`): what a reader finds in the bytes of a result, whatever the order of the level groups (`objects-found`,
--- `histories-found`, `reply-found`, `same-bytes`).
+-- Laws (`proofs/Laws/Reader/Bytes`): what a reader finds in the bytes of a result (`objects-found`, `histories-found`, `reply-found`), and that
+-- they are made of it (`made-of-records`).
 use Prim.Native.Nat.{ℕ, _+_, _*_, _/_, _%_, _^_}
-use mathlib.Core.Bool.{Bool, cond, _&&_}
+use mathlib.Core.Bool.{cond}
 use mathlib.Core.List.{List, [], _∷_, _++_, map}
-use lib.Dec.{eqb, ltb}
-use lib.ListN.{length, replicate}
-use Rattle.lattice.specs.Range.{all}
-use Rattle.session.specs.Lists.{tab, select, every, joined}
+use lib.ListN.{replicate}
+use Rattle.session.specs.Lists.{tab, select, joined}
 use Rattle.session.specs.Record.{Record}
 use Rattle.session.specs.Program.{Program}
 use Rattle.session.specs.declared.Value.{Value}
@@ -70,9 +68,13 @@ unfoldable pub objectsShown : Program → Result → ℕ → List Record
 objectsShown p r c =
     map (λ o. objectRecord o (p .level o) (r .field o)) (select (λ o. p .dom c (p .level o)) (tab (p .objects) (λ o. o)))
 
--- "Kind 6: histories, one level's together in stamp order, levels' groups in any order": in this one
-unfoldable pub historiesShown : Result → List ℕ → List Record
-historiesShown r order = joined (map (λ l. map (historyRecord l) (r .ended l)) order)
+-- the levels that clearance c is shown, by rising number
+abbrev pub levelsShown : Program → ℕ → List ℕ
+levelsShown p c = select (p .dom c) (tab (p .levels) (λ l. l))
+
+-- "Kind 6: histories, one level's together in stamp order"; "groups of kind 6 stand by rising level number" (document 02, job 2)
+unfoldable pub historiesShown : Program → Result → ℕ → List Record
+historiesShown p r c = joined (map (λ l. map (historyRecord l) (r .ended l)) (levelsShown p c))
 
 -- the reply of the root manager, whose fork stamp, 0, is the first at its level. "Replies of ended stacks with frames are NIL"
 abbrev pub replyOf : List History → Value
@@ -83,20 +85,6 @@ replyOf (h ∷ hs) = h .reply
 unfoldable pub replyShown : Program → Result → ℕ → ℕ → List Record
 replyShown p r c rootLevel = cond (p .dom c rootLevel) (replyRecord rootLevel (replyOf (r .ended rootLevel)) ∷ []) []
 
--- the bytes of a result for clearance c, the level groups in the given order
-unfoldable pub bytesOf : Program → ℕ → Result → ℕ → List ℕ → List ℕ
-bytesOf p rootLevel r c order =
-    joined (objectsShown p r c ++ historiesShown r order ++ replyShown p r c rootLevel)
-
--- how often a level stands in an order
-abbrev pub times : ℕ → List ℕ → ℕ
-times l order = length (select (eqb l) order)
-
--- "in whichever order, each shown level's histories stand together, once": an order of the levels that clearance c dominates
-unfoldable pub ordersShown : Program → ℕ → List ℕ → Bool
-ordersShown p c order =
-    every (λ l. ltb l (p .levels)) order && all (p .levels) (λ l. eqb (times l order) (cond (p .dom c l) 1 0))
-
--- the shown levels by rising number, one such order
-abbrev pub byNumber : Program → ℕ → List ℕ
-byNumber p c = select (p .dom c) (tab (p .levels) (λ l. l))
+-- the bytes of a result for clearance c
+unfoldable pub bytesOf : Program → ℕ → Result → ℕ → List ℕ
+bytesOf p rootLevel r c = joined (objectsShown p r c ++ historiesShown p r c ++ replyShown p r c rootLevel)

@@ -6,4 +6,3 @@ pub mod Placed
 pub mod Shown
 pub mod Written
 pub mod Depends
-pub mod Orders

@@ -1,7 +1,6 @@
 -- The records of a run, written to a buffer. Assumes nothing.
 -- Laws: the bytes depend on the fields of present objects and on the histories of shown levels alone (`proofs/Laws/Depends`); they fit
--- question 11's buffer (`Written`: `bytes-fit`); groups by rising number are in an order that document 01 leaves free (`Orders`:
--- `by-number-shown`); bytes placed behind bytes (`Placed`: `placed-then`).
+-- question 11's buffer (`Written`: `bytes-fit`); bytes placed behind bytes (`Placed`: `placed-then`).
 use Prim.Native.Nat.{ℕ, _+_, _≤_, _<_}
 use mathlib.Core.Path.{_≡_}
 use mathlib.Core.Bool.{cond}
@@ -15,7 +14,7 @@ use Rattle.session.specs.declared.Value.{Value}
 use Rattle.words.specs.Fields.{fieldAt, FieldsReady}
 use Rattle.model.specs.Limits.{resultBytes}
 use Rattle.model.specs.History.{History}
-use Rattle.model.specs.Result.{Result, objectRecord, historyRecord, replyRecord, replyOf, bytesOf, byNumber}
+use Rattle.model.specs.Result.{Result, objectRecord, historyRecord, replyRecord, replyOf, bytesOf}
 use Rattle.model.specs.Entries.{writtenOver}
 use Rattle.records.specs.Histories.{endedIn, HistoriesReady}
 
@@ -23,9 +22,9 @@ use Rattle.records.specs.Histories.{endedIn, HistoriesReady}
 abbrev pub resultIn : List ℕ → List ℕ → List ℕ → Result
 resultIn fields histories counts = record { field = fieldAt fields; ended = endedIn histories counts }
 
--- the bytes of its records for clearance c, the level groups by rising number
+-- the bytes of its records for clearance c
 abbrev pub bytesIn : List ℕ → Result → ℕ → ℕ → List ℕ
-bytesIn s r c rootLevel = bytesOf (programOf s) rootLevel r c (byNumber (programOf s) c)
+bytesIn s r c rootLevel = bytesOf (programOf s) rootLevel r c
 
 -- the words of a run of session s are there, the root's level is present, and there is room for the records
 pub record Ready (s masks fields histories counts : List ℕ) (rootLevel : ℕ) (buffer : List ℕ) : Type 0 where

@@ -18,7 +18,6 @@ use Rattle.model.specs.Level.{idle, hasManager}
 use Rattle.model.specs.Step.{State, levelAt}
 use Rattle.model.specs.Schedule.{initialState, finished, refused, refusalUnder, runOf, plainOrder, Leads}
 use Rattle.model.specs.Rules.{conservative}
-use Rattle.model.specs.Result.{byNumber}
 use Rattle.model.specs.Entries.{answerOf}
 use Rattle.words.specs.Limits.{fieldWords}
 use Rattle.records.specs.Limits.{historyWords}
@@ -110,4 +109,4 @@ pub record RunReady (s masks work result : List ℕ) : Type 0 where
 abbrev pub ListDone : List ℕ → List ℕ → ℕ → List ℕ → List ℕ → List ℕ → List ℕ → Answer → Type 0
 ListDone s ls clearance work work' buffer buffer' r =
     record { number = r .number; place = r .place; count = r .count; work = work'; buffer = buffer' }
-    ≡ answerOf (record { session = s; clearance = clearance; work = work; buffer = buffer }) (byNumber (programOf s) clearance) (runOf (programOf s) (rootOf s) ls)
+    ≡ answerOf (record { session = s; clearance = clearance; work = work; buffer = buffer }) (runOf (programOf s) (rootOf s) ls)

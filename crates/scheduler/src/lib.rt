@@ -176,7 +176,7 @@ fn run_opened(
     result: &mut [u8],
 ) -> Answer
     requires { ⌜ Leveled (now session) (now masks) ⌝ }
-    ensures { λ r. ⌜ Answers (record { session = now (session .entry); clearance = clearance; work = now (work .entry); buffer = now (result .entry) }) (λ order. timetabled (record { session = now (session .entry); clearance = clearance; work = now (work .entry); buffer = now (result .entry) }) order (listOf (now (session .entry)) (now (timetable .entry)) listed)) (r .number) (r .place) (r .count) (now (work .exit)) (now (result .exit)) ⌝ }
+    ensures { λ r. ⌜ Answers (timetabled (record { session = now (session .entry); clearance = clearance; work = now (work .entry); buffer = now (result .entry) }) (listOf (now (session .entry)) (now (timetable .entry)) listed)) (r .number) (r .place) (r .count) (now (work .exit)) (now (result .exit)) ⌝ }
 {
     let ten = entries::is_work(work.len());
     let number = entries::lent_refusal(masks.len(), clearance, ten, result.len());
@@ -195,7 +195,7 @@ fn run_session(
     work: &mut [u32],
     result: &mut [u8],
 ) -> Answer
-    ensures { λ r. ⌜ Answers (record { session = now (session .entry); clearance = clearance; work = now (work .entry); buffer = now (result .entry) }) (λ order. timetabled (record { session = now (session .entry); clearance = clearance; work = now (work .entry); buffer = now (result .entry) }) order (listOf (now (session .entry)) (now (timetable .entry)) listed)) (r .number) (r .place) (r .count) (now (work .exit)) (now (result .exit)) ⌝ }
+    ensures { λ r. ⌜ Answers (timetabled (record { session = now (session .entry); clearance = clearance; work = now (work .entry); buffer = now (result .entry) }) (listOf (now (session .entry)) (now (timetable .entry)) listed)) (r .number) (r .place) (r .count) (now (work .exit)) (now (result .exit)) ⌝ }
 {
     let mut masks = [0u16; MAX_LEVELS];
     let opened = entries::open(session, &mut masks);
@@ -223,7 +223,7 @@ pub fn run_timetable(
     work: &mut [u32],
     result: &mut [u8],
 ) -> Answer
-    ensures { λ r. ⌜ Answers (record { session = now (session .entry); clearance = clearance; work = now (work .entry); buffer = now (result .entry) }) (λ order. timetabled (record { session = now (session .entry); clearance = clearance; work = now (work .entry); buffer = now (result .entry) }) order (now (timetable .entry))) (r .number) (r .place) (r .count) (now (work .exit)) (now (result .exit)) ⌝ }
+    ensures { λ r. ⌜ Answers (timetabled (record { session = now (session .entry); clearance = clearance; work = now (work .entry); buffer = now (result .entry) }) (now (timetable .entry))) (r .number) (r .place) (r .count) (now (work .exit)) (now (result .exit)) ⌝ }
 {
     run_session(session, timetable, true, clearance, work, result)
 }
@@ -231,7 +231,7 @@ pub fn run_timetable(
 // Runs a session plainly and writes what a clearance is shown of it: questions 1 to 11 of any bytes, of
 // any length and content, whatever the work slice holds.
 pub fn run_plain(session: &[u8], clearance: usize, work: &mut [u32], result: &mut [u8]) -> Answer
-    ensures { λ r. ⌜ Answers (record { session = now (session .entry); clearance = clearance; work = now (work .entry); buffer = now (result .entry) }) (plainly (record { session = now (session .entry); clearance = clearance; work = now (work .entry); buffer = now (result .entry) })) (r .number) (r .place) (r .count) (now (work .exit)) (now (result .exit)) ⌝ }
+    ensures { λ r. ⌜ Answers (plainly (record { session = now (session .entry); clearance = clearance; work = now (work .entry); buffer = now (result .entry) })) (r .number) (r .place) (r .count) (now (work .exit)) (now (result .exit)) ⌝ }
 {
     let no_timetable = [0u8; 0];
     run_session(session, &no_timetable, false, clearance, work, result)
@@ -239,7 +239,7 @@ pub fn run_plain(session: &[u8], clearance: usize, work: &mut [u32], result: &mu
 
 // Runs a session plainly for a reader cleared to the level of its root's object.
 pub fn run_for_root(session: &[u8], work: &mut [u32], result: &mut [u8]) -> Answer
-    ensures { λ r. ⌜ Answers (record { session = now (session .entry); clearance = levelOf (now (session .entry)) (rootObject (now (session .entry))); work = now (work .entry); buffer = now (result .entry) }) (plainly (record { session = now (session .entry); clearance = levelOf (now (session .entry)) (rootObject (now (session .entry))); work = now (work .entry); buffer = now (result .entry) })) (r .number) (r .place) (r .count) (now (work .exit)) (now (result .exit)) ⌝ }
+    ensures { λ r. ⌜ Answers (plainly (record { session = now (session .entry); clearance = levelOf (now (session .entry)) (rootObject (now (session .entry))); work = now (work .entry); buffer = now (result .entry) })) (r .number) (r .place) (r .count) (now (work .exit)) (now (result .exit)) ⌝ }
 {
     let mut masks = [0u16; MAX_LEVELS];
     let opened = entries::open(session, &mut masks);

@@ -5,14 +5,11 @@ use mathlib.Core.Bool.{true}
 use mathlib.Core.List.{List, []}
 use borrow.Author.Tests.{leb-true}
 use lib.ListN.{length}
-use Rattle.session.specs.Program.{programOf}
 use Rattle.model.specs.Limits.{resultBytes}
-use Rattle.model.specs.Result.{byNumber}
 use Rattle.model.specs.Entries.{Request, entryRefusal, deep, Answers}
 use Rattle.model.proofs.Laws.Reader.Answers.{passes, deep-is}
 use Rattle.entries.specs.declared.Answer.{Answer}
 use Rattle.entries.specs.Opening.{Finished}
-use Rattle.records.proofs.Laws.Orders.{by-number-shown}
 use Rattle.depth_first.specs.Runs.{Shown}
 
 abbrev pub request : List ℕ → ℕ → List ℕ → Request
@@ -22,10 +19,6 @@ module _ (s : List ℕ) (c : ℕ) (b : List ℕ) (yes : entryRefusal true (reque
   pub roomy : resultBytes ≤ length b
   roomy = leb-true resultBytes (length b) (passes true (request s c b) yes .room)
 
-  pub answered : (count : ℕ) (b' : List ℕ) → Shown s c b b' count → (r : Answer) → Finished count r → Answers (request s c b) (deep (request s c b)) (r .number) (r .place) (r .count) [] b'
+  pub answered : (count : ℕ) (b' : List ℕ) → Shown s c b b' count → (r : Answer) → Finished count r → Answers (deep (request s c b)) (r .number) (r .place) (r .count) [] b'
   answered count b' t r (i, j, k) =
-      record {
-        order = byNumber (programOf s) c;
-        groups = λ _. by-number-shown (programOf s) c;
-        answer = rw (i, j, k, t .written .number, t .written .buffer) (sym (deep-is (request s c b) (byNumber (programOf s) c) yes));
-      }
+      rw (i, j, k, t .written .number, t .written .buffer) (sym (deep-is (request s c b) yes))

@@ -16,7 +16,7 @@ use Rattle.model.specs.DepthFirst.{Progress, tallyAt, runFork, depthFirst}
 use Rattle.model.specs.Result.{resultOfDepthFirst}
 use Rattle.records.specs.Histories.{historiesAt, endedIn}
 use Rattle.records.specs.Writing.{resultIn, bytesIn, Ready, Written}
-use Rattle.records.proofs.Laws.Depends.{bytes-depend-by-number}
+use Rattle.records.proofs.Laws.Depends.{bytes-depend}
 use Rattle.records.proofs.Laws.Written.{bytes-fit}
 use Rattle.depth_first.specs.Representation.{Tables, Runnable, Same, Words, Represents, RunDone}
 use Rattle.depth_first.specs.Runs.{RootFork, initialProgress, bytesShown, RanOver}
@@ -48,7 +48,7 @@ module _ (s masks index : List ℕ) (a : Tables s masks index) where
 
     same-bytes : bytesIn s (resultIn (w .current) (w .ended) (w .tallies)) c (levelOf s (rootObject s)) ≡ bytesIn s (resultOfDepthFirst p g) c (levelOf s (rootObject s))
     same-bytes =
-        bytes-depend-by-number p (resultIn (w .current) (w .ended) (w .tallies)) (resultOfDepthFirst p g) c (levelOf s (rootObject s)) (rw levels-are root-level)
+        bytes-depend p (resultIn (w .current) (w .ended) (w .tallies)) (resultOfDepthFirst p g) c (levelOf s (rootObject s)) (rw levels-are root-level)
         (λ o k h j. q .field o k (rw (sym objects-are) h) j)
         (λ l h _. same-ended l (rw (sym levels-are) h))
 

@@ -2,7 +2,7 @@
 use Prim.Native.Nat.{ℕ, _≤_, _<_}
 use mathlib.Core.Path.{_≡_, refl, sym, _∙_, ap}
 use mathlib.Core.Bool.{Bool, true, false}
-use mathlib.Core.List.{List, []}
+use mathlib.Core.List.{List}
 use native.Mathlib.Omega.{arith}
 use borrow.Author.Tests.{ne-eqb, lt-ltb, le-ltb, le-leb, lt-leb}
 use lib.ListN.{length, take, drop, length-append}
@@ -79,10 +79,10 @@ module _ {s before after : List ℕ} {r : Opened} (o : Opens s before after r) w
   refused-session n ten q e = rw (e, sym (o .number), ne-eqb (r .number) 0 n) refl
 
 -- a run is not made where a question, 1 to 11, says no: nothing is touched
-pub record Refuses (ten : Bool) (q : Request) (of : List ℕ → model.Answer) : Type 0 where
-  pub no : (number : ℕ) → entryRefusal ten q ≡ number → (number ≡ 0 → ⊥) → of [] ≡ untouched q number
+pub record Refuses (ten : Bool) (q : Request) (of : model.Answer) : Type 0 where
+  pub no : (number : ℕ) → entryRefusal ten q ≡ number → (number ≡ 0 → ⊥) → of ≡ untouched q number
 
-pub timetabled-refuses : (q : Request) (ls : List ℕ) → Refuses (question10 q) q (λ order. timetabled q order ls)
+pub timetabled-refuses : (q : Request) (ls : List ℕ) → Refuses (question10 q) q (timetabled q ls)
 unfolding timetabled
 timetabled-refuses q ls = record { no = λ number e n. rw (e, ne-eqb number 0 n) refl }
 
@@ -94,16 +94,11 @@ pub deep-refuses : (q : Request) → Refuses true q (deep q)
 unfolding deep
 deep-refuses q = record { no = λ number e n. rw (e, ne-eqb number 0 n) refl }
 
-module _ {ten : Bool} {q : Request} {of : List ℕ → model.Answer} (refuses : Refuses ten q of) {r : Answer} where
+module _ {ten : Bool} {q : Request} {of : model.Answer} (refuses : Refuses ten q of) {r : Answer} where
   -- the answer of an entry that a question ends
-  pub answers-refusal : (number : ℕ) → entryRefusal ten q ≡ number → (number ≡ 0 → ⊥) → Refused number 0 r → Answers q of (r .number) (r .place) (r .count) (q .work) (q .buffer)
-  answers-refusal number e n (i, j, k) =
-      record {
-        order = [];
-        groups = λ z. absurd (n (sym i ∙ z));
-        answer = rw (i, j, k) (sym (refuses .no number e n));
-      }
+  pub answers-refusal : (number : ℕ) → entryRefusal ten q ≡ number → (number ≡ 0 → ⊥) → Refused number 0 r → Answers of (r .number) (r .place) (r .count) (q .work) (q .buffer)
+  answers-refusal number e n (i, j, k) = rw (i, j, k) (sym (refuses .no number e n))
 
   -- 1 to 8
-  pub answers-unopened : {before after : List ℕ} {o : Opened} → Opens (q .session) before after o → (o .number ≡ 0 → ⊥) → Refused (o .number) 0 r → Answers q of (r .number) (r .place) (r .count) (q .work) (q .buffer)
+  pub answers-unopened : {before after : List ℕ} {o : Opened} → Opens (q .session) before after o → (o .number ≡ 0 → ⊥) → Refused (o .number) 0 r → Answers of (r .number) (r .place) (r .count) (q .work) (q .buffer)
   answers-unopened {o = o} p n = answers-refusal (o .number) (refused-session p n ten q refl) n

@@ -5,7 +5,7 @@ use mathlib.Core.List.{List, [], _∷_}
 use native.Mathlib.Omega.{arith}
 use borrow.Author.Tests.{le-leb, lt-leb}
 use lib.ListN.{length, set}
-use Rattle.model.specs.Entries.{Request, Answer, Answers}
+use Rattle.model.specs.Entries.{Answer, Answers}
 use Rattle.exports.specs.Calls.{reported, Call}
 
 pub reported-both : (a b : ℕ) (slice : List ℕ) → 2 ≤ length slice → set (set slice 0 a) 1 b ≡ reported a b slice
@@ -17,6 +17,6 @@ pub reported-none : (a b : ℕ) (slice : List ℕ) → length slice < 2 → slic
 reported-none a b slice h = rw (lt-leb 2 (length slice) h) refl
 
 -- a call whose answer is told
-pub call-reported : (q : Request) (of : List ℕ → Answer) (work buffer before after : List ℕ) (number place count r : ℕ) → Answers q of number place count work buffer → (r ≡ number) × (after ≡ reported place count before) → Call q of work buffer before after r
-call-reported q of work buffer before after number place count r a (e, t) =
+pub call-reported : (of : Answer) (work buffer before after : List ℕ) (number place count r : ℕ) → Answers of number place count work buffer → (r ≡ number) × (after ≡ reported place count before) → Call of work buffer before after r
+call-reported of work buffer before after number place count r a (e, t) =
     record { place = place; count = count; answers = rw e a; both = t }

@@ -23,7 +23,7 @@ returns : tie.Need-returns
 returns c =
     let r = c .before .before .before .before .before .before .before .before .run-timetable in
     let t = c .before .before .report in
-    call-reported _ _ _ _ _ _ (r .result .number) (r .result .place) (r .result .count) (t .result) (r .ensures) (t .ensures)
+    call-reported _ _ _ _ _ (r .result .number) (r .result .place) (r .result .count) (t .result) (r .ensures) (t .ensures)
 
 pub lupinpause-run-timetable-spec : {M : Type 1} → statement M
 lupinpause-run-timetable-spec =

@@ -1,34 +1,25 @@
 -- The bytes of a result as what is shown of each object, each level and the reply, and how many there are. Assumes nothing.
-use Prim.Native.Nat.{ℕ, zero, suc, _+_, _≤_, _<_}
+use Prim.Native.Nat.{ℕ, _+_, _≤_, _<_}
 use mathlib.Core.Path.{_≡_, refl, _∙_, ap, ap₂}
-use mathlib.Core.Bool.{Bool, cond}
 use mathlib.Core.List.{List, [], _∷_, _++_, map, append-nil}
 use native.Mathlib.Omega.{arith}
 use lib.ListN.{length, length-append}
 use Rattle.lattice.specs.Table.{dominates}
 use Rattle.session.specs.Limits.{maxLevels, maxObjects}
-use Rattle.session.specs.Lists.{tab, joined, select}
+use Rattle.session.specs.Lists.{tab, joined}
 use Rattle.session.specs.Parts.{levelCount, objectCount, masksOf}
 use Rattle.session.specs.Program.{Program, programOf}
 use Rattle.session.proofs.Laws.Lists.{holds, fails, truth}
 use Rattle.session.proofs.Laws.Contents.{masks-length, level-limit, object-limit}
 use Rattle.words.specs.Fields.{fieldAt, FieldsReady}
 use Rattle.model.specs.Limits.{maxManagers, resultBytes}
-use Rattle.model.specs.Result.{Result, objectRecord, historyRecord, replyRecord, replyOf, objectsShown, historiesShown, replyShown, bytesOf, byNumber}
+use Rattle.model.specs.Result.{Result, objectRecord, historyRecord, replyRecord, replyOf, objectsShown, levelsShown, historiesShown, replyShown, bytesOf}
+use Rattle.model.proofs.Laws.Reader.Bytes.{chosen-groups}
 use Rattle.records.specs.Histories.{endedIn, HistoriesReady}
 use Rattle.records.specs.Writing.{resultIn, bytesIn, shownObject, shownLevel, shownReply, Placed, Written}
 use Rattle.records.proofs.Laws.Histories.{ended-few}
 use Rattle.records.proofs.Laws.Placed.{placed-then, placed-written, joined-append}
 use Rattle.records.proofs.Laws.Shown.{object-length, level-length, reply-length, groups-length}
-
--- what is made of the numbers that pass, joined
-chosen : (P : ℕ → Bool) (f : ℕ → List ℕ) (n : ℕ) (h : ℕ → ℕ) → joined (map f (select P (tab n h))) ≡ joined (tab n (λ i. cond (P (h i)) (f (h i)) []))
-unfolding joined select tab
-chosen P f zero h = refl
-chosen P f (suc n) h = elim (truth (P (h zero))) [
-  | holds e ↦ rw e (ap (λ t. f (h zero) ++ t) (chosen P f n (λ i. h (suc i))))
-  | fails e ↦ rw e (chosen P f n (λ i. h (suc i)))
-]
 
 -- groups of records joined: all at once or group by group
 joined-groups : (g : ℕ → List (List ℕ)) (xs : List ℕ) → joined (joined (map g xs)) ≡ joined (map (λ x. joined (g x)) xs)
@@ -39,13 +30,13 @@ joined-groups g (x ∷ xs) = joined-append (g x) (joined (map g xs)) ∙ ap (λ 
 module _ (p : Program) (r : Result) (c : ℕ) where
   objects-bytes : joined (objectsShown p r c) ≡ joined (tab (p .objects) (shownObject p (r .field) c))
   unfolding objectsShown shownObject
-  objects-bytes = chosen (λ o. p .dom c (p .level o)) (λ o. objectRecord o (p .level o) (r .field o)) (p .objects) (λ o. o)
+  objects-bytes = chosen-groups (λ o. p .dom c (p .level o)) (λ o. objectRecord o (p .level o) (r .field o)) (p .objects) (λ o. o)
 
-  histories-bytes : joined (historiesShown r (byNumber p c)) ≡ joined (tab (p .levels) (shownLevel (p .dom) (r .ended) c))
+  histories-bytes : joined (historiesShown p r c) ≡ joined (tab (p .levels) (shownLevel (p .dom) (r .ended) c))
   unfolding historiesShown shownLevel
   histories-bytes =
-      joined-groups (λ l. map (historyRecord l) (r .ended l)) (byNumber p c)
-      ∙ chosen (p .dom c) (λ l. joined (map (historyRecord l) (r .ended l))) (p .levels) (λ l. l)
+      joined-groups (λ l. map (historyRecord l) (r .ended l)) (levelsShown p c)
+      ∙ chosen-groups (p .dom c) (λ l. joined (map (historyRecord l) (r .ended l))) (p .levels) (λ l. l)
 
   reply-bytes : (rootLevel : ℕ) → joined (replyShown p r c rootLevel) ≡ shownReply (p .dom) (r .ended) c rootLevel
   unfolding joined replyShown shownReply
@@ -54,17 +45,17 @@ module _ (p : Program) (r : Result) (c : ℕ) where
     | fails e ↦ rw e refl
   ]
 
-  -- the bytes, the level groups by rising number
-  pub bytes-are : (rootLevel : ℕ) → bytesOf p rootLevel r c (byNumber p c)
+  -- the bytes
+  pub bytes-are : (rootLevel : ℕ) → bytesOf p rootLevel r c
       ≡ joined (tab (p .objects) (shownObject p (r .field) c)) ++ joined (tab (p .levels) (shownLevel (p .dom) (r .ended) c)) ++ shownReply (p .dom) (r .ended) c rootLevel
   unfolding bytesOf
   bytes-are rootLevel =
-      joined-append (objectsShown p r c ++ historiesShown r (byNumber p c)) (replyShown p r c rootLevel)
-      ∙ ap₂ _++_ (joined-append (objectsShown p r c) (historiesShown r (byNumber p c)) ∙ ap₂ _++_ objects-bytes histories-bytes) (reply-bytes rootLevel)
+      joined-append (objectsShown p r c ++ historiesShown p r c) (replyShown p r c rootLevel)
+      ∙ ap₂ _++_ (joined-append (objectsShown p r c) (historiesShown p r c) ∙ ap₂ _++_ objects-bytes histories-bytes) (reply-bytes rootLevel)
 
   -- "at most 8 levels, 32 objects", and 32 managers a level: they fit question 11's buffer
   pub bytes-fit : (rootLevel : ℕ) → p .levels ≤ maxLevels → p .objects ≤ maxObjects → ((l : ℕ) → l < p .levels → length (r .ended l) ≤ maxManagers)
-      → length (bytesOf p rootLevel r c (byNumber p c)) ≤ resultBytes
+      → length (bytesOf p rootLevel r c) ≤ resultBytes
   bytes-fit rootLevel hl ho h =
       let objects = joined (tab (p .objects) (shownObject p (r .field) c)) in
       let histories = joined (tab (p .levels) (shownLevel (p .dom) (r .ended) c)) in

@@ -17,17 +17,16 @@ use Rattle.scripts.specs.Valid.{Leveled}
 use Rattle.scripts.specs.State.{Manager}
 use Rattle.model.specs.Limits.{workNumbers, resultBytes}
 use Rattle.model.specs.Step.{State, levelAt}
-use Rattle.model.specs.Schedule.{Outcome, finished, refused, runOf, plainOrder}
-use Rattle.model.specs.Result.{resultOf, byNumber}
+use Rattle.model.specs.Schedule.{finished, refused, runOf, plainOrder}
+use Rattle.model.specs.Result.{resultOf}
 use Rattle.model.specs.Entries.{Request, question10, entryRefusal, cleared, success, answerOf, timetabled, plain, Answers}
 use Rattle.model.proofs.Laws.Order.Accepted.{any-order}
 use Rattle.model.proofs.Laws.Order.PlainRun.{accepted-plain}
 use Rattle.model.proofs.Laws.Reader.Answers.{passes}
 use Rattle.records.specs.Histories.{historiesAt, endedIn}
 use Rattle.records.specs.Writing.{resultIn, bytesIn, Ready, Written}
-use Rattle.records.proofs.Laws.Depends.{bytes-depend-by-number}
+use Rattle.records.proofs.Laws.Depends.{bytes-depend}
 use Rattle.records.proofs.Laws.Histories.{ended-few}
-use Rattle.records.proofs.Laws.Orders.{by-number-shown}
 use Rattle.records.proofs.Laws.Written.{bytes-fit}
 use Rattle.entries.specs.declared.Answer.{Answer}
 use Rattle.entries.specs.Opening.{Refused, LentRefusal}
@@ -66,7 +65,7 @@ module _ (s : List ℕ) (a : verdictOf s ≡ Accepted) where
     -- and they make the bytes of the state's result
     same-bytes : (c : ℕ) → bytesIn s (resultIn (w .current) (w .ended) (w .tallies)) c (levelOf s (rootObject s)) ≡ bytesIn s (resultOf (programOf s) st) c (levelOf s (rootObject s))
     same-bytes c =
-        bytes-depend-by-number (programOf s) (resultIn (w .current) (w .ended) (w .tallies)) (resultOf (programOf s) st) c (levelOf s (rootObject s)) (rw levels-are root-level)
+        bytes-depend (programOf s) (resultIn (w .current) (w .ended) (w .tallies)) (resultOf (programOf s) st) c (levelOf s (rootObject s)) (rw levels-are root-level)
         (λ o k h j. t .field o k (rw (sym objects-are) h) j)
         (λ l h _. same-ended l (rw (sym levels-are) h))
 
@@ -81,9 +80,9 @@ module _ (s : List ℕ) (a : verdictOf s ≡ Accepted) where
     pub list-refused : (w : Words) (o : code.RunEnd) (number place : ℕ) (r : Answer) → Ends s ls w o → o ≡ runEnd.Refused number place → Refused number place r → buffer' ≡ buffer → ListDone s ls c work work' buffer buffer' r
     list-refused w o number place r e is (i, j, k) b =
         let ends : runOf (programOf s) (rootOf s) ls ≡ refused number place = rw is at e in
-        rw (i, j, k, emptied, b) (sym (ap (answerOf q (byNumber (programOf s) c)) ends ∙ answer number place))
+        rw (i, j, k, emptied, b) (sym (ap (answerOf q) ends ∙ answer number place))
       where
-        answer : (number place : ℕ) → answerOf q (byNumber (programOf s) c) (refused number place) ≡ record { number = number; place = place; count = 0; work = cleared work; buffer = buffer }
+        answer : (number place : ℕ) → answerOf q (refused number place) ≡ record { number = number; place = place; count = 0; work = cleared work; buffer = buffer }
         answer number place = unfold answerOf in refl
 
     -- it finished, and the records are written
@@ -93,9 +92,9 @@ module _ (s : List ℕ) (a : verdictOf s ≡ Accepted) where
         let is : bytesIn s (resultIn (w .current) (w .ended) (w .tallies)) c level ≡ bytesIn s (resultOf (programOf s) st) c (levelOf s (rootObject s)) =
         ap (bytesIn s (resultIn (w .current) (w .ended) (w .tallies)) c) e ∙ same-bytes w ms st t c in
         let wrote : Written (bytesIn s (resultOf (programOf s) st) c (levelOf s (rootObject s))) buffer buffer' (r .count) = rw is at (shows .written) in
-        rw (shows .number, shows .place, wrote .number, wrote .buffer, emptied) (sym (ap (answerOf q (byNumber (programOf s) c)) run ∙ answer st))
+        rw (shows .number, shows .place, wrote .number, wrote .buffer, emptied) (sym (ap (answerOf q) run ∙ answer st))
       where
-        answer : (st : State) → answerOf q (byNumber (programOf s) c) (finished st) ≡ success q (cleared work) (bytesIn s (resultOf (programOf s) st) c (levelOf s (rootObject s)))
+        answer : (st : State) → answerOf q (finished st) ≡ success q (cleared work) (bytesIn s (resultOf (programOf s) st) c (levelOf s (rootObject s)))
         answer st = unfold answerOf in refl
 
   -- any list that finishes ends as the plain order does
@@ -121,25 +120,17 @@ module _ (s : List ℕ) (c : ℕ) (work buffer : List ℕ) where
         let p = passes (question10 request) request e in
         record { leveled = leveled; work-room = leb-true workNumbers (length work) (p .work); result-room = leb-true resultBytes (length buffer) (p .room) }
 
-    ran-is : (order ls : List ℕ) → timetabled request order ls ≡ answerOf request order (runOf (programOf s) (rootOf s) ls)
+    ran-is : (ls : List ℕ) → timetabled request ls ≡ answerOf request (runOf (programOf s) (rootOf s) ls)
     unfolding timetabled
-    ran-is order ls = rw e refl
+    ran-is ls = rw e refl
 
-    pub answered-list : (work' buffer' : List ℕ) (r : Answer) (ls : List ℕ) → ListDone s ls c work work' buffer buffer' r → Answers request (λ order. timetabled request order ls) (r .number) (r .place) (r .count) work' buffer'
-    answered-list work' buffer' r ls d =
-        record {
-          order = byNumber (programOf s) c;
-          groups = λ _. by-number-shown (programOf s) c;
-          answer = d ∙ sym (ran-is (byNumber (programOf s) c) ls);
-        }
+    pub answered-list : (work' buffer' : List ℕ) (r : Answer) (ls : List ℕ) → ListDone s ls c work work' buffer buffer' r → Answers (timetabled request ls) (r .number) (r .place) (r .count) work' buffer'
+    answered-list work' buffer' r ls d = d ∙ sym (ran-is ls)
 
   -- the plain run is a timetabled one
-  pub answered-plain : (number place count : ℕ) (work' buffer' : List ℕ) → Answers request (λ order. timetabled request order (plainOrder (programOf s) (rootOf s))) number place count work' buffer' → Answers request (plain request) number place count work' buffer'
-  answered-plain number place count work' buffer' x =
-      record { order = x .order; groups = x .groups; answer = x .answer ∙ sym (plain-is (x .order)) }
-    where
-      plain-is : (order : List ℕ) → plain request order ≡ timetabled request order (plainOrder (programOf s) (rootOf s))
-      plain-is order = unfold plain in refl
+  pub answered-plain : (number place count : ℕ) (work' buffer' : List ℕ) → Answers (timetabled request (plainOrder (programOf s) (rootOf s))) number place count work' buffer' → Answers (plain request) number place count work' buffer'
+  unfolding plain
+  answered-plain number place count work' buffer' x = x
 
 -- so many zeros are so long
 pub zeros-long : (n : ℕ) → n ≤ length {A = ℕ} (replicate n 0)
@@ -156,7 +147,7 @@ show-ready s masks ls w level buffer y (ms, (st, (run, t))) e room =
     write-ready s (y .accepted) w ms st t masks level buffer y e room
 
 -- the root's level, however it is come by
-pub answered-root : (s : List ℕ) (c d : ℕ) (work buffer : List ℕ) (number place count : ℕ) (work' buffer' : List ℕ) → c ≡ d → Answers (request s c work buffer) (plain (request s c work buffer)) number place count work' buffer' → Answers (request s d work buffer) (plain (request s d work buffer)) number place count work' buffer'
+pub answered-root : (s : List ℕ) (c d : ℕ) (work buffer : List ℕ) (number place count : ℕ) (work' buffer' : List ℕ) → c ≡ d → Answers (plain (request s c work buffer)) number place count work' buffer' → Answers (plain (request s d work buffer)) number place count work' buffer'
 answered-root s c d work buffer number place count work' buffer' e x = rw (sym e) x
 
 -- the count of the bytes shown is a number of 32 bits

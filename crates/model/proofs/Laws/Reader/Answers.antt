@@ -80,13 +80,13 @@ run-numbered i p (l ∷ ls) st = elim (truth (eqb (stepRefusal p st l) 0)) [
 ]
 
 -- a finished timetabled run
-pub record FinishedRun (q : Request) (order ls : List ℕ) : Type 0 where
+pub record FinishedRun (q : Request) (ls : List ℕ) : Type 0 where
   pub passes : Passes (question10 q) q
   pub state : State
   pub ends : runOf (programOf (q .session)) (rootOf (q .session)) ls ≡ finished state
-  pub bytes : bytesWritten (timetabled q order ls) ≡ bytesFor q order (resultOf (programOf (q .session)) state)
+  pub bytes : bytesWritten (timetabled q ls) ≡ bytesFor q (resultOf (programOf (q .session)) state)
 
-module _ (q : Request) (order ls : List ℕ) where
+module _ (q : Request) (ls : List ℕ) where
   abbrev p : Program
   p = programOf (q .session)
 
@@ -94,11 +94,11 @@ module _ (q : Request) (order ls : List ℕ) where
   outcome = runOf (programOf (q .session)) (rootOf (q .session)) ls
 
   -- its answer, where questions 1 to 11 say yes
-  pub timetabled-is : entryRefusal (question10 q) q ≡ 0 → timetabled q order ls ≡ answerOf q order outcome
+  pub timetabled-is : entryRefusal (question10 q) q ≡ 0 → timetabled q ls ≡ answerOf q outcome
   unfolding timetabled
   timetabled-is e = rw (eq-eqb (entryRefusal (question10 q) q) 0 e) refl
 
-  none-refused : Finished (timetabled q order ls) → entryRefusal (question10 q) q ≡ 0
+  none-refused : Finished (timetabled q ls) → entryRefusal (question10 q) q ≡ 0
   unfolding timetabled
   none-refused f = elim (truth (eqb (entryRefusal (question10 q) q) 0)) [
     | holds h ↦ eqb-true (entryRefusal (question10 q) q) 0 h
@@ -108,16 +108,16 @@ module _ (q : Request) (order ls : List ℕ) where
   success-bytes : (work bytes : List ℕ) → bytesWritten (success q work bytes) ≡ bytes
   success-bytes work bytes = written-bytes bytes (q .buffer)
 
-  finished-outcome : (o : Outcome) → outcome ≡ o → Numbered o → answerOf q order o .number ≡ 0 → (t : State) × (outcome ≡ finished t)
+  finished-outcome : (o : Outcome) → outcome ≡ o → Numbered o → answerOf q o .number ≡ 0 → (t : State) × (outcome ≡ finished t)
   unfolding answerOf
   finished-outcome (finished t) e n f = (t, e)
   finished-outcome (refused number place) e n f = absurd (n f)
 
-  finished-bytes : (t : State) → outcome ≡ finished t → bytesWritten (answerOf q order outcome) ≡ bytesFor q order (resultOf p t)
+  finished-bytes : (t : State) → outcome ≡ finished t → bytesWritten (answerOf q outcome) ≡ bytesFor q (resultOf p t)
   unfolding answerOf
-  finished-bytes t e = ap (λ o. bytesWritten (answerOf q order o)) e ∙ success-bytes (cleared (q .work)) (bytesFor q order (resultOf p t))
+  finished-bytes t e = ap (λ o. bytesWritten (answerOf q o)) e ∙ success-bytes (cleared (q .work)) (bytesFor q (resultOf p t))
 
-  pub finished-run : Finished (timetabled q order ls) → FinishedRun q order ls
+  pub finished-run : Finished (timetabled q ls) → FinishedRun q ls
   unfolding runOf
   finished-run f =
       let zero = none-refused f in
@@ -131,25 +131,25 @@ module _ (q : Request) (order ls : List ℕ) where
       }
 
   -- and a list that finishes has a finished run
-  pub run-finished : entryRefusal (question10 q) q ≡ 0 → (t : State) → outcome ≡ finished t → Finished (timetabled q order ls)
+  pub run-finished : entryRefusal (question10 q) q ≡ 0 → (t : State) → outcome ≡ finished t → Finished (timetabled q ls)
   unfolding answerOf
-  run-finished e t o = ap (λ a. a .number) (timetabled-is e ∙ ap (answerOf q order) o)
+  run-finished e t o = ap (λ a. a .number) (timetabled-is e ∙ ap (answerOf q) o)
 
 -- a finished depth-first run
-module _ (q : Request) (order : List ℕ) where
-  pub deep-is : entryRefusal true q ≡ 0 → deep q order ≡ success q (q .work) (bytesFor q order (resultOfDepthFirst (programOf (q .session)) (depthFirst (programOf (q .session)) (rootOf (q .session)))))
+module _ (q : Request) where
+  pub deep-is : entryRefusal true q ≡ 0 → deep q ≡ success q (q .work) (bytesFor q (resultOfDepthFirst (programOf (q .session)) (depthFirst (programOf (q .session)) (rootOf (q .session)))))
   unfolding deep
   deep-is e = rw (eq-eqb (entryRefusal true q) 0 e) refl
 
-  pub deep-finished : entryRefusal true q ≡ 0 → Finished (deep q order)
+  pub deep-finished : entryRefusal true q ≡ 0 → Finished (deep q)
   deep-finished e = ap (λ a. a .number) (deep-is e)
 
-  pub deep-passes : Finished (deep q order) → entryRefusal true q ≡ 0
+  pub deep-passes : Finished (deep q) → entryRefusal true q ≡ 0
   unfolding deep
   deep-passes f = elim (truth (eqb (entryRefusal true q) 0)) [
     | holds h ↦ eqb-true (entryRefusal true q) 0 h
     | fails h ↦ rw h at f
   ]
 
-  pub deep-bytes : entryRefusal true q ≡ 0 → bytesWritten (deep q order) ≡ bytesFor q order (resultOfDepthFirst (programOf (q .session)) (depthFirst (programOf (q .session)) (rootOf (q .session))))
+  pub deep-bytes : entryRefusal true q ≡ 0 → bytesWritten (deep q) ≡ bytesFor q (resultOfDepthFirst (programOf (q .session)) (depthFirst (programOf (q .session)) (rootOf (q .session))))
   deep-bytes e = ap bytesWritten (deep-is e) ∙ written-bytes _ (q .buffer)

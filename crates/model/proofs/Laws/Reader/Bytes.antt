@@ -1,15 +1,15 @@
--- What a reader finds in the bytes of a result. Assumes nothing.
-use Prim.Native.Nat.{ℕ, _<_}
+-- What a reader finds in the bytes of a result, and that they are made of it. Assumes nothing.
+use Prim.Native.Nat.{ℕ, zero, suc, _+_, _≤_, _<_}
 use mathlib.Core.Path.{_≡_, refl, sym, _∙_, ap, ap₂}
-use mathlib.Core.Bool.{Bool, true, false, not, cond, _&&_}
-use mathlib.Core.List.{List, [], _∷_, _++_, map, append-nil}
+use mathlib.Core.Bool.{Bool, true, not, cond}
+use mathlib.Core.List.{List, [], _∷_, _++_, map, append-nil, append-assoc}
+use native.Mathlib.Decide.{decLt}
 use native.Mathlib.Omega.{arith}
-use borrow.Author.Tests.{eqb-true, eqb-false, ltb-true, ltb-false, eq-eqb, ne-eqb}
-use lib.Dec.{eqb, ltb}
+use borrow.Author.Tests.{eqb-true, eq-eqb, ne-eqb}
+use lib.Dec.{eqb}
 use lib.ListN.{length, take}
 use lib.Seq.{take-append-seam}
-use Rattle.lattice.specs.Range.{all}
-use Rattle.lattice.proofs.Laws.Range.{and-left, and-right, and-both, all-each}
+use Rattle.lattice.proofs.Laws.Range.{and-left, and-right, and-both}
 use Rattle.session.specs.Lists.{every, select, tab, joined}
 use Rattle.session.specs.Record.{Record, recordsOf, byteOf, kindOf}
 use Rattle.session.specs.Parts.{ofKind}
@@ -17,9 +17,10 @@ use Rattle.session.specs.Program.{Program}
 use Rattle.session.specs.declared.Value.{Value}
 use Rattle.session.proofs.Laws.Lists.{holds, fails, truth, select-all, select-none}
 use Rattle.session.proofs.Laws.Choice.{every-then, whole, records-joined}
+use Rattle.session.proofs.Laws.Fill.{tab-more, tab-ext}
 use Rattle.model.specs.History.{History}
-use Rattle.model.specs.Result.{Result, objectRecord, historyRecord, replyRecord, objectsShown, historiesShown, replyOf, replyShown, bytesOf, times, ordersShown}
-use Rattle.model.specs.Reader.{historiesAt, SameBytes}
+use Rattle.model.specs.Result.{Result, objectRecord, historyRecord, replyRecord, objectsShown, levelsShown, historiesShown, replyOf, replyShown, bytesOf}
+use Rattle.model.specs.Reader.{historiesAt, SameRecords, ComparedByRecords}
 use Rattle.model.specs.Entries.{writtenOver}
 
 module _ {A : Type 0} (p : A → Bool) where
@@ -49,34 +50,27 @@ module _ {A : Type 0} (p : A → Bool) where
   every-groups g h [] = refl
   every-groups g h (x ∷ xs) = every-append (g x) (joined (map g xs)) (h x) (every-groups g h xs)
 
--- where the group of k passes just where k is l, the choice from the groups is the group of l, as often as l stands there
-select-groups : {A : Type 0} (p : A → Bool) (g : ℕ → List A) (l : ℕ)
-    → select p (g l) ≡ g l → ((k : ℕ) → (l ≡ k → ⊥) → select p (g k) ≡ [])
-    → (ks : List ℕ) → select p (joined (map g ks)) ≡ joined (map (λ k. g l) (select (eqb l) ks))
-unfolding select joined
-select-groups p g l own other [] = refl
-select-groups p g l own other (k ∷ ks) = elim (truth (eqb l k)) [
-  | holds e ↦
-      rw e (select-append p (g k) (joined (map g ks))
-      ∙ ap₂ _++_ (ap (λ j. select p (g j)) (sym (eqb-true l k e)) ∙ own) (select-groups p g l own other ks))
-  | fails e ↦
-      rw e (select-append p (g k) (joined (map g ks))
-      ∙ ap₂ _++_ (other k (eqb-false l k e)) (select-groups p g l own other ks))
+-- lists joined, with one more behind; and made of the numbers that pass
+joined-last : {A : Type 0} (xs : List (List A)) (y : List A) → joined (xs ++ (y ∷ [])) ≡ joined xs ++ y
+unfolding joined
+joined-last [] y = append-nil y
+joined-last (x ∷ xs) y = ap (λ l. x ++ l) (joined-last xs y) ∙ sym (append-assoc x (joined xs) y)
+
+pub map-chosen : {A : Type 0} (t : ℕ → Bool) (f g : ℕ → A) (n : ℕ) (h : ℕ → ℕ) → ((i : ℕ) → i < n → t (h i) ≡ true → f (h i) ≡ g (h i)) → map f (select t (tab n h)) ≡ map g (select t (tab n h))
+unfolding select tab
+map-chosen t f g zero h e = refl
+map-chosen t f g (suc n) h e = elim (truth (t (h zero))) [
+  | holds q ↦ rw q (ap₂ _∷_ (e zero (omega arith) q) (map-chosen t f g n (λ i. h (suc i)) (λ i l. e (suc i) (omega arith))))
+  | fails q ↦ rw q (map-chosen t f g n (λ i. h (suc i)) (λ i l. e (suc i) (omega arith)))
 ]
 
--- one copy of a list, or none
-copies : {A B : Type 0} (ys : List A) (xs : List B) (b : Bool) → length xs ≡ cond b 1 0 → joined (map (λ x. ys) xs) ≡ cond b ys []
-unfolding joined
-copies ys [] true e = absurd (omega arith)
-copies ys [] false e = refl
-copies ys (x ∷ []) true e = append-nil ys
-copies ys (x ∷ y ∷ xs) true e = absurd (omega arith)
-copies ys (x ∷ xs) false e = absurd (omega arith)
-
--- one choice or another, where they agree
-cond-same : {A : Type 0} (a b : Bool) (x y z : A) → a ≡ b → (a ≡ true → x ≡ y) → cond a x z ≡ cond b y z
-cond-same true b x y z e f = rw (sym e) (f refl)
-cond-same false b x y z e f = rw (sym e) refl
+pub chosen-groups : {A : Type 0} (t : ℕ → Bool) (g : ℕ → List A) (n : ℕ) (f : ℕ → ℕ) → joined (map g (select t (tab n f))) ≡ joined (tab n (λ i. cond (t (f i)) (g (f i)) []))
+unfolding joined select tab
+chosen-groups t g zero f = refl
+chosen-groups t g (suc n) f = elim (truth (t (f zero))) [
+  | holds e ↦ rw e (ap (λ l. g (f zero) ++ l) (chosen-groups t g n (λ i. f (suc i))))
+  | fails e ↦ rw e (chosen-groups t g n (λ i. f (suc i)))
+]
 
 -- records of one kind, and of another
 abbrev ofOne : ℕ → Record → Bool
@@ -94,10 +88,10 @@ module _ (q : Record → Bool) where
   objects-pass h p r c =
       every-mapped q (λ o. objectRecord o (p .level o) (r .field o)) (λ o. h o (p .level o) (r .field o)) (select (λ o. p .dom c (p .level o)) (tab (p .objects) (λ o. o)))
 
-  histories-pass : ((l : ℕ) (h : History) → q (historyRecord l h) ≡ true) → (r : Result) (order : List ℕ) → every q (historiesShown r order) ≡ true
+  histories-pass : ((l : ℕ) (h : History) → q (historyRecord l h) ≡ true) → (p : Program) (r : Result) (c : ℕ) → every q (historiesShown p r c) ≡ true
   unfolding historiesShown
-  histories-pass h r order =
-      every-groups q (λ l. map (historyRecord l) (r .ended l)) (λ l. every-mapped q (historyRecord l) (h l) (r .ended l)) order
+  histories-pass h p r c =
+      every-groups q (λ l. map (historyRecord l) (r .ended l)) (λ l. every-mapped q (historyRecord l) (h l) (r .ended l)) (levelsShown p c)
 
   reply-pass : ((l : ℕ) (v : Value) → q (replyRecord l v) ≡ true) → (p : Program) (r : Result) (c l : ℕ) → every q (replyShown p r c l) ≡ true
   unfolding replyShown every
@@ -122,7 +116,7 @@ reply-whole l v = refl
 objects-kind : (p : Program) (r : Result) (c : ℕ) → every (ofOne 5) (objectsShown p r c) ≡ true
 objects-kind = objects-pass (ofOne 5) (λ o level field. unfold objectRecord in refl)
 
-histories-kind : (r : Result) (order : List ℕ) → every (ofOne 6) (historiesShown r order) ≡ true
+histories-kind : (p : Program) (r : Result) (c : ℕ) → every (ofOne 6) (historiesShown p r c) ≡ true
 histories-kind = histories-pass (ofOne 6) (λ l h. unfold historyRecord in refl)
 
 reply-kind : (p : Program) (r : Result) (c l : ℕ) → every (ofOne 7) (replyShown p r c l) ≡ true
@@ -142,108 +136,139 @@ level-other l k n hs =
     select-none (ofLevel l) (map (historyRecord k) hs)
     (every-mapped (λ rec. not (ofLevel l rec)) (historyRecord k) (λ h. ap not (ne-eqb k l (λ e. n (sym e)))) hs)
 
--- how often an order names level l
-times-beyond : (l n : ℕ) (order : List ℕ) → every (λ k. ltb k n) order ≡ true → ltb l n ≡ false → times l order ≡ 0
-times-beyond l n order s e =
-    ap length (select-none (eqb l) order
-    (every-then (λ k. ltb k n) (λ k. not (eqb l k)) (λ k t. ap not (ne-eqb l k (omega (arith, ltb-true k n t, ltb-false l n e)))) order s))
+-- groups by rising number, of which l chooses its own and nothing of another
+module _ {A : Type 0} (pick : ℕ → A → Bool) (g : ℕ → List A) (own : (l : ℕ) → select (pick l) (g l) ≡ g l) (other : (l k : ℕ) → (l ≡ k → ⊥) → select (pick l) (g k) ≡ []) where
+  -- one group more
+  joined-more : (n : ℕ) (f : ℕ → List A) → joined (tab (suc n) f) ≡ joined (tab n f) ++ f n
+  joined-more n f = ap joined (tab-more n f) ∙ joined-last (tab n f) (f n)
 
-times-shown : (n : ℕ) (shown : ℕ → Bool) (order : List ℕ)
-    → (every (λ k. ltb k n) order && all n (λ l. eqb (times l order) (cond (shown l) 1 0))) ≡ true
-    → (l : ℕ) → times l order ≡ cond (ltb l n && shown l) 1 0
-times-shown n shown order s l = elim (truth (ltb l n)) [
-  | holds e ↦
-      rw e (eqb-true (times l order) (cond (shown l) 1 0)
-      (all-each n (λ l. eqb (times l order) (cond (shown l) 1 0)) (and-right (every (λ k. ltb k n) order) _ s) l (ltb-true l n e)))
-  | fails e ↦ rw e (times-beyond l n order (and-left (every (λ k. ltb k n) order) _ s) e)
+  pick-more : (l n : ℕ) → select (pick l) (joined (tab (suc n) g)) ≡ select (pick l) (joined (tab n g)) ++ select (pick l) (g n)
+  pick-more l n = ap (select (pick l)) (joined-more n g) ∙ select-append (pick l) (joined (tab n g)) (g n)
+
+  pick-none : (n l : ℕ) → n ≤ l → select (pick l) (joined (tab n g)) ≡ []
+  pick-none zero l h = unfold tab joined select in refl
+  pick-none (suc n) l h = pick-more l n ∙ ap₂ _++_ (pick-none n l (omega (arith, h))) (other l n (λ q. omega (arith, h, q)))
+
+  pick-own : (n l : ℕ) → l < n → select (pick l) (joined (tab n g)) ≡ g l
+  pick-own zero l h = absurd (omega arith)
+  pick-own (suc n) l h = elim (decLt l n) [
+    | yes k ↦
+        pick-more l n ∙ ap₂ _++_ (pick-own n l k) (other l n (λ q. omega (arith, k, q))) ∙ append-nil (g l)
+    | no k ↦
+        let same : n ≡ l = omega (arith, h, k) in
+        pick-more l n ∙ ap₂ _++_ (pick-none n l (omega (arith, k))) (rw same (own l))
+  ]
+
+  -- all of them are what each number chooses, one after the other, as far as one likes
+  pub picked : (n more : ℕ) → joined (tab (n + more) (λ l. select (pick l) (joined (tab n g)))) ≡ joined (tab n g)
+  picked n zero =
+      let none : n + 0 ≡ n = omega arith in
+      ap (λ k. joined (tab k (λ l. select (pick l) (joined (tab n g))))) none ∙ ap joined (tab-ext n _ g (λ l h. pick-own n l h))
+  picked n (suc more) =
+      let one : n + suc more ≡ suc (n + more) = omega arith in
+      ap (λ k. joined (tab k (λ l. select (pick l) (joined (tab n g))))) one
+      ∙ joined-more (n + more) (λ l. select (pick l) (joined (tab n g)))
+      ∙ ap₂ _++_ (picked n more) (pick-none n (n + more) (omega arith))
+      ∙ append-nil (joined (tab n g))
+
+-- the group of a level, where clearance c is shown it
+abbrev groupShown : Program → Result → ℕ → ℕ → List Record
+groupShown p r c l = cond (p .dom c l) (map (historyRecord l) (r .ended l)) []
+
+group-own : (p : Program) (r : Result) (c l : ℕ) → select (ofLevel l) (groupShown p r c l) ≡ groupShown p r c l
+group-own p r c l = elim (truth (p .dom c l)) [
+  | holds e ↦ rw e (level-own l (r .ended l))
+  | fails e ↦ rw e (unfold select in refl)
 ]
 
-module _ (p : Program) (rootLevel : ℕ) (r : Result) (c : ℕ) (order : List ℕ) where
-  -- the records that the bytes are cut into, and those of one kind
-  records-shown : recordsOf (bytesOf p rootLevel r c order) ≡ objectsShown p r c ++ historiesShown r order ++ replyShown p r c rootLevel
+group-other : (p : Program) (r : Result) (c l k : ℕ) → (l ≡ k → ⊥) → select (ofLevel l) (groupShown p r c k) ≡ []
+group-other p r c l k n = elim (truth (p .dom c k)) [
+  | holds e ↦ rw e (level-other l k n (r .ended k))
+  | fails e ↦ rw e (unfold select in refl)
+]
+
+module _ (p : Program) (rootLevel : ℕ) (r : Result) (c : ℕ) where
+  -- the bytes of the result
+  abbrev bytes : List ℕ
+  bytes = bytesOf p rootLevel r c
+
+  bytes-are : bytes ≡ joined (objectsShown p r c ++ historiesShown p r c ++ replyShown p r c rootLevel)
   unfolding bytesOf
+  bytes-are = refl
+
+  -- the records that they are cut into, and those of one kind
+  records-shown : recordsOf bytes ≡ objectsShown p r c ++ historiesShown p r c ++ replyShown p r c rootLevel
   records-shown =
-      records-joined (objectsShown p r c ++ historiesShown r order ++ replyShown p r c rootLevel)
-      (every-append whole (objectsShown p r c ++ historiesShown r order) (replyShown p r c rootLevel)
-      (every-append whole (objectsShown p r c) (historiesShown r order)
-      (objects-pass whole object-whole p r c) (histories-pass whole history-whole r order))
+      ap recordsOf bytes-are
+      ∙ records-joined (objectsShown p r c ++ historiesShown p r c ++ replyShown p r c rootLevel)
+      (every-append whole (objectsShown p r c ++ historiesShown p r c) (replyShown p r c rootLevel)
+      (every-append whole (objectsShown p r c) (historiesShown p r c)
+      (objects-pass whole object-whole p r c) (histories-pass whole history-whole p r c))
       (reply-pass whole reply-whole p r c rootLevel))
 
-  kind-shown : (k : ℕ) → ofKind k (bytesOf p rootLevel r c order) ≡ select (ofOne k) (objectsShown p r c) ++ select (ofOne k) (historiesShown r order) ++ select (ofOne k) (replyShown p r c rootLevel)
+  kind-shown : (k : ℕ) → ofKind k bytes ≡ select (ofOne k) (objectsShown p r c) ++ select (ofOne k) (historiesShown p r c) ++ select (ofOne k) (replyShown p r c rootLevel)
   unfolding ofKind
   kind-shown k =
       ap (select (ofOne k)) records-shown
-      ∙ select-append (ofOne k) (objectsShown p r c ++ historiesShown r order) (replyShown p r c rootLevel)
-      ∙ ap (λ l. l ++ select (ofOne k) (replyShown p r c rootLevel)) (select-append (ofOne k) (objectsShown p r c) (historiesShown r order))
+      ∙ select-append (ofOne k) (objectsShown p r c ++ historiesShown p r c) (replyShown p r c rootLevel)
+      ∙ ap (λ l. l ++ select (ofOne k) (replyShown p r c rootLevel)) (select-append (ofOne k) (objectsShown p r c) (historiesShown p r c))
 
   -- each kind is found as it was shown
-  pub objects-found : ofKind 5 (bytesOf p rootLevel r c order) ≡ objectsShown p r c
+  pub objects-found : ofKind 5 bytes ≡ objectsShown p r c
   objects-found =
       kind-shown 5
-      ∙ ap₂ _++_ (ap₂ _++_ (select-all (ofOne 5) _ (objects-kind p r c)) (kind-other 6 5 (omega arith) _ (histories-kind r order)))
+      ∙ ap₂ _++_ (ap₂ _++_ (select-all (ofOne 5) _ (objects-kind p r c)) (kind-other 6 5 (omega arith) _ (histories-kind p r c)))
       (kind-other 7 5 (omega arith) _ (reply-kind p r c rootLevel))
       ∙ append-nil (objectsShown p r c ++ [])
       ∙ append-nil (objectsShown p r c)
 
-  pub histories-all : ofKind 6 (bytesOf p rootLevel r c order) ≡ historiesShown r order
-  histories-all =
+  pub histories-found : ofKind 6 bytes ≡ historiesShown p r c
+  histories-found =
       kind-shown 6
-      ∙ ap₂ _++_ (ap₂ _++_ (kind-other 5 6 (omega arith) _ (objects-kind p r c)) (select-all (ofOne 6) _ (histories-kind r order)))
+      ∙ ap₂ _++_ (ap₂ _++_ (kind-other 5 6 (omega arith) _ (objects-kind p r c)) (select-all (ofOne 6) _ (histories-kind p r c)))
       (kind-other 7 6 (omega arith) _ (reply-kind p r c rootLevel))
-      ∙ append-nil (historiesShown r order)
+      ∙ append-nil (historiesShown p r c)
 
-  pub reply-found : ofKind 7 (bytesOf p rootLevel r c order) ≡ replyShown p r c rootLevel
+  pub reply-found : ofKind 7 bytes ≡ replyShown p r c rootLevel
   reply-found =
       kind-shown 7
-      ∙ ap₂ _++_ (ap₂ _++_ (kind-other 5 7 (omega arith) _ (objects-kind p r c)) (kind-other 6 7 (omega arith) _ (histories-kind r order)))
+      ∙ ap₂ _++_ (ap₂ _++_ (kind-other 5 7 (omega arith) _ (objects-kind p r c)) (kind-other 6 7 (omega arith) _ (histories-kind p r c)))
       (select-all (ofOne 7) _ (reply-kind p r c rootLevel))
 
-  -- the histories of level l stand together, as often as the order names it
-  histories-often : (l : ℕ) → historiesAt l (bytesOf p rootLevel r c order) ≡ joined (map (λ k. map (historyRecord l) (r .ended l)) (select (eqb l) order))
+  -- the histories of a level, one level after the other
+  histories-by-level : (more : ℕ) → joined (tab (p .levels + more) (λ l. historiesAt l bytes)) ≡ historiesShown p r c
   unfolding historiesShown
-  histories-often l =
-      ap (select (ofLevel l)) histories-all
-      ∙ select-groups (ofLevel l) (λ k. map (historyRecord k) (r .ended k)) l (level-own l (r .ended l)) (λ k n. level-other l k n (r .ended k)) order
+  histories-by-level more =
+      let groups : joined (tab (p .levels) (groupShown p r c)) ≡ historiesShown p r c = sym (chosen-groups (p .dom c) (λ l. map (historyRecord l) (r .ended l)) (p .levels) (λ l. l)) in
+      ap (λ hs. joined (tab (p .levels + more) (λ l. select (ofLevel l) hs))) (histories-found ∙ sym groups)
+      ∙ picked ofLevel (groupShown p r c) (group-own p r c) (group-other p r c) (p .levels) more
+      ∙ groups
 
-  -- which is once where level l is shown, and else never
-  pub histories-found : ordersShown p c order ≡ true → (l : ℕ)
-      → historiesAt l (bytesOf p rootLevel r c order) ≡ cond (ltb l (p .levels) && p .dom c l) (map (historyRecord l) (r .ended l)) []
-  unfolding ordersShown
-  histories-found s l =
-      histories-often l
-      ∙ copies (map (historyRecord l) (r .ended l)) (select (eqb l) order) (ltb l (p .levels) && p .dom c l) (times-shown (p .levels) (p .dom c) order s l)
+  -- the bytes are made of the records that document 01 compares, of as many levels as one likes
+  pub made-of-records : (more : ℕ) → bytes ≡ joined (ofKind 5 bytes ++ joined (tab (p .levels + more) (λ l. historiesAt l bytes)) ++ ofKind 7 bytes)
+  made-of-records more =
+      bytes-are ∙ ap joined (sym (ap₂ _++_ (ap₂ _++_ objects-found (histories-by-level more)) reply-found))
 
--- two results that agree where the clearance sees are the same to the reader, whichever orders their groups stand in
-pub same-bytes : (p p' : Program) (rootLevel rootLevel' : ℕ) (r r' : Result) (c : ℕ) (order order' : List ℕ)
-    → ordersShown p c order ≡ true → ordersShown p' c order' ≡ true
-    → p .levels ≡ p' .levels → p .dom ≡ p' .dom
-    → objectsShown p r c ≡ objectsShown p' r' c
-    → replyShown p r c rootLevel ≡ replyShown p' r' c rootLevel'
-    → ((l : ℕ) → l < p .levels → p .dom c l ≡ true → r .ended l ≡ r' .ended l)
-    → SameBytes (bytesOf p rootLevel r c order) (bytesOf p' rootLevel' r' c order')
-same-bytes p p' rootLevel rootLevel' r r' c order order' s s' n d o t h =
-    record {
-      objects = objects-found p rootLevel r c order ∙ o ∙ sym (objects-found p' rootLevel' r' c order');
-      histories = λ l.
-          histories-found p rootLevel r c order s l
-          ∙ cond-same (ltb l (p .levels) && p .dom c l) (ltb l (p' .levels) && p' .dom c l) (map (historyRecord l) (r .ended l)) (map (historyRecord l) (r' .ended l)) []
-          (ap₂ (λ m f. ltb l m && f c l) n d)
-          (λ e. ap (map (historyRecord l)) (h l (ltb-true l (p .levels) (and-left (ltb l (p .levels)) (p .dom c l) e)) (and-right (ltb l (p .levels)) (p .dom c l) e)))
-          ∙ sym (histories-found p' rootLevel' r' c order' s' l);
-      reply = reply-found p rootLevel r c order ∙ t ∙ sym (reply-found p' rootLevel' r' c order');
-    }
+-- bytes that are the same have the same records
+pub same-records : (a b : List ℕ) → a ≡ b → SameRecords a b
+same-records a b e =
+    record { objects = ap (ofKind 5) e; histories = λ l. ap (historiesAt l) e; reply = ap (ofKind 7) e }
 
--- `SameBytes` can be turned around and put together
-pub same-sym : (a b : List ℕ) → SameBytes a b → SameBytes b a
-same-sym a b s = record { objects = sym (s .objects); histories = λ l. sym (s .histories l); reply = sym (s .reply) }
+-- and those of results that have the same records are the same
+pub by-records : ComparedByRecords
+by-records p p' rootLevel rootLevel' r r' c c' = (same-records _ _, λ s. by s)
+  where
+    A : List ℕ
+    A = bytesOf p rootLevel r c
 
-pub same-trans : (a b c : List ℕ) → SameBytes a b → SameBytes b c → SameBytes a c
-same-trans a b c s t =
-    record {
-      objects = s .objects ∙ t .objects;
-      histories = λ l. s .histories l ∙ t .histories l;
-      reply = s .reply ∙ t .reply;
-    }
+    by : SameRecords (bytesOf p rootLevel r c) (bytesOf p' rootLevel' r' c') → bytesOf p rootLevel r c ≡ bytesOf p' rootLevel' r' c'
+    by s =
+        let both : p .levels + p' .levels ≡ p' .levels + p .levels = omega arith in
+        made-of-records p rootLevel r c (p' .levels)
+        ∙ ap joined (ap₂ _++_ (ap₂ _++_ (s .objects)
+        (ap (λ n. joined (tab n (λ l. historiesAt l A))) both ∙ ap joined (tab-ext (p' .levels + p .levels) _ _ (λ l h. s .histories l))))
+        (s .reply))
+        ∙ sym (made-of-records p' rootLevel' r' c' (p .levels))
 
 -- what is written over a buffer is found at its start
 pub written-bytes : (bytes buffer : List ℕ) → take (length bytes) (writtenOver bytes buffer) ≡ bytes
