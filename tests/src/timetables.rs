@@ -11,7 +11,9 @@ pub fn finishing(random: &mut Random, session: &Session, tally: &mut Tally) -> V
         1 => depth_first(session),
         _ => {
             let mut turns = Turns::new(random, tally);
-            steps(session, |scheduler| turns.choose(&scheduler.allowed()))
+            steps(session, |scheduler| {
+                turns.choose(scheduler.allowed().collect())
+            })
         }
     }
 }
@@ -20,9 +22,9 @@ pub fn finishing(random: &mut Random, session: &Session, tally: &mut Tally) -> V
 pub fn conservative(random: &mut Random, session: &Session, tally: &mut Tally) -> Vec<u8> {
     let mut turns = Turns::new(random, tally);
     steps(session, |scheduler| {
-        let mut levels = scheduler.with_managers();
-        levels.retain(|&level| scheduler.is_conservative(level));
-        turns.choose(&levels)
+        let levels = scheduler.with_managers();
+        let passing = levels.filter(|&level| scheduler.is_conservative(level));
+        turns.choose(passing.collect())
     })
 }
 
@@ -30,7 +32,7 @@ pub fn conservative(random: &mut Random, session: &Session, tally: &mut Tally) -
 /// of largest fork stamp steps. Upper levels step as early as they may.
 pub fn depth_first(session: &Session) -> Vec<u8> {
     steps(session, |scheduler| {
-        let levels = scheduler.with_managers().into_iter();
+        let levels = scheduler.with_managers();
         levels.max_by_key(|&level| scheduler.next_stamp(level))
     })
 }
@@ -67,7 +69,7 @@ impl<'a> Turns<'a> {
     }
 
     /// One of the levels, if there are any.
-    fn choose(&mut self, levels: &[u8]) -> Option<u8> {
+    fn choose(&mut self, levels: Vec<u8>) -> Option<u8> {
         if levels.len() > 1 {
             self.tally.saw(Event::Choice);
         }
@@ -76,7 +78,7 @@ impl<'a> Turns<'a> {
             Some(level) if levels.contains(&level) && !self.random.one_in(self.patience) => {
                 Some(level)
             }
-            _ => Some(self.random.pick(levels)),
+            _ => Some(self.random.pick(&levels)),
         };
         self.last
     }
@@ -90,11 +92,12 @@ pub fn held_back(random: &mut Random, session: &Session, list: &[u8]) -> Option<
     let start = random.below(list.len());
     for (place, &level) in list.iter().enumerate() {
         if place >= start {
-            let mut levels = scheduler.with_managers();
-            levels.retain(|&level| scheduler.refusal(level) == Some(14));
-            if !levels.is_empty() {
+            let levels = scheduler.with_managers();
+            let refused = levels.filter(|&level| scheduler.refusal(level) == Some(14));
+            let refused: Vec<u8> = refused.collect();
+            if !refused.is_empty() {
                 let mut list = list.to_vec();
-                list.insert(place, random.pick(&levels));
+                list.insert(place, random.pick(&refused));
                 return Some(list);
             }
         }

@@ -5,7 +5,7 @@ use super::manager::World;
 use super::scheduler::Scheduler;
 use crate::tally::Event;
 
-impl Scheduler<'_> {
+impl<'a> Scheduler<'a> {
     /// The number of the question, 12 to 14, that refuses a step, if any.
     pub fn refusal(&self, byte: u8) -> Option<u32> {
         let level = usize::from(byte);
@@ -51,19 +51,17 @@ impl Scheduler<'_> {
     }
 
     /// The levels with managers that have not ended, by rising number.
-    pub fn with_managers(&self) -> Vec<u8> {
+    pub fn with_managers(&self) -> impl Iterator<Item = u8> + use<'_, 'a> {
         let levels = (0..).zip(&self.levels);
         levels
             .filter(|(_, level)| level.has_manager())
             .map(|(number, _)| number)
-            .collect()
     }
 
     /// The levels that may step, by rising number.
-    pub fn allowed(&self) -> Vec<u8> {
-        let mut levels = self.with_managers();
-        levels.retain(|&level| self.refusal(level).is_none());
-        levels
+    pub fn allowed(&self) -> impl Iterator<Item = u8> + use<'_, 'a> {
+        self.with_managers()
+            .filter(|&level| self.refusal(level).is_none())
     }
 
     /// Notes what question 14 tells apart at a level that is about to step.

@@ -40,8 +40,7 @@ pub fn plain(session: &Session, tally: &mut Tally) -> Outcome {
 }
 
 fn lowest_allowed(scheduler: &Scheduler) -> Option<u8> {
-    let mut levels = scheduler.with_managers().into_iter();
-    levels.find(|&level| scheduler.refusal(level).is_none())
+    scheduler.allowed().next()
 }
 
 /// The depth-first run of an accepted session.

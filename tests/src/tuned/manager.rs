@@ -170,6 +170,8 @@ impl Manager {
         true
     }
 
+    /// Apart from the step, which is smaller and faster without it.
+    #[inline(never)]
     fn send(
         &mut self,
         tables: &Tables,

@@ -237,6 +237,7 @@ impl World for Scheduler<'_> {
     }
 
     /// Keeps the 32 smallest.
+    #[inline]
     fn fork(&mut self, level: u8, fork: Fork) {
         let queue = &mut self.queues[usize::from(level)];
         if queue.count == KEPT_MAX {
