@@ -8,7 +8,6 @@ pub mod library;
 pub mod limits;
 pub mod measured;
 pub mod random;
-pub mod reader;
 pub mod record;
 pub mod reference;
 pub mod request;
