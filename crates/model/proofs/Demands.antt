@@ -24,13 +24,14 @@ use Rattle.model.specs.DepthFirst.{depthFirst}
 use Rattle.model.specs.Result.{resultOf, resultOfDepthFirst, bytesOf}
 use Rattle.model.specs.Entries.{Request, Answer, question10, entryRefusal, bytesFor, timetabled, plain, deep}
 use Rattle.model.specs.Reader.{Finished, bytesWritten, EqualToReader, ComparedByRecords}
-use Rattle.model.specs.Demands.{OneEnd, EmptiedAccepted, PlainFinishes, DeepFinishes, StepFromView, EmptiedRuns, Demand2, Demand2Plain, Isolation, TimetabledRun, DepthFirstRun, Demand3}
+use Rattle.model.specs.Demands.{OneEnd, EmptiedAccepted, PlainFinishes, DeepFinishes, DeepEmptied, HistoriesLimited, StepFromView, EmptiedRuns, Demand2, Demand2Plain, Isolation, TimetabledRun, DepthFirstRun, Demand3}
 use Rattle.model.proofs.Laws.Order.Accepted.{sound, any-order}
 use Rattle.model.proofs.Laws.Order.PlainRun.{accepted-plain}
 use Rattle.model.proofs.Laws.Code.Direct.{move-direct}
 use Rattle.model.proofs.Laws.Code.Reached.{present}
 use Rattle.model.proofs.Laws.Code.Progress.{leads-live}
 use Rattle.model.proofs.Laws.Deep.Root.{same-result}
+use Rattle.model.proofs.Laws.Code.Histories as limited
 use Rattle.model.proofs.Laws.Reader.Isolation as laws
 use Rattle.model.proofs.Laws.Reader.Bytes.{by-records}
 use Rattle.model.proofs.Laws.Reader.Shown.{reader-sees}
@@ -97,6 +98,9 @@ pub demand-2-plain : Demand2Plain
 unfolding plain
 demand-2-plain q f = demand-2 q (plainOrder (programOf (q .session)) (rootOf (q .session))) f
 
+pub histories-limited : HistoriesLimited
+histories-limited = limited.histories-limited
+
 pub isolation : Isolation
 isolation s a c h ls t e = laws.isolation s a c h ls t e
 
@@ -131,6 +135,23 @@ run-and-deep q q' ls of reader f f' =
     ∙ run-bytes q (r .state)
     ∙ reader-sees p (sound (q .session) a) (few-of (q .session) a) (rootOf (q .session)) c (present (q .session) c (r .passes .level)) ls (r .state) (r .ends)
     ∙ sym (deeper ∙ seen-bytes c p (rootOf (q .session)))
+
+-- the depth-first run has the bytes of the plain run, of which the same is true
+pub deep-emptied : DeepEmptied
+deep-emptied q q' of reader f f' =
+    let c = q .clearance in
+    let yes = passes true q (deep-passes q f) in
+    let a = yes .accepted in
+    let s = q .session in
+    let p = programOf s in
+    let (t, run) = accepted-plain s a in
+    let program : programOf (q' .session) ≡ seenBy c p = ap programOf of ∙ emptied-program s c a in
+    let root : rootOf (q' .session) ≡ rootOf s = ap rootOf of ∙ emptied-message s c in
+    deep-bytes q (deep-passes q f)
+    ∙ session-bytes q
+    ∙ ap (λ r. bytesOf p (p .level (rootOf s .object)) r c) (sym (same-result p (sound s a) (few-of s a) (rootOf s) (plainOrder p (rootOf s)) t run))
+    ∙ reader-sees p (sound s a) (few-of s a) (rootOf s) c (present s c (yes .level)) (plainOrder p (rootOf s)) t run
+    ∙ sym (deep-bytes q' (deep-passes q' f') ∙ session-bytes q' ∙ (λ i. deepBytes (program i) (root i) (reader i)) ∙ seen-bytes c p (rootOf s))
 
 -- a finished run is equal to the reader to the depth-first run of the emptied session
 reader-same : (c : ℕ) (s : List ℕ) (a d : Answer) → TimetabledRun s c a → DepthFirstRun (emptied c s) c d → EqualToReader a d

@@ -11,8 +11,10 @@ use Rattle.session.specs.Program.{programOf}
 use Rattle.session.specs.Emptied.{emptied}
 use Rattle.session.specs.declared.Verdict.the-variants.{Accepted}
 use Rattle.model.specs.Limits.{resultBytes}
+use Rattle.model.specs.History.{AllLimited}
 use Rattle.model.specs.Step.{State, levelAt, moved, moveAt}
 use Rattle.model.specs.Schedule.{readIn, finished, runOf, Leads}
+use Rattle.model.specs.DepthFirst.{depthFirst, tallyAt}
 use Rattle.model.specs.Entries.{Request, Answer, question10, entryRefusal, timetabled, plain, deep}
 use Rattle.model.specs.Reader.{Finished, bytesWritten, EqualToReader}
 use Rattle.model.specs.Isolation.{Isolated}
@@ -53,6 +55,20 @@ Demand2Plain =
     (q : Request)
     → Finished (plain q)
     → Finished (deep q) × (bytesWritten (plain q) ≡ bytesWritten (deep q))
+
+-- The depth-first runs of a session and of the session emptied for a reader's level are equal to that reader
+abbrev pub DeepEmptied : Type 0
+DeepEmptied =
+    (q q' : Request)
+    → q' .session ≡ emptied (q .clearance) (q .session) → q' .clearance ≡ q .clearance
+    → Finished (deep q) → Finished (deep q')
+    → EqualToReader (deep q) (deep q')
+
+-- The histories of a depth-first run are within the limits of a run
+abbrev pub HistoriesLimited : Type 0
+HistoriesLimited =
+    (s : List ℕ) → IsAccepted s
+    → (l : ℕ) → l < levelCount s → AllLimited (tallyAt (depthFirst (programOf s) (rootOf s)) l .ended)
 
 -- A step is made from what its level sees alone (`moveAt`). On every state that a run reaches it is the step made from the whole state and
 -- the whole program: nothing that a manager looks at is hidden from its level

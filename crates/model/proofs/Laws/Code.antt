@@ -6,3 +6,4 @@ pub mod Reachable
 pub mod Reached
 pub mod Needs
 pub mod Progress
+pub mod Histories
