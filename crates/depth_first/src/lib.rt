@@ -71,7 +71,7 @@ fn run_over(
 
 // Runs an accepted session, writes the records that a clearance is shown, and returns how many bytes
 // they are.
-fn run(session: &[u8], masks: &[u16], clearance: usize, result: &mut [u8]) -> usize
+pub fn run(session: &[u8], masks: &[u16], clearance: usize, result: &mut [u8]) -> usize
     requires { ⌜ (verdictOf (now session) ≡ Accepted) × (now masks ≡ masksOf (now session)) × (resultBytes ≤ length (now result)) ⌝ }
     ensures { λ r. ⌜ Shown (now (session .entry)) clearance (now (result .entry)) (now (result .exit)) r ⌝ }
 {

@@ -1,4 +1,4 @@
--- The numbers that document 01 fixes for runs. Assumes nothing.
+-- The numbers that documents 01 and 02 fix for runs. Assumes nothing.
 use Prim.Native.Nat.{ℕ, _+_, _*_}
 use Rattle.session.specs.Limits.{recordBytes, maxLevels, maxObjects}
 use Rattle.scripts.specs.Limits.{maxScriptSteps, maxWrites}
@@ -18,6 +18,14 @@ workNumbers = maxLevels * maxManagers * maxWrites * 2
 -- question 11: a record for each object, each manager and the reply
 abbrev pub resultBytes : ℕ
 resultBytes = recordBytes * (maxObjects + maxLevels * maxManagers + 1)
+
+-- document 02, job 3: "27 columns and a line feed each"
+abbrev pub lineBytes : ℕ
+lineBytes = 27 + 1
+
+-- question 16: a line for each manager and the total
+abbrev pub pageBytes : ℕ
+pageBytes = lineBytes * (maxLevels * maxManagers + 1)
 
 -- a plain run is over within so many scheduler steps: a start and the script steps of each manager
 abbrev pub maxSchedule : ℕ

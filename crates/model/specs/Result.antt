@@ -1,12 +1,12 @@
 -- Result records. Assumes nothing.
 -- Laws (`proofs/Laws/Reader/Bytes`): what a reader finds in the bytes of a result (`objects-found`, `histories-found`, `reply-found`), and that
--- they are made of it (`made-of-records`).
+-- they are made of it (`made-of-records`); what is read off a history's record (`Reader/Fields`).
 use Prim.Native.Nat.{ℕ, _+_, _*_, _/_, _%_, _^_}
 use mathlib.Core.Bool.{cond}
 use mathlib.Core.List.{List, [], _∷_, _++_, map}
 use lib.ListN.{replicate}
 use Rattle.session.specs.Lists.{tab, select, joined}
-use Rattle.session.specs.Record.{Record}
+use Rattle.session.specs.Record.{Record, byteOf, wordOf}
 use Rattle.session.specs.Program.{Program}
 use Rattle.session.specs.declared.Value.{Value}
 use Rattle.session.specs.declared.Value.the-variants.{Nil}
@@ -58,6 +58,32 @@ historyRecord level h =
     ++ bytes2 (h .last)
     ++ bytes2 (h .steps)
     ++ replicate 2 0
+
+-- what a record of kind 6 says, read off its bytes
+abbrev pub levelIn : Record → ℕ
+levelIn rec = byteOf rec 1
+
+abbrev pub endingIn : Record → ℕ
+endingIn rec = byteOf rec 2
+
+abbrev pub writesIn : Record → ℕ
+writesIn rec = byteOf rec 3
+
+abbrev pub stampIn : Record → ℕ
+stampIn rec = wordOf rec 4
+
+-- a number of 16 bits from byte k on
+abbrev pub halfOf : Record → ℕ → ℕ
+halfOf rec k = byteOf rec k + 2 ^ 8 * byteOf rec (k + 1)
+
+abbrev pub firstIn : Record → ℕ
+firstIn rec = halfOf rec 8
+
+abbrev pub lastIn : Record → ℕ
+lastIn rec = halfOf rec 10
+
+abbrev pub stepsIn : Record → ℕ
+stepsIn rec = halfOf rec 12
 
 -- "Kind 7 ..: byte 1 that level, byte 3 tag, 4 to 7 reply"
 unfoldable pub replyRecord : ℕ → Value → Record

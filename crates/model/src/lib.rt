@@ -1,4 +1,4 @@
-// What a run is: definitions and theorems. Of code there are only the numbers that document 01 fixes for runs,
+// What a run is: definitions and theorems. Of code there are only the numbers that documents 01 and 02 fix for runs,
 // under the names that the definitions give them.
 use scripts::MAX_WRITES;
 use session::limits::MAX_LEVELS;
@@ -13,3 +13,9 @@ pub const WORK_NUMBERS: usize = MAX_LEVELS * MAX_MANAGERS * MAX_WRITES as usize 
 
 // Question 11: a record for each object, each manager and the reply.
 pub const RESULT_BYTES: usize = RECORD_BYTES * (MAX_OBJECTS + MAX_LEVELS * MAX_MANAGERS + 1);
+
+// A line of a page: 27 columns and a line feed.
+pub const LINE_BYTES: usize = 27 + 1;
+
+// Question 16: a line for each manager and the total.
+pub const PAGE_BYTES: usize = LINE_BYTES * (MAX_LEVELS * MAX_MANAGERS + 1);
