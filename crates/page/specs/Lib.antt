@@ -1,0 +1,3 @@
+-- What the contracts of this crate cite, and what a reader of it must believe.
+pub mod Text
+pub mod Shown

@@ -1,0 +1,2 @@
+// The page for the wall.
+mod text;
