@@ -3,3 +3,5 @@ pub mod Lengths
 pub mod Placing
 pub mod Shown
 pub mod Numbers
+pub mod Fits
+pub mod Answers
