@@ -1,0 +1,7 @@
+-- Laws of a page's text.
+pub mod Lengths
+pub mod Placing
+pub mod Shown
+pub mod Numbers
+pub mod Fits
+pub mod Answers
