@@ -1,20 +1,27 @@
 // The entries as functions for programs in other languages: numbers, and slices as a pointer and a length.
 //
 // Each run returns the number of document 01's answer. Its place and count are written to the front of
-// `place_and_count`, or nothing where that has no room for the two.
+// `place_and_count`, or nothing where that has no room for the two; the page entry tells three numbers so.
 use entries::Answer;
+use page::PageAnswer;
 ghost use mathlib.Core.Path.{_≡_};
 ghost use mathlib.Core.List.{[]};
 ghost use Rattle.session.specs.Questions.{verdictOf, answerOf};
 ghost use Rattle.model.specs.Entries.{timetabled, plain, deep};
-ghost use Rattle.exports.specs.Calls.{reported, Call};
+ghost use Rattle.page.specs.Entries.{paged};
+ghost use Rattle.exports.specs.Calls.{reported, Call, reportedPage, PageCall};
 
-// Where place and count stand in `place_and_count`, and how many numbers they are.
+// Where place and count stand in `place_and_count`, and how many numbers they are; and with the count of page bytes
+// behind them.
 const PLACE: usize = 0;
 
 const COUNT: usize = 1;
 
 const NUMBERS: usize = 2;
+
+const PAGE_COUNT: usize = 2;
+
+const PAGE_NUMBERS: usize = 3;
 
 // Reports an answer: its place and count to the front of `place_and_count`, its number as the result.
 fn report(place_and_count: &mut [u32], answer: Answer) -> u32
@@ -23,6 +30,18 @@ fn report(place_and_count: &mut [u32], answer: Answer) -> u32
     if place_and_count.len() >= NUMBERS {
         place_and_count[PLACE] = answer.place;
         place_and_count[COUNT] = answer.count;
+    }
+    answer.number
+}
+
+// Reports an answer of the page entry: its place and both counts to the front of `place_and_counts`.
+fn report_page(place_and_counts: &mut [u32], answer: PageAnswer) -> u32
+    ensures { λ r. ⌜ (r ≡ answer .number) × (now («place_and_counts» .exit) ≡ reportedPage (answer .place) (answer .count) (answer .«page_count») (now («place_and_counts» .entry))) ⌝ }
+{
+    if place_and_counts.len() >= PAGE_NUMBERS {
+        place_and_counts[PLACE] = answer.place;
+        place_and_counts[COUNT] = answer.count;
+        place_and_counts[PAGE_COUNT] = answer.page_count;
     }
     answer.number
 }
@@ -79,4 +98,19 @@ pub extern "C" fn lupinpause_run_depth_first(
 {
     let answer = depth_first::run_depth_first(session, clearance, result);
     report(place_and_count, answer)
+}
+
+// The depth-first run with a page of its histories. `page` has at least 7,196 bytes, or the run is refused.
+#[no_mangle]
+pub extern "C" fn lupinpause_run_page(
+    session: &[u8],
+    clearance: usize,
+    result: &mut [u8],
+    page: &mut [u8],
+    place_and_counts: &mut [u32],
+) -> u32
+    ensures { λ r. ⌜ PageCall (paged (record { session = now (session .entry); clearance = clearance; work = []; buffer = now (result .entry) }) (now (page .entry))) (now (result .exit)) (now (page .exit)) (now («place_and_counts» .entry)) (now («place_and_counts» .exit)) r ⌝ }
+{
+    let answer = page::run_page(session, clearance, result, page);
+    report_page(place_and_counts, answer)
 }

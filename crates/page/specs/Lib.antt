@@ -2,3 +2,4 @@
 pub mod Text
 pub mod Shown
 pub mod Entries
+pub mod Pages

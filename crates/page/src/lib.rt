@@ -1,4 +1,4 @@
-// The page for the wall: a depth-first run, its result records, and a text that lays out the histories shown.
+// The printed page of a run: a depth-first run, its result records, and a text that lays out the histories shown.
 mod text;
 
 use model::PAGE_BYTES;

@@ -1,6 +1,6 @@
 -- The page of an accepted session's depth-first run fits question 16's buffer. Assumes nothing.
 use Prim.Native.Nat.{ℕ, _*_, _≤_}
-use mathlib.Core.Path.{_≡_, sym, _∙_, ap}
+use mathlib.Core.Path.{_≡_, ap}
 use mathlib.Core.List.{List, [], _∷_, map}
 use native.Mathlib.Omega.{arith}
 use lib.ListN.{length, length-append, length-map}
@@ -15,10 +15,10 @@ use Rattle.session.proofs.Laws.Lists.{select-length, length-tab}
 use Rattle.session.proofs.Laws.Verdict.{accepted}
 use Rattle.session.proofs.Laws.Numbering.{few-levels}
 use Rattle.model.specs.Limits.{maxManagers, pageBytes}
-use Rattle.model.specs.Step.{State, levelAt}
-use Rattle.model.specs.Schedule.{readIn, finished, runOf, plainOrder}
+use Rattle.model.specs.Step.{levelAt}
+use Rattle.model.specs.Schedule.{readIn, runOf, plainOrder}
 use Rattle.model.specs.DepthFirst.{tallyAt, depthFirst}
-use Rattle.model.specs.Result.{Result, resultOfDepthFirst, historyRecord, levelsShown, historiesShown, bytesOf}
+use Rattle.model.specs.Result.{Result, resultOfDepthFirst, historyRecord, levelsShown, historiesShown}
 use Rattle.model.proofs.Laws.Invariant.Measure.{Bounded}
 use Rattle.model.proofs.Laws.Order.Accepted.{sound}
 use Rattle.model.proofs.Laws.Order.Finish.{finishes}
@@ -36,7 +36,7 @@ groups-few g h [] = omega arith
 groups-few g h (l ∷ ls) = rw length-append (omega (arith, h l, groups-few g h ls))
 
 -- "at most 8 levels", "A level keeps the 32 forks": at most 256 histories
-histories-few : (p : Program) (r : Result) (c : ℕ) → p .levels ≤ maxLevels → ((l : ℕ) → length (r .ended l) ≤ maxManagers) → length (historiesShown p r c) ≤ maxLevels * maxManagers
+pub histories-few : (p : Program) (r : Result) (c : ℕ) → p .levels ≤ maxLevels → ((l : ℕ) → length (r .ended l) ≤ maxManagers) → length (historiesShown p r c) ≤ maxLevels * maxManagers
 unfolding historiesShown
 histories-few p r c few h =
     let shown : length (levelsShown p c) ≤ length (tab (p .levels) (λ (l : ℕ). l)) = select-length (p .dom c) (tab (p .levels) (λ l. l)) in
@@ -54,7 +54,7 @@ module _ (s : List ℕ) (a : verdictOf s ≡ Accepted) where
   levels-few = unfold programOf in few-levels s (accepted s a .three)
 
   -- the managers of a level that have ended
-  ended-few : (l : ℕ) → length (tallyAt (depthFirst (programOf s) (rootOf s)) l .ended) ≤ maxManagers
+  pub ended-few : (l : ℕ) → length (tallyAt (depthFirst (programOf s) (rootOf s)) l .ended) ≤ maxManagers
   unfolding runOf
   ended-few l =
       let p = programOf s in
