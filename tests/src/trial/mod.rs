@@ -328,22 +328,22 @@ impl<'a> Trial<'a> {
         }
     }
 
-    /// The check, and one of the runs, of a session that is not accepted.
+    /// The check, one of the runs, and the page, of a session that is not accepted.
     fn refused(&mut self, session: &[u8]) -> Result<(), String> {
         self.expect_as_reference(session, &Request::Check)?;
         let number = Tuned.check(session);
         if number != reference::check(session) {
             return Err(format!("tuned variant: check answers {number}"));
         }
-        let run = match self.random.below(4) {
+        let run = match self.random.below(3) {
             0 => Run::DepthFirst,
-            1 => Run::Page,
-            2 => Run::Plain,
+            1 => Run::Plain,
             _ => Run::Timetabled((0..6).map(|_| self.random.byte_below(4)).collect()),
         };
         let clearance = self.random.pick(&[0, 1, 255, usize::MAX]);
         let request = self.any_lengths(run, clearance);
-        self.expect_as_reference(session, &request)
+        self.expect_as_reference(session, &request)?;
+        self.refused_pages(session, clearance)
     }
 }
 

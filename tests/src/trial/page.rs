@@ -1,10 +1,10 @@
 //! Calls of the entry with a page.
 
 use super::Trial;
-use crate::limits::MANAGERS_MAX;
+use crate::limits::{MANAGERS_MAX, PAGE_LENGTH, RESULT_LENGTH};
 use crate::record::History;
 use crate::reference::{self, Reference, Session};
-use crate::request::{Outcome, Run};
+use crate::request::{Lengths, Outcome, Request, Run};
 use crate::tally::{Event, Tally};
 
 impl Trial<'_> {
@@ -29,6 +29,23 @@ impl Trial<'_> {
             .compare(&expected)
             .and_then(|()| self.expect(&emptied, &request, &expected))
             .map_err(|message| format!("page, emptied for {clearance}: {message}"))
+    }
+
+    /// The page of a session that is not accepted: with any lengths, and with none
+    /// that is enough.
+    pub(super) fn refused_pages(&mut self, session: &[u8], clearance: usize) -> Result<(), String> {
+        let request = self.any_lengths(Run::Page, clearance);
+        self.expect_as_reference(session, &request)?;
+        let request = Request::Run {
+            run: Run::Page,
+            clearance: usize::MAX,
+            lengths: Lengths {
+                result: RESULT_LENGTH - 1,
+                page: PAGE_LENGTH - 1,
+                ..Lengths::ENOUGH
+            },
+        };
+        self.expect_as_reference(session, &request)
     }
 }
 
