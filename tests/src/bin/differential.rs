@@ -25,7 +25,7 @@ use std::{env, fs, thread, time::Instant};
 const ENOUGH: u64 = 20_000;
 
 /// So many vectors are recorded.
-const VECTORS: usize = 3_533;
+const VECTORS: usize = 4_237;
 
 fn main() -> ExitCode {
     match run() {
