@@ -51,7 +51,7 @@ fn valid_draft(random: &mut Random) -> Draft {
     if random.one_in(20) {
         return work::largest(random);
     }
-    if random.one_in(64) {
+    if random.one_in(70) {
         return forks::fullest(random);
     }
     let shape = random.pick(&shapes);
