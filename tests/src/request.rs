@@ -244,23 +244,28 @@ fn lend(
         )?;
         more.answer
     } else {
-        demand(
-            lent.place_and_count.is_kept_but(numbers),
-            "place_and_count changed beyond place and counts",
-        )?;
-        let given = lent.place_and_count.first(numbers);
-        Answer {
-            number,
-            place: given[0] as usize,
-            count: given[1] as usize,
-            page_count: given.get(2).map_or(0, |&count| count as usize),
-        }
+        given(&lent.place_and_count, number, numbers)?
     };
     look_at_buffers(run, &lent, &answer)?;
     Ok(Outcome {
         answer,
         written: lent.result.first(answer.count).to_vec(),
         page: lent.page.first(answer.page_count).to_vec(),
+    })
+}
+
+/// The answer with what `place_and_count`, which has room, tells of it.
+fn given(place_and_count: &Guarded<u32>, number: u32, numbers: usize) -> Result<Answer, String> {
+    demand(
+        place_and_count.is_kept_but(numbers),
+        "place_and_count changed beyond place and counts",
+    )?;
+    let given = place_and_count.first(numbers);
+    Ok(Answer {
+        number,
+        place: given[0] as usize,
+        count: given[1] as usize,
+        page_count: given.get(2).map_or(0, |&count| count as usize),
     })
 }
 

@@ -52,7 +52,7 @@ fn read_file(name: &str, vectors: &mut Vec<Vector>) -> Result<(), String> {
         let parsed = match first {
             "session" => bytes(rest).map(|bytes| session = bytes),
             "shows" => bytes(rest).map(|bytes| shown = bytes),
-            "prints" => Some(printed = rest.replace('|', "\n").into_bytes()),
+            "prints" => page(rest).map(|bytes| printed = bytes),
             _ => call(first, rest, &session, [&shown, &printed]).map(|vector| vectors.push(vector)),
         };
         parsed.ok_or_else(|| format!("{path}: line {} is damaged", i + 1))?;
@@ -147,6 +147,12 @@ fn timetable(text: &str) -> Option<Vec<u8>> {
         list.resize(length, level.parse().ok()?);
     }
     Some(list)
+}
+
+/// A page as it stands in the file: whole lines, each with a bar for its line feed.
+fn page(text: &str) -> Option<Vec<u8>> {
+    let is_whole = text.ends_with('|');
+    is_whole.then(|| text.replace('|', "\n").into_bytes())
 }
 
 /// Records as they stand in the file.

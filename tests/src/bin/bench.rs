@@ -65,12 +65,7 @@ fn measure_session(title: &str, bytes: Vec<u8>, rounds: usize) -> Result<(), Str
             PAGE | PAGE_APART => Outcome::paged(shown.clone(), page.clone().into_bytes()),
             _ => Outcome::finished(shown.clone()),
         };
-        for library in [&Compiled as &dyn Library, &Reference, &Tuned] {
-            let mut lent = Buffers::cleared();
-            let number = entry(library, &case, &mut lent);
-            let compared = lent.outcome(number).compare(&expected);
-            compared.map_err(|message| format!("{name}: {message}"))?;
-        }
+        all_agree(entry, &case, &expected).map_err(|message| format!("{name}: {message}"))?;
         let ours = |calls| time(entry, &Compiled, &case, calls);
         let reference = measure(ours, |calls| time(entry, &Reference, &case, calls), rounds);
         let tuned = measure(ours, |calls| time(entry, &Tuned, &case, calls), rounds);
@@ -81,6 +76,16 @@ fn measure_session(title: &str, bytes: Vec<u8>, rounds: usize) -> Result<(), Str
     }
     println!();
     measure_page(&case, rounds);
+    Ok(())
+}
+
+/// What is measured does what it should.
+fn all_agree(entry: Entry, case: &Case, expected: &Outcome) -> Result<(), String> {
+    for library in [&Compiled as &dyn Library, &Reference, &Tuned] {
+        let mut lent = Buffers::cleared();
+        let number = entry(library, case, &mut lent);
+        lent.outcome(number).compare(expected)?;
+    }
     Ok(())
 }
 
