@@ -2,10 +2,10 @@
 //! broken rule and each limit occurred.
 
 use crate::clearances;
-use crate::limits::{PLACE_AND_COUNT_LENGTH, RESULT_LENGTH, WORK_LENGTH};
-use crate::request::{Outcome, Request, Run};
+use crate::limits::*;
+use crate::request::{Lengths, Outcome, Request, Run};
 use crate::sessions::rules::Rule;
-use crate::tally::Totals;
+use crate::tally::{Totals, PAGES};
 use std::collections::BTreeMap;
 
 const CHECK: &str = "check, answer";
@@ -16,9 +16,26 @@ const WORK: &str = "work slice, length";
 const RESULT: &str = "result buffer, length";
 const PLACE_AND_COUNT: &str = "place_and_count, length";
 
+// Those of the run with a page, each of which must occur often.
+const PAGE: &str = "page, answer";
+const PAGE_BUFFER: &str = "page buffer, length";
+const PAGE_RESULT: &str = "page, result buffer, length";
+const PAGE_NUMBERS: &str = "page, place_and_counts, length";
+/// The result buffer is one byte short, and the page's too.
+const PAGE_BOTH_SHORT: &str = "page, both buffers short, answer";
+const OFTEN: [&str; 5] = [
+    PAGE,
+    PAGE_BUFFER,
+    PAGE_RESULT,
+    PAGE_NUMBERS,
+    PAGE_BOTH_SHORT,
+];
+
 pub struct Counts {
     /// Calls by a number of theirs.
     calls: BTreeMap<(&'static str, usize), u64>,
+    /// How many of them there ought to be.
+    least: BTreeMap<(&'static str, usize), u64>,
     clearances: BTreeMap<&'static str, u64>,
     /// Question and name of each rule, and sessions that break it.
     rules: Vec<(u32, String, u64)>,
@@ -37,14 +54,30 @@ impl Counts {
             (WORK, (WORK_LENGTH - 1..=WORK_LENGTH + 1).collect()),
             (RESULT, (RESULT_LENGTH - 1..=RESULT_LENGTH + 1).collect()),
             (PLACE_AND_COUNT, (0..=PLACE_AND_COUNT_LENGTH + 1).collect()),
+            (PAGE, (0..=9).chain([11, 16]).collect()),
+            (
+                PAGE_BUFFER,
+                vec![0, PAGE_LENGTH - 1, PAGE_LENGTH, PAGE_LENGTH + 1],
+            ),
+            (
+                PAGE_RESULT,
+                (RESULT_LENGTH - 1..=RESULT_LENGTH + 1).collect(),
+            ),
+            (PAGE_NUMBERS, (0..=PLACE_AND_COUNTS_LENGTH + 1).collect()),
+            (PAGE_BOTH_SHORT, vec![11]),
         ];
-        let calls = numbers
-            .into_iter()
-            .flat_map(|(name, numbers)| numbers.into_iter().map(move |number| (name, number)));
+        let least = numbers.into_iter().flat_map(|(name, numbers)| {
+            let times = if OFTEN.contains(&name) { PAGES } else { 1 };
+            numbers
+                .into_iter()
+                .map(move |number| ((name, number), times))
+        });
+        let least: BTreeMap<_, u64> = least.collect();
         let absent = clearances::absent(0, 0);
         let rules = rules.iter();
         Counts {
-            calls: calls.map(|call| (call, 0)).collect(),
+            calls: least.keys().map(|&call| (call, 0)).collect(),
+            least,
             clearances: absent.map(|(name, _)| (name, 0)).into(),
             rules: rules.map(|r| (r.question, r.name.clone(), 0)).collect(),
             limits: Totals::default(),
@@ -57,6 +90,7 @@ impl Counts {
             return self.add_call(CHECK, number);
         };
         let entry = match run {
+            Run::Page => return self.add_page(number, *lengths),
             Run::DepthFirst => DEPTH_FIRST,
             Run::Plain => PLAIN,
             Run::Timetabled(_) => TIMETABLED,
@@ -67,6 +101,16 @@ impl Counts {
         }
         self.add_call(RESULT, lengths.result);
         self.add_call(PLACE_AND_COUNT, lengths.place_and_count);
+    }
+
+    fn add_page(&mut self, number: usize, lengths: Lengths) {
+        self.add_call(PAGE, number);
+        self.add_call(PAGE_BUFFER, lengths.page);
+        self.add_call(PAGE_RESULT, lengths.result);
+        self.add_call(PAGE_NUMBERS, lengths.place_and_count);
+        if (lengths.result, lengths.page) == (RESULT_LENGTH - 1, PAGE_LENGTH - 1) {
+            self.add_call(PAGE_BOTH_SHORT, number);
+        }
     }
 
     fn add_call(&mut self, name: &'static str, number: usize) {
@@ -122,7 +166,10 @@ impl Counts {
 
     /// What ought to have occurred and did too rarely.
     pub fn missing(&self) -> Vec<String> {
-        let calls = self.calls.iter().filter(|(_, &count)| count == 0);
+        let calls = self
+            .least
+            .iter()
+            .filter(|(call, least)| self.calls[call] < **least);
         let clearances = self.clearances.iter().filter(|(_, &count)| count == 0);
         let rules = self.rules.iter().filter(|(.., count)| *count == 0);
         let limits = self.limits.missing();

@@ -1,6 +1,8 @@
 //! The library under test, linked as the static library libexports.a.
 
-use crate::library::Library;
+use crate::library::{Answer, Library};
+use crate::limits::{PAGE_LENGTH, PLACE_AND_COUNT_LENGTH, RESULT_LENGTH};
+use crate::tuned::page;
 
 extern "C" {
     fn lupinpause_check(session: *const u8, length: usize) -> u32;
@@ -123,5 +125,34 @@ impl Library for Compiled {
                 place_and_count.len(),
             )
         }
+    }
+
+    // Stands in for an entry that the library does not have: its depth-first run, and the
+    // tuned variant's page of the records.
+    fn run_page(
+        &self,
+        session: &[u8],
+        clearance: usize,
+        result: &mut [u8],
+        page: &mut [u8],
+        place_and_counts: &mut [u32],
+    ) -> u32 {
+        let mut given = [0; PLACE_AND_COUNT_LENGTH];
+        let answer = if page.len() < PAGE_LENGTH {
+            let mut unused = [0; RESULT_LENGTH];
+            let length = result.len().min(RESULT_LENGTH);
+            match self.run_depth_first(session, clearance, &mut unused[..length], &mut given) {
+                0 => Answer::refused(16, 0),
+                number => Answer::refused(number, 0),
+            }
+        } else {
+            let number = self.run_depth_first(session, clearance, result, &mut given);
+            let count = given[1] as usize;
+            match number {
+                0 => Answer::paged(count, page::write(&result[..count], page)),
+                _ => Answer::refused(number, 0),
+            }
+        };
+        answer.give_with_page(place_and_counts)
     }
 }

@@ -9,6 +9,8 @@ pub struct Answer {
     pub place: usize,
     /// Result bytes written.
     pub count: usize,
+    /// Page bytes written; 0 where the entry has no page.
+    pub page_count: usize,
 }
 
 impl Answer {
@@ -16,15 +18,22 @@ impl Answer {
         Answer {
             number,
             place,
-            count: 0,
+            ..Answer::default()
         }
     }
 
     pub fn finished(count: usize) -> Self {
         Answer {
-            number: 0,
-            place: 0,
             count,
+            ..Answer::default()
+        }
+    }
+
+    /// Of a run with a page.
+    pub fn paged(count: usize, page_count: usize) -> Self {
+        Answer {
+            page_count,
+            ..Answer::finished(count)
         }
     }
 
@@ -37,9 +46,20 @@ impl Answer {
         }
         self.number
     }
+
+    /// Answers as the entry with a page does: the page's count goes there too, if there
+    /// is room for all three.
+    pub fn give_with_page(self, place_and_counts: &mut [u32]) -> u32 {
+        if let [place, count, page_count, ..] = place_and_counts {
+            *place = self.place as u32;
+            *count = self.count as u32;
+            *page_count = self.page_count as u32;
+        }
+        self.number
+    }
 }
 
-/// The four entries.
+/// The five entries.
 pub trait Library {
     fn check(&self, session: &[u8]) -> u32;
 
@@ -68,5 +88,14 @@ pub trait Library {
         clearance: usize,
         result: &mut [u8],
         place_and_count: &mut [u32],
+    ) -> u32;
+
+    fn run_page(
+        &self,
+        session: &[u8],
+        clearance: usize,
+        result: &mut [u8],
+        page: &mut [u8],
+        place_and_counts: &mut [u32],
     ) -> u32;
 }

@@ -1,4 +1,4 @@
-//! The limits that document 01 sets.
+//! The limits that documents 01 and 02 set.
 
 pub const LEVELS_MAX: usize = 8;
 pub const OBJECTS_MAX: usize = 32;
@@ -25,5 +25,15 @@ pub const KEPT_MAX: usize = 32;
 pub const WORK_LENGTH: usize = 8192;
 /// Bytes of the result buffer that a run asks for.
 pub const RESULT_LENGTH: usize = 4624;
+/// Bytes of a page's line: 27 columns and a line feed.
+pub const PAGE_LINE: usize = 28;
+/// Bytes of the page buffer that a run with a page asks for.
+pub const PAGE_LENGTH: usize = 7196;
+/// The most managers of a session: the root, its 15 forks at the one level next
+/// above it, and 32 at each of six further levels.
+pub const MANAGERS_MAX: usize = 1 + FORKS_MAX as usize + 6 * KEPT_MAX;
 /// Numbers of `place_and_count` that a run asks for: place and count.
 pub const PLACE_AND_COUNT_LENGTH: usize = 2;
+/// Numbers of `place_and_counts` that a run with a page asks for: place, count and
+/// count of page bytes.
+pub const PLACE_AND_COUNTS_LENGTH: usize = 3;

@@ -1,12 +1,14 @@
-//! What is measured: four sessions and the four entries, the timetabled run with
-//! two lists.
+//! What is measured: four sessions and the five entries, the timetabled run with
+//! two lists, the page also by a formatter apart.
 
 use crate::library::{Answer, Library};
-use crate::limits::{PLACE_AND_COUNT_LENGTH, RESULT_LENGTH, WORK_LENGTH};
+use crate::limits::{PAGE_LENGTH, PLACE_AND_COUNTS_LENGTH, RESULT_LENGTH, WORK_LENGTH};
 use crate::random::Random;
 use crate::reference::Session;
+use crate::request::Outcome;
 use crate::sessions::Fixed;
 use crate::tally::Tally;
+use crate::tuned::page;
 use crate::{sessions, timetables};
 
 /// The sessions, each by an argument's name and a title.
@@ -20,16 +22,25 @@ pub const SESSIONS: [(&str, &str, Fixed); 4] = [
 pub type Entry = fn(&dyn Library, &Case, &mut Buffers) -> u32;
 
 /// The entries by name.
-pub const ENTRIES: [(&str, Entry); 5] = [
+pub const ENTRIES: [(&str, Entry); 7] = [
     (CHECK, check),
     ("plain", plain),
     ("timetabled", timetabled),
     ("timetabled-early", timetabled_early),
     ("depth-first", depth_first),
+    (PAGE, paged),
+    (PAGE_APART, paged_apart),
 ];
 
 /// The entry without result.
 pub const CHECK: &str = "check";
+
+/// The entry with a page.
+pub const PAGE: &str = "page";
+
+/// The depth-first run, and then the tuned variant's page of the records that it
+/// wrote.
+pub const PAGE_APART: &str = "page-apart";
 
 /// A session, two finishing lists and the clearance of its top level.
 pub struct Case {
@@ -59,7 +70,8 @@ impl Case {
 pub struct Buffers {
     work: Vec<u32>,
     result: Vec<u8>,
-    place_and_count: [u32; PLACE_AND_COUNT_LENGTH],
+    page: Vec<u8>,
+    place_and_count: [u32; PLACE_AND_COUNTS_LENGTH],
 }
 
 impl Buffers {
@@ -67,19 +79,24 @@ impl Buffers {
         Buffers {
             work: vec![0; WORK_LENGTH],
             result: vec![0; RESULT_LENGTH],
-            place_and_count: [0; PLACE_AND_COUNT_LENGTH],
+            page: vec![0; PAGE_LENGTH],
+            place_and_count: [0; PLACE_AND_COUNTS_LENGTH],
         }
     }
 
-    /// The answer of a call that gave this number, and the result.
-    pub fn answer(&self, number: u32) -> (Answer, &[u8]) {
-        let [place, count] = self.place_and_count.map(|number| number as usize);
-        let answer = Answer {
-            number,
-            place,
-            count,
-        };
-        (answer, &self.result[..count])
+    /// What a call that gave this number did.
+    pub fn outcome(&self, number: u32) -> Outcome {
+        let [place, count, page_count] = self.place_and_count.map(|number| number as usize);
+        Outcome {
+            answer: Answer {
+                number,
+                place,
+                count,
+                page_count,
+            },
+            written: self.result[..count].to_vec(),
+            page: self.page[..page_count].to_vec(),
+        }
     }
 }
 
@@ -123,4 +140,22 @@ fn depth_first(library: &dyn Library, case: &Case, lent: &mut Buffers) -> u32 {
         &mut lent.result,
         &mut lent.place_and_count,
     )
+}
+
+fn paged(library: &dyn Library, case: &Case, lent: &mut Buffers) -> u32 {
+    library.run_page(
+        &case.session,
+        case.clearance,
+        &mut lent.result,
+        &mut lent.page,
+        &mut lent.place_and_count,
+    )
+}
+
+fn paged_apart(library: &dyn Library, case: &Case, lent: &mut Buffers) -> u32 {
+    let number = depth_first(library, case, lent);
+    let [_, count, page_count] = &mut lent.place_and_count;
+    let result = &lent.result[..*count as usize];
+    *page_count = page::write(result, &mut lent.page) as u32;
+    number
 }

@@ -2,21 +2,42 @@
 
 use crate::guarded::Guarded;
 use crate::library::{Answer, Library};
-use crate::limits::{PLACE_AND_COUNT_LENGTH, RESULT_LENGTH, WORK_LENGTH};
+use crate::limits::*;
 
 #[derive(Clone, Debug)]
 pub enum Run {
     DepthFirst,
+    /// The depth-first run with a page.
+    Page,
     Plain,
     Timetabled(Vec<u8>),
 }
 
-/// The lengths of what a run is lent to write to. The depth-first run has no
-/// work slice.
+impl Run {
+    fn has_work(&self) -> bool {
+        matches!(self, Run::Plain | Run::Timetabled(_))
+    }
+
+    fn has_page(&self) -> bool {
+        matches!(self, Run::Page)
+    }
+
+    /// Numbers of `place_and_count` that the run asks for.
+    pub fn numbers(&self) -> usize {
+        match self {
+            Run::Page => PLACE_AND_COUNTS_LENGTH,
+            _ => PLACE_AND_COUNT_LENGTH,
+        }
+    }
+}
+
+/// The lengths of what a run is lent to write to. Only scheduled runs have a work
+/// slice, and only one run a page; its `place_and_counts` has a number more.
 #[derive(Clone, Copy, Debug)]
 pub struct Lengths {
     pub work: usize,
     pub result: usize,
+    pub page: usize,
     pub place_and_count: usize,
 }
 
@@ -24,7 +45,8 @@ impl Lengths {
     pub const ENOUGH: Lengths = Lengths {
         work: WORK_LENGTH,
         result: RESULT_LENGTH,
-        place_and_count: PLACE_AND_COUNT_LENGTH,
+        page: PAGE_LENGTH,
+        place_and_count: PLACE_AND_COUNTS_LENGTH,
     };
 }
 
@@ -41,19 +63,24 @@ pub enum Request {
 impl Request {
     /// A run with just the room that it asks for.
     pub fn run(run: Run, clearance: usize) -> Self {
+        let lengths = Lengths {
+            place_and_count: run.numbers(),
+            ..Lengths::ENOUGH
+        };
         Request::Run {
             run,
             clearance,
-            lengths: Lengths::ENOUGH,
+            lengths,
         }
     }
 }
 
-/// An answer and the result bytes written.
+/// An answer, the result bytes written and the page bytes written.
 #[derive(Clone, Debug, PartialEq, Eq)]
 pub struct Outcome {
     pub answer: Answer,
     pub written: Vec<u8>,
+    pub page: Vec<u8>,
 }
 
 impl Outcome {
@@ -61,6 +88,7 @@ impl Outcome {
         Outcome {
             answer,
             written: Vec::new(),
+            page: Vec::new(),
         }
     }
 
@@ -68,16 +96,29 @@ impl Outcome {
         Outcome {
             answer: Answer::finished(written.len()),
             written,
+            page: Vec::new(),
         }
     }
 
-    /// Equal answers, and results that are equal byte by byte.
+    pub fn paged(written: Vec<u8>, page: Vec<u8>) -> Self {
+        Outcome {
+            answer: Answer::paged(written.len(), page.len()),
+            written,
+            page,
+        }
+    }
+
+    /// Equal answers, and results and pages that are equal byte by byte.
     pub fn compare(&self, expected: &Outcome) -> Result<(), String> {
         if self.answer != expected.answer {
             return Err(format!("{:?}, expected {:?}", self.answer, expected.answer));
         }
         if self.written != expected.written {
             return Err("results are not equal to the reader".to_string());
+        }
+        if self.page != expected.page {
+            let [page, expected] = [&self.page, &expected.page].map(|page| page.escape_ascii());
+            return Err(format!("page {page}, expected {expected}"));
         }
         Ok(())
     }
@@ -126,7 +167,7 @@ fn perform_run(
 ) -> Result<Outcome, String> {
     let list: &[u8] = match run {
         Run::Timetabled(list) => list,
-        Run::DepthFirst | Run::Plain => &[],
+        Run::DepthFirst | Run::Page | Run::Plain => &[],
     };
     let mut list = Guarded::new(list, fill.bytes, fill.guard);
     let mut call = |lent: &mut Lent| {
@@ -135,106 +176,123 @@ fn perform_run(
             lent.result.slice(),
             lent.place_and_count.slice(),
         );
-        match (run, &mut lent.work) {
-            (Run::Timetabled(_), Some(work)) => {
-                let (list, work) = (list.slice(), work.slice());
+        let (work, page) = (lent.work.slice(), lent.page.slice());
+        match run {
+            Run::Timetabled(_) => {
+                let list = list.slice();
                 library.run_timetable(session, list, clearance, work, result, place_and_count)
             }
-            (Run::Plain, Some(work)) => {
-                library.run_plain(session, clearance, work.slice(), result, place_and_count)
-            }
-            _ => library.run_depth_first(session, clearance, result, place_and_count),
+            Run::Plain => library.run_plain(session, clearance, work, result, place_and_count),
+            Run::DepthFirst => library.run_depth_first(session, clearance, result, place_and_count),
+            Run::Page => library.run_page(session, clearance, result, page, place_and_count),
         }
     };
-    let work_length = match run {
-        Run::DepthFirst => None,
-        Run::Plain | Run::Timetabled(_) => Some(lengths.work),
-    };
-    let outcome = lend(work_length, lengths, fill, &mut call);
+    let outcome = lend(run, lengths, fill, &mut call);
     demand(list.is_kept_but(0), "the timetable changed").and(outcome)
 }
 
-/// What a run may write to.
+/// What a run may write to. Work slice and page are empty where it has none.
 struct Lent<'a> {
-    work: Option<Guarded<'a, u32>>,
+    work: Guarded<'a, u32>,
     result: Guarded<'a, u8>,
+    page: Guarded<'a, u8>,
     place_and_count: Guarded<'a, u32>,
+}
+
+impl<'a> Lent<'a> {
+    fn new(run: &Run, lengths: Lengths, fill: Fill<'a>) -> Self {
+        let work = if run.has_work() { lengths.work } else { 0 };
+        let page = if run.has_page() { lengths.page } else { 0 };
+        let bytes = |length: usize| Guarded::new(&fill.bytes[..length], fill.bytes, fill.guard);
+        Lent {
+            work: Guarded::new(&fill.words[..work], fill.words, fill.guard),
+            result: bytes(lengths.result),
+            page: bytes(page),
+            place_and_count: Guarded::new(
+                &fill.place_and_count[..lengths.place_and_count],
+                fill.place_and_count,
+                fill.guard,
+            ),
+        }
+    }
 }
 
 /// Makes a run and looks at what it wrote.
 fn lend(
-    work_length: Option<usize>,
+    run: &Run,
     lengths: Lengths,
     fill: Fill,
     call: &mut dyn FnMut(&mut Lent) -> u32,
 ) -> Result<Outcome, String> {
-    let words = |length: usize| Guarded::new(&fill.words[..length], fill.words, fill.guard);
-    let mut lent = Lent {
-        work: work_length.map(words),
-        result: Guarded::new(&fill.bytes[..lengths.result], fill.bytes, fill.guard),
-        place_and_count: Guarded::new(
-            &fill.place_and_count[..lengths.place_and_count],
-            fill.place_and_count,
-            fill.guard,
-        ),
-    };
+    let mut lent = Lent::new(run, lengths, fill);
     let number = call(&mut lent);
-    let answer = if lengths.place_and_count < PLACE_AND_COUNT_LENGTH {
+    let numbers = run.numbers();
+    let answer = if lengths.place_and_count < numbers {
         demand(
             lent.place_and_count.is_kept_but(0),
             "place_and_count is too short and changed",
         )?;
         // Only a call with more room tells place and count.
         let enough = Lengths {
-            place_and_count: PLACE_AND_COUNT_LENGTH,
+            place_and_count: numbers,
             ..lengths
         };
-        let more = lend(work_length, enough, fill, call)?;
+        let more = lend(run, enough, fill, call)?;
         demand(
             more.answer.number == number,
             "the length of place_and_count matters",
         )?;
         more.answer
     } else {
-        demand(
-            lent.place_and_count.is_kept_but(PLACE_AND_COUNT_LENGTH),
-            "place_and_count changed beyond place and count",
-        )?;
-        let place_and_count = lent.place_and_count.first(PLACE_AND_COUNT_LENGTH);
-        Answer {
-            number,
-            place: place_and_count[0] as usize,
-            count: place_and_count[1] as usize,
-        }
+        given(&lent.place_and_count, number, numbers)?
     };
-    look_at_buffers(&lent, &answer)?;
+    look_at_buffers(run, &lent, &answer)?;
     Ok(Outcome {
         answer,
         written: lent.result.first(answer.count).to_vec(),
+        page: lent.page.first(answer.page_count).to_vec(),
+    })
+}
+
+/// The answer with what `place_and_count`, which has room, tells of it.
+fn given(place_and_count: &Guarded<u32>, number: u32, numbers: usize) -> Result<Answer, String> {
+    demand(
+        place_and_count.is_kept_but(numbers),
+        "place_and_count changed beyond place and counts",
+    )?;
+    let given = place_and_count.first(numbers);
+    Ok(Answer {
+        number,
+        place: given[0] as usize,
+        count: given[1] as usize,
+        page_count: given.get(2).map_or(0, |&count| count as usize),
     })
 }
 
 /// Nothing changed but what the answer says.
-fn look_at_buffers(lent: &Lent, answer: &Answer) -> Result<(), String> {
-    let count = answer.count;
-    demand(
-        count <= lent.result.length(),
-        "more bytes than the result buffer has",
-    )?;
-    demand(
-        answer.number == 0 || count == 0,
-        "a refused run has a count",
-    )?;
-    demand(
-        lent.result.is_kept_but(count),
-        "bytes not of the result changed",
-    )?;
-    let Some(work) = &lent.work else {
-        return Ok(());
-    };
+fn look_at_buffers(run: &Run, lent: &Lent, answer: &Answer) -> Result<(), String> {
+    for (bytes, count, name) in [
+        (&lent.result, answer.count, "result"),
+        (&lent.page, answer.page_count, "page"),
+    ] {
+        demand(
+            count <= bytes.length(),
+            &format!("more bytes than the {name} buffer has"),
+        )?;
+        demand(
+            answer.number == 0 || count == 0,
+            &format!("a refused run has a count of {name} bytes"),
+        )?;
+        demand(
+            bytes.is_kept_but(count),
+            &format!("bytes not of the {name} changed"),
+        )?;
+    }
     // Up to question 11 the work slice is not touched.
     let has_run = answer.number == 0 || answer.number > 11;
-    let cleared = if has_run { WORK_LENGTH } else { 0 };
+    let is_cleared = run.has_work() && has_run;
+    let cleared = if is_cleared { WORK_LENGTH } else { 0 };
+    let work = &lent.work;
     demand(
         cleared <= work.length(),
         "a run with too short a work slice",

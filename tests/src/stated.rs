@@ -1,10 +1,10 @@
 //! The cases M1 to M12 that document 01 states with their answers, M5's as
-//! document 02 changes it, and two with more than 65,536 bytes.
+//! document 02 changes it, two with more than 65,536 bytes, and pages.
 
 use crate::library::Answer;
 use crate::limits::*;
 use crate::record::{self, History, Operation, Record};
-use crate::request::{Outcome, Request, Run};
+use crate::request::{Lengths, Outcome, Request, Run};
 use crate::sessions::{example_w, Draft};
 use crate::vectors::{bytes, Vector};
 
@@ -13,7 +13,27 @@ const M1: &str = "05000001090000000000000000000000 \
                   06000001000000000100020005000000 \
                   07000001090000000000000000000000";
 
+/// The pages of session W for clearances 0 and 1.
+const W_0: &str = "\
+00000000 0 0  1   1   2   5
+TOTAL                     5
+";
+const W_1: &str = "\
+00000000 0 0  1   1   2   5
+10000000 1 0  2   1   1   5
+TOTAL                    10
+";
+
+/// The page of a clearance that is shown no history.
+const NO_HISTORY: &str = "TOTAL                     0\n";
+
 pub fn cases() -> Vec<(&'static str, Vector)> {
+    let mut cases = stated_cases();
+    cases.extend(pages());
+    cases
+}
+
+fn stated_cases() -> Vec<(&'static str, Vector)> {
     let m1 = bytes(M1).expect("M1 is in hexadecimal");
     let m3 = [vec![0; 6], vec![1; 6]].concat();
     let m6 = [&m3[..], &[0]].concat();
@@ -56,6 +76,35 @@ pub fn cases() -> Vec<(&'static str, Vector)> {
     ]
 }
 
+/// Session W's page, and what is refused of it.
+fn pages() -> Vec<(&'static str, Vector)> {
+    let m1 = bytes(M1).expect("M1 is in hexadecimal");
+    let [result, page] = [RESULT_LENGTH, PAGE_LENGTH];
+    let w = |clearance, result, page, expected| {
+        vector(example_w(), paged(clearance, result, page), expected)
+    };
+    // The root's manager is at the upper level.
+    let mut above = draft(&[0x01, 0x03]);
+    above.root_object = 1;
+    let hidden = shown(0, 0, [None; FIELDS]).to_vec();
+    vec![
+        ("page, clearance 0", w(0, result, page, printed(m1, W_0))),
+        ("page, clearance 1", w(1, result, page, printed(m2(), W_1))),
+        ("page too short", w(0, result, page - 1, refused(16, 0))),
+        ("no page", w(1, result, 0, refused(16, 0))),
+        ("both short", w(0, result - 1, page - 1, refused(11, 0))),
+        ("no level", w(2, result, page - 1, refused(9, 0))),
+        (
+            "page of no history",
+            vector(
+                above.bytes(),
+                paged(0, result, page),
+                printed(hidden, NO_HISTORY),
+            ),
+        ),
+    ]
+}
+
 fn vector(session: Vec<u8>, request: Request, expected: Outcome) -> Vector {
     Vector {
         session,
@@ -68,6 +117,10 @@ fn finished(shown: Vec<u8>) -> Outcome {
     Outcome::finished(shown)
 }
 
+fn printed(shown: Vec<u8>, page: &str) -> Outcome {
+    Outcome::paged(shown, page.as_bytes().to_vec())
+}
+
 fn refused(number: u32, place: usize) -> Outcome {
     Outcome::refused(Answer::refused(number, place))
 }
@@ -78,6 +131,19 @@ fn plain(clearance: usize) -> Request {
 
 fn depth_first(clearance: usize) -> Request {
     Request::run(Run::DepthFirst, clearance)
+}
+
+fn paged(clearance: usize, result: usize, page: usize) -> Request {
+    let lengths = Lengths {
+        result,
+        page,
+        ..Lengths::ENOUGH
+    };
+    Request::Run {
+        run: Run::Page,
+        clearance,
+        lengths,
+    }
 }
 
 fn timetable(list: &[u8], clearance: usize) -> Request {

@@ -65,6 +65,15 @@ events! {
     AboveDropped "step above a level that dropped a fork of smaller stamp",
     HeldBack "timetable that question 14 refuses",
     HeldBackByWaiting "timetable that question 14 refuses for waiting managers alone",
+    PageOfNone "page without a history",
+    PageOfMost "page of as many histories as a session can have",
+    PageLetters "page with a letter in a stamp",
+    PageWrites "page with writes of two digits",
+    PageFirst "page with a first stamp of three digits",
+    PageLast "page with a last stamp of three digits",
+    PageSteps "page with steps of three digits",
+    PageTotal "page with a total of five digits",
+    PageHidden "page whose total leaves out steps not shown",
     NilOfFork "NIL seen in place of a number sent to a fork",
     NilOfSixteenth "NIL seen in place of a number sent to a 16th fork",
     NilOfInside "NIL seen in place of a number sent upward inside a manager",
@@ -74,8 +83,22 @@ events! {
 }
 
 /// What document 02 changes must occur in many sessions, all else in one.
-const FREQUENT: [Event; 2] = [Event::EarlyFinished, Event::HeldBack];
-const MANY: u64 = 1_000;
+const FREQUENT: [(Event, u64); 11] = [
+    (Event::EarlyFinished, 1_000),
+    (Event::HeldBack, 1_000),
+    (Event::PageOfNone, PAGES),
+    (Event::PageOfMost, PAGES),
+    (Event::PageLetters, PAGES),
+    (Event::PageWrites, PAGES),
+    (Event::PageFirst, PAGES),
+    (Event::PageLast, PAGES),
+    (Event::PageSteps, PAGES),
+    (Event::PageTotal, PAGES),
+    (Event::PageHidden, PAGES),
+];
+
+/// How often whatever concerns the page must occur.
+pub const PAGES: u64 = 200;
 
 /// How often each event occurred.
 #[derive(Clone)]
@@ -147,8 +170,8 @@ impl Totals {
     /// The names of the events that occurred in too few sessions.
     pub fn missing(&self) -> Vec<&'static str> {
         let mut least = vec![1; NAMES.len()];
-        for event in FREQUENT {
-            least[event as usize] = MANY;
+        for (event, times) in FREQUENT {
+            least[event as usize] = times;
         }
         let counts = self.sessions.counts.iter().zip(least).zip(NAMES);
         counts

@@ -4,19 +4,21 @@
 //!
 //!     session RECORDS
 //!     shows RECORDS
+//!     prints PAGE
 //!     check NUMBER PLACE
 //!     timetable CLEARANCE WORK RESULT LIST NUMBER PLACE COUNT
 //!     plain CLEARANCE WORK RESULT NUMBER PLACE COUNT
 //!     depth CLEARANCE RESULT NUMBER PLACE COUNT
+//!     page CLEARANCE RESULT LENGTH NUMBER PLACE COUNT PAGECOUNT
 //!
 //! RECORDS are in hexadecimal with a blank between, without the zero bytes at a
 //! record's end; a rest that is no whole record has a plus sign before it, and
 //! nothing at all is a minus sign. `shows` has the result of the runs below it
-//! that are not refused. WORK and RESULT are the lengths of the lent buffers.
+//! that are not refused, `prints` the page of those with a page, a bar for each line
+//! feed. WORK, RESULT and LENGTH, of the page, are the lengths of the lent buffers.
 //! LIST has levels with a comma between, 7x3 being three times 7.
 
 use crate::library::Answer;
-use crate::limits::PLACE_AND_COUNT_LENGTH;
 use crate::request::{Lengths, Outcome, Request, Run};
 use std::fs;
 
@@ -44,19 +46,21 @@ fn read_file(name: &str, vectors: &mut Vec<Vector>) -> Result<(), String> {
     let text = fs::read_to_string(&path).map_err(|error| format!("{path}: {error}"))?;
     let mut session = Vec::new();
     let mut shown = Vec::new();
+    let mut printed = Vec::new();
     for (i, line) in text.lines().enumerate() {
         let (first, rest) = line.split_once(' ').unwrap_or((line, ""));
         let parsed = match first {
             "session" => bytes(rest).map(|bytes| session = bytes),
             "shows" => bytes(rest).map(|bytes| shown = bytes),
-            _ => call(first, rest, &session, &shown).map(|vector| vectors.push(vector)),
+            "prints" => page(rest).map(|bytes| printed = bytes),
+            _ => call(first, rest, &session, [&shown, &printed]).map(|vector| vectors.push(vector)),
         };
         parsed.ok_or_else(|| format!("{path}: line {} is damaged", i + 1))?;
     }
     Ok(())
 }
 
-fn call(kind: &str, rest: &str, session: &[u8], shown: &[u8]) -> Option<Vector> {
+fn call(kind: &str, rest: &str, session: &[u8], [shown, printed]: [&[u8]; 2]) -> Option<Vector> {
     let mut words: Vec<&str> = rest.split(' ').collect();
     let list = if kind == "timetable" {
         timetable(words.remove(3))?
@@ -67,55 +71,69 @@ fn call(kind: &str, rest: &str, session: &[u8], shown: &[u8]) -> Option<Vector> 
         .iter()
         .map(|word| word.parse().ok())
         .collect::<Option<_>>()?;
-    let (request, [number, place, count]) = request(kind, list, &numbers)?;
-    let answer = Answer {
-        number: number as u32,
-        place,
-        count,
-    };
-    let is_finished = number == 0 && !matches!(request, Request::Check);
+    let (request, answer) = request(kind, list, &numbers)?;
+    // A call that writes nothing to a buffer has a count of 0 of it.
+    let [written, page] = [(answer.count, shown), (answer.page_count, printed)]
+        .map(|(count, bytes)| if count == 0 { &[] } else { bytes }.to_vec());
     Some(Vector {
         session: session.to_vec(),
         request,
         expected: Outcome {
             answer,
-            written: if is_finished {
-                shown.to_vec()
-            } else {
-                Vec::new()
-            },
+            written,
+            page,
         },
     })
 }
 
-fn request(kind: &str, timetable: Vec<u8>, numbers: &[usize]) -> Option<(Request, [usize; 3])> {
-    let (run, clearance, [work, result], answer) = match (kind, numbers) {
-        ("check", &[number, place]) => return Some((Request::Check, [number, place, 0])),
-        ("timetable", &[clearance, work, result, ref answer @ ..]) => (
-            Run::Timetabled(timetable),
-            clearance,
-            [work, result],
-            answer,
-        ),
+fn request(kind: &str, timetable: Vec<u8>, numbers: &[usize]) -> Option<(Request, Answer)> {
+    let (run, clearance, [work, result, page], answer) = match (kind, numbers) {
+        ("check", answer @ &[_, _]) => return Some((Request::Check, answer_of(answer)?)),
+        ("timetable", &[clearance, work, result, ref answer @ ..]) => {
+            let run = Run::Timetabled(timetable);
+            (run, clearance, [work, result, 0], answer)
+        }
         ("plain", &[clearance, work, result, ref answer @ ..]) => {
-            (Run::Plain, clearance, [work, result], answer)
+            (Run::Plain, clearance, [work, result, 0], answer)
         }
         ("depth", &[clearance, result, ref answer @ ..]) => {
-            (Run::DepthFirst, clearance, [0, result], answer)
+            (Run::DepthFirst, clearance, [0, result, 0], answer)
+        }
+        ("page", &[clearance, result, page, ref answer @ ..]) => {
+            (Run::Page, clearance, [0, result, page], answer)
         }
         _ => return None,
     };
     let lengths = Lengths {
         work,
         result,
-        place_and_count: PLACE_AND_COUNT_LENGTH,
+        page,
+        place_and_count: run.numbers(),
     };
+    // Place and count, and a page's count.
+    if answer.len() != 1 + run.numbers() {
+        return None;
+    }
     let request = Request::Run {
         run,
         clearance,
         lengths,
     };
-    Some((request, answer.try_into().ok()?))
+    Some((request, answer_of(answer)?))
+}
+
+/// Number, place and the counts that there are.
+fn answer_of(numbers: &[usize]) -> Option<Answer> {
+    let &[number, place, ref counts @ ..] = numbers else {
+        return None;
+    };
+    let count = |k: usize| counts.get(k).copied().unwrap_or(0);
+    Some(Answer {
+        number: number as u32,
+        place,
+        count: count(0),
+        page_count: count(1),
+    })
 }
 
 fn timetable(text: &str) -> Option<Vec<u8>> {
@@ -129,6 +147,12 @@ fn timetable(text: &str) -> Option<Vec<u8>> {
         list.resize(length, level.parse().ok()?);
     }
     Some(list)
+}
+
+/// A page as it stands in the file: whole lines, each with a bar for its line feed.
+fn page(text: &str) -> Option<Vec<u8>> {
+    let is_whole = text.ends_with('|');
+    is_whole.then(|| text.replace('|', "\n").into_bytes())
 }
 
 /// Records as they stand in the file.

@@ -1,13 +1,18 @@
 //! Measures the library next to the reference and next to the tuned variant, in
 //! rounds that alternate between the two: check, plain, timetabled and depth-first
-//! run of session W, of a typical one and of largest ones, the timetabled run also
-//! by a list in which upper levels step as early as they may. Prints a table.
+//! run, and page, of session W, of a typical one and of largest ones, the timetabled
+//! run also by a list in which upper levels step as early as they may. The page entry
+//! is measured next to the library's depth-first run with a page by the tuned variant
+//! too. Prints tables.
 //! Argument: number of rounds (201).
 
 use lupinpause_tests::ffi::Compiled;
-use lupinpause_tests::library::{Answer, Library};
-use lupinpause_tests::measured::{Buffers, Case, Entry, CHECK, ENTRIES, SESSIONS};
+use lupinpause_tests::library::Library;
+use lupinpause_tests::measured::{
+    Buffers, Case, Entry, CHECK, ENTRIES, PAGE, PAGE_APART, SESSIONS,
+};
 use lupinpause_tests::reference::{self, Reference, Session};
+use lupinpause_tests::request::Outcome;
 use lupinpause_tests::tally::Tally;
 use lupinpause_tests::tuned::Tuned;
 use std::{env, hint::black_box, process::ExitCode, time::Instant};
@@ -43,6 +48,7 @@ fn measure_session(title: &str, bytes: Vec<u8>, rounds: usize) -> Result<(), Str
     let outcome = reference::plain(&session, &mut Tally::idle());
     let case = Case::new(bytes);
     let shown = outcome.shown(&session, case.clearance);
+    let page = reference::page(&outcome, &session, case.clearance);
     println!(
         "{title}: {} records, {} managers, {} script steps, {} scheduler steps",
         case.session.len() / 16,
@@ -54,27 +60,52 @@ fn measure_session(title: &str, bytes: Vec<u8>, rounds: usize) -> Result<(), Str
     println!("| entry | library, ns | reference, ns | ratio | tuned variant, ns | ratio |");
     println!("|---|---|---|---|---|---|");
     for (name, entry) in ENTRIES {
-        let expected = if name == CHECK { &[] } else { &shown[..] };
-        for library in [&Compiled as &dyn Library, &Reference, &Tuned] {
-            let mut lent = Buffers::cleared();
-            let number = entry(library, &case, &mut lent);
-            let (answer, written) = lent.answer(number);
-            if answer != Answer::finished(expected.len()) {
-                return Err(format!("{name}: {answer:?}"));
-            }
-            if written != expected {
-                return Err(format!("{name}: another result"));
-            }
-        }
-        let reference = measure(entry, &Reference, &case, rounds);
-        let tuned = measure(entry, &Tuned, &case, rounds);
+        let expected = match name {
+            CHECK => Outcome::finished(Vec::new()),
+            PAGE | PAGE_APART => Outcome::paged(shown.clone(), page.clone().into_bytes()),
+            _ => Outcome::finished(shown.clone()),
+        };
+        all_agree(entry, &case, &expected).map_err(|message| format!("{name}: {message}"))?;
+        let ours = |calls| time(entry, &Compiled, &case, calls);
+        let reference = measure(ours, |calls| time(entry, &Reference, &case, calls), rounds);
+        let tuned = measure(ours, |calls| time(entry, &Tuned, &case, calls), rounds);
         println!(
             "| {name} | {:.0} | {:.0} | {} | {:.0} | {} |",
             tuned.library, reference.other, reference.ratio, tuned.other, tuned.ratio,
         );
     }
     println!();
+    measure_page(&case, rounds);
     Ok(())
+}
+
+/// What is measured does what it should.
+fn all_agree(entry: Entry, case: &Case, expected: &Outcome) -> Result<(), String> {
+    for library in [&Compiled as &dyn Library, &Reference, &Tuned] {
+        let mut lent = Buffers::cleared();
+        let number = entry(library, case, &mut lent);
+        lent.outcome(number).compare(expected)?;
+    }
+    Ok(())
+}
+
+/// The page entry next to the library's depth-first run with a page by the tuned
+/// variant.
+fn measure_page(case: &Case, rounds: usize) {
+    let [page, apart] = [PAGE, PAGE_APART].map(|wanted| {
+        let found = ENTRIES.iter().find(|(name, _)| *name == wanted);
+        found.expect("both are entries").1
+    });
+    let measured = measure(
+        |calls| time(page, &Compiled, case, calls),
+        |calls| time(apart, &Compiled, case, calls),
+        rounds,
+    );
+    println!(
+        "{PAGE}: {:.0} ns, {PAGE_APART}: {:.0} ns, both by the library: {}",
+        measured.library, measured.other, measured.ratio,
+    );
+    println!();
 }
 
 /// Median nanoseconds of a call, the library's and the other's, and their ratio.
@@ -84,9 +115,7 @@ struct Measured {
     ratio: String,
 }
 
-fn measure(entry: Entry, other: &dyn Library, case: &Case, rounds: usize) -> Measured {
-    let library = |calls| time(entry, &Compiled, case, calls);
-    let compared = |calls| time(entry, other, case, calls);
+fn measure(library: impl Fn(u32) -> f64, compared: impl Fn(u32) -> f64, rounds: usize) -> Measured {
     // Also warms up.
     let slower = library(3).max(compared(3));
     let calls = (NANOSECONDS / slower).ceil() as u32;

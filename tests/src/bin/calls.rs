@@ -1,6 +1,6 @@
 //! Makes calls of one entry, and nothing else: for counting instructions.
 //! Arguments: library, reference or tuned; check, plain, timetabled,
-//! timetabled-early or depth-first; w, typical, forks or steps; number of calls.
+//! timetabled-early, depth-first, page or page-apart; w, typical, forks or steps; number of calls.
 
 use lupinpause_tests::ffi::Compiled;
 use lupinpause_tests::library::Library;
@@ -16,7 +16,7 @@ fn main() -> ExitCode {
         None => {
             eprintln!(
                 "library|reference|tuned \
-                 check|plain|timetabled|timetabled-early|depth-first \
+                 check|plain|timetabled|timetabled-early|depth-first|page|page-apart \
                  w|typical|forks|steps CALLS"
             );
             ExitCode::FAILURE

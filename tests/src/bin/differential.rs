@@ -1,6 +1,6 @@
 //! Compares the library with the reference: on the recorded vectors, on the
 //! stated cases, on fixed sessions and on generated ones, valid and damaged, with
-//! all three runs. Ends with a report of how often each answer, each length, each
+//! all runs. Ends with a report of how often each answer, each length, each
 //! clearance, each broken rule and each limit occurred; if one occurred too rarely,
 //! that is a failure, unless fewer sessions were asked for than by default.
 //! Arguments: number of sessions of each sort (20000), seed (1), first case (0).
@@ -25,7 +25,7 @@ use std::{env, fs, thread, time::Instant};
 const ENOUGH: u64 = 20_000;
 
 /// So many vectors are recorded.
-const VECTORS: usize = 3_533;
+const VECTORS: usize = 4_237;
 
 fn main() -> ExitCode {
     match run() {
@@ -88,7 +88,7 @@ fn known(sort: &str, cases: &[(impl Display, Vector)]) -> Result<(), String> {
     for (name, library) in libraries {
         for (i, (case, vector)) in cases.iter().enumerate() {
             let fill = Fill {
-                bytes: &[0xa5; 10_000],
+                bytes: &[0xa5; 20_000],
                 words: &[0xdead_beef; 20_000],
                 place_and_count: &[0xdead_beef; 100],
                 guard: [0, GUARD][i % 2],

@@ -1,5 +1,5 @@
 //! Document 01 as document 02 changes it, written from the texts and from nothing
-//! else: the check, and the timetabled, the plain and the depth-first run.
+//! else: the check, the timetabled, the plain and the depth-first run, and the page.
 
 mod check;
 mod depth_first;
@@ -9,6 +9,7 @@ mod lattice;
 mod level;
 mod manager;
 mod outcome;
+mod page;
 mod permits;
 mod runs;
 mod scheduler;
@@ -17,6 +18,7 @@ mod session;
 pub use check::check;
 pub use lattice::Lattice;
 pub use outcome::Outcome;
+pub use page::page;
 pub use runs::{depth_first, plain, timetabled, Reference};
 pub use scheduler::Scheduler;
 pub use session::{emptied, Session};

@@ -30,16 +30,25 @@ impl Outcome {
                 ));
             }
         }
-        for (level, histories) in self.histories.iter().enumerate() {
-            if is_shown(level) {
-                records.extend(histories.iter().map(|history| history.record()));
-            }
-        }
+        let histories = self.shown_histories(session, clearance);
+        records.extend(histories.map(|history| history.record()));
         let root_level = session.root_level();
         if is_shown(root_level) {
             records.push(record::reply(root_level as u8, self.reply));
         }
         records.concat()
+    }
+
+    /// The histories that a clearance is shown, in the order of the result.
+    pub fn shown_histories<'a>(
+        &'a self,
+        session: &'a Session,
+        clearance: usize,
+    ) -> impl Iterator<Item = &'a History> {
+        let levels = self.histories.iter().enumerate();
+        levels
+            .filter(move |(level, _)| session.lattice.dominates(clearance, *level))
+            .flat_map(|(_, histories)| histories)
     }
 
     pub fn managers(&self) -> usize {

@@ -3,10 +3,11 @@
 use super::check::check;
 use super::depth_first::DepthFirst;
 use super::outcome::Outcome;
+use super::page::page;
 use super::scheduler::Scheduler;
 use super::session::Session;
 use crate::library::{Answer, Library};
-use crate::limits::{RESULT_LENGTH, WORK_LENGTH};
+use crate::limits::{PAGE_LENGTH, RESULT_LENGTH, WORK_LENGTH};
 use crate::tally::Tally;
 
 /// The timetabled run of an accepted session: questions 12 to 15.
@@ -137,5 +138,27 @@ impl Library for Reference {
         };
         let outcome = depth_first(&session, &mut Tally::idle());
         show(&outcome, &session, clearance, result).give(place_and_count)
+    }
+
+    fn run_page(
+        &self,
+        session: &[u8],
+        clearance: usize,
+        result: &mut [u8],
+        page_buffer: &mut [u8],
+        place_and_counts: &mut [u32],
+    ) -> u32 {
+        let session = match accept(session, clearance, None, result.len()) {
+            Ok(session) => session,
+            Err(refusal) => return refusal.give_with_page(place_and_counts),
+        };
+        if page_buffer.len() < PAGE_LENGTH {
+            return Answer::refused(16, 0).give_with_page(place_and_counts);
+        }
+        let outcome = depth_first(&session, &mut Tally::idle());
+        let shown = show(&outcome, &session, clearance, result);
+        let page = page(&outcome, &session, clearance);
+        page_buffer[..page.len()].copy_from_slice(page.as_bytes());
+        Answer::paged(shown.count, page.len()).give_with_page(place_and_counts)
     }
 }

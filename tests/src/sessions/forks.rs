@@ -8,6 +8,7 @@ use super::work::work_everywhere;
 use crate::limits::*;
 use crate::random::Random;
 use crate::record::Operation;
+use std::cmp::Reverse;
 
 /// A manager that makes 14 to 17 forks at levels above, some of them from
 /// another frame, with writes between them and of the last replies.
@@ -119,10 +120,8 @@ pub fn tower(random: &mut Random) -> Draft {
     let levels = random.pick(&[4, 6, 8, 8, 8]);
     let masks = lattices::chain(random, levels);
     let mut scene = Scene::new(random, masks);
-    let mut order: Vec<usize> = scene.lattice.levels().collect();
-    order.sort_by_key(|&level| scene.draft.masks[level].count_ones());
     let mut above: Option<(u8, u8)> = None;
-    for &level in order.iter().rev() {
+    for level in downward(&scene) {
         let object = scene.object_at(level);
         let mut script = scene.filler(2);
         if let Some((object, name)) = above {
@@ -147,6 +146,38 @@ pub fn tower(random: &mut Random) -> Draft {
     }
     let (object, name) = above.expect("there are levels");
     scene.start(object, name);
+    scene.draft
+}
+
+/// The levels of a chain from the top down.
+fn downward(scene: &Scene) -> Vec<usize> {
+    let mut order: Vec<usize> = scene.lattice.levels().collect();
+    order.sort_by_key(|&level| Reverse(scene.draft.masks[level].count_ones()));
+    order
+}
+
+/// As many managers as a session can have: a chain of 8 levels, and on each level
+/// every manager makes 15 forks at the next.
+pub fn fullest(random: &mut Random) -> Draft {
+    let masks = lattices::chain(random, LEVELS_MAX);
+    let mut scene = Scene::new(random, masks);
+    let mut above: Option<Operation> = None;
+    for level in downward(&scene) {
+        let object = scene.object_at(level);
+        let mut script = Vec::new();
+        if let Some(send) = above {
+            let mut body = vec![send];
+            if scene.random.one_in(2) {
+                body.insert(0, scene.write());
+            }
+            script = counted(FORKS_MAX, body);
+        }
+        script.extend(scene.filler(3));
+        script.push(scene.write());
+        let name = scene.add(object, script);
+        scene.start(object, name);
+        above = Some(send(name, object));
+    }
     scene.draft
 }
 

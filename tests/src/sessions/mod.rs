@@ -51,6 +51,9 @@ fn valid_draft(random: &mut Random) -> Draft {
     if random.one_in(20) {
         return work::largest(random);
     }
+    if random.one_in(70) {
+        return forks::fullest(random);
+    }
     let shape = random.pick(&shapes);
     shape(random)
 }

@@ -6,12 +6,13 @@ mod check;
 mod depth_first;
 mod histories;
 mod manager;
+pub mod page;
 mod scheduled;
 mod tables;
 mod versions;
 
 use crate::library::{Answer, Library};
-use crate::limits::{RESULT_LENGTH, WORK_LENGTH};
+use crate::limits::{PAGE_LENGTH, RESULT_LENGTH, WORK_LENGTH};
 use tables::Tables;
 
 pub struct Tuned;
@@ -90,5 +91,24 @@ impl Library for Tuned {
             Err(number) => Answer::refused(number, 0),
         };
         answer.give(place_and_count)
+    }
+
+    fn run_page(
+        &self,
+        session: &[u8],
+        clearance: usize,
+        result: &mut [u8],
+        page: &mut [u8],
+        place_and_counts: &mut [u32],
+    ) -> u32 {
+        let answer = match accept(session, clearance, WORK_LENGTH, result.len()) {
+            Ok(_) if page.len() < PAGE_LENGTH => Answer::refused(16, 0),
+            Ok(tables) => {
+                let count = depth_first::run(&tables, clearance, result).count;
+                Answer::paged(count, page::write(&result[..count], page))
+            }
+            Err(number) => Answer::refused(number, 0),
+        };
+        answer.give_with_page(place_and_counts)
     }
 }

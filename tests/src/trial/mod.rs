@@ -1,6 +1,8 @@
 //! Generated calls of the library: its runs are compared with each other, its
 //! answers with the reference.
 
+mod page;
+
 use crate::clearances;
 use crate::counts::Counts;
 use crate::guarded::GUARD;
@@ -153,6 +155,7 @@ impl<'a> Trial<'a> {
                 .compare(&expected)
                 .map_err(|message| format!("clearance {clearance}: {message}"))?;
             self.tuned_agrees(bytes, clearance, &list, &expected)?;
+            self.pages(bytes, &session, &left, clearance, &mut tally)?;
         }
         self.other_timetables(bytes, &session, &list, &mut tally)?;
         self.counts.limits.add(&tally);
@@ -180,7 +183,7 @@ impl<'a> Trial<'a> {
     /// A run with enough room, but for place and count.
     fn finishing(&mut self, run: Run, clearance: usize) -> Request {
         let lengths = Lengths {
-            place_and_count: self.place_and_count_length(),
+            place_and_count: self.place_and_count_length(&run),
             ..Lengths::ENOUGH
         };
         Request::Run {
@@ -190,8 +193,10 @@ impl<'a> Trial<'a> {
         }
     }
 
-    fn place_and_count_length(&mut self) -> usize {
-        self.random.pick(&[0, 1, 2, 2, 3, 3])
+    fn place_and_count_length(&mut self, run: &Run) -> usize {
+        let enough = run.numbers();
+        let lengths = [0, 1, enough - 1, enough, enough, enough + 1];
+        self.random.pick(&lengths)
     }
 
     /// The session emptied for a level shows the same to a reader of that level.
@@ -263,13 +268,15 @@ impl<'a> Trial<'a> {
                 Ok(outcome) => Outcome::finished(outcome.shown(session, clearance)),
                 Err(refusal) => Outcome::refused(refusal),
             };
+            let run = Run::Timetabled(timetable);
             let lengths = Lengths {
                 work: WORK_LENGTH + self.random.below(3),
                 result: RESULT_LENGTH + self.random.below(3),
-                place_and_count: self.place_and_count_length(),
+                page: 0,
+                place_and_count: self.place_and_count_length(&run),
             };
             let request = Request::Run {
-                run: Run::Timetabled(timetable),
+                run,
                 clearance,
                 lengths,
             };
@@ -287,7 +294,8 @@ impl<'a> Trial<'a> {
         list: &[u8],
     ) -> Result<(), String> {
         let levels = session.lattice.levels().len();
-        for run in [Run::DepthFirst, Run::Plain, Run::Timetabled(list.to_vec())] {
+        let timetabled = Run::Timetabled(list.to_vec());
+        for run in [Run::DepthFirst, Run::Page, Run::Plain, timetabled] {
             let mut clearance = self.random.below(levels);
             if self.random.one_in(4) {
                 let absent = clearances::absent(levels, clearance);
@@ -302,13 +310,15 @@ impl<'a> Trial<'a> {
     }
 
     fn any_lengths(&mut self, run: Run, clearance: usize) -> Request {
-        let place_and_count = self.place_and_count_length();
+        let place_and_count = self.place_and_count_length(&run);
         let random = &mut self.random;
         let work = WORK_LENGTH + 1 - random.below(3);
         let result = RESULT_LENGTH + 1 - random.below(3);
+        let page = PAGE_LENGTH + 1 - random.below(3);
         let lengths = Lengths {
             work: random.pick(&[0, 1, work, work, work, 9000]),
             result: random.pick(&[0, 16, result, result, result, 5000]),
+            page: random.pick(&[0, 28, page, page, page, 9000]),
             place_and_count,
         };
         Request::Run {
@@ -318,7 +328,7 @@ impl<'a> Trial<'a> {
         }
     }
 
-    /// The check, and one of the runs, of a session that is not accepted.
+    /// The check, one of the runs, and the page, of a session that is not accepted.
     fn refused(&mut self, session: &[u8]) -> Result<(), String> {
         self.expect_as_reference(session, &Request::Check)?;
         let number = Tuned.check(session);
@@ -332,7 +342,8 @@ impl<'a> Trial<'a> {
         };
         let clearance = self.random.pick(&[0, 1, 255, usize::MAX]);
         let request = self.any_lengths(run, clearance);
-        self.expect_as_reference(session, &request)
+        self.expect_as_reference(session, &request)?;
+        self.refused_pages(session, clearance)
     }
 }
 
