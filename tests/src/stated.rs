@@ -24,6 +24,24 @@ const W_1: &str = "\
 TOTAL                    10
 ";
 
+/// The root's level is 1, under level 0: groups stand by number, not by stamp.
+const TWELVE: &str = "\
+10000000 0 0  0   1   1   0
+20000000 0 0  0   2   2   0
+30000000 0 0  0   3   3   0
+40000000 0 0  0   4   4   0
+50000000 0 0  0   5   5   0
+60000000 0 0  0   6   6   0
+70000000 0 0  0   7   7   0
+80000000 0 0  0   8   8   0
+90000000 0 0  0   9   9   0
+A0000000 0 0  0  10  10   0
+B0000000 0 0  0  11  11   0
+C0000000 0 0  0  12  12   0
+00000000 1 0  0   1  13  12
+TOTAL                    12
+";
+
 /// The page of a clearance that is shown no history.
 const NO_HISTORY: &str = "TOTAL                     0\n";
 
@@ -94,6 +112,7 @@ fn pages() -> Vec<(&'static str, Vector)> {
         ("no page", w(1, result, 0, refused(16, 0))),
         ("both short", w(0, result - 1, page - 1, refused(11, 0))),
         ("no level", w(2, result, page - 1, refused(9, 0))),
+        ("page of twelve forks", twelve()),
         (
             "page of no history",
             vector(
@@ -202,6 +221,33 @@ fn send(object: u8) -> Operation {
     }
 }
 
+/// The root, at the lower level, makes twelve forks of an empty method.
+fn twelve() -> Vector {
+    let mut draft = draft(&[0x03, 0x02]);
+    draft.put(1, 0, vec![send(0); 12]);
+    draft.root_object = 1;
+    let mut records = vec![shown(0, 0, [None; FIELDS]), shown(1, 1, [None; FIELDS])];
+    records.extend((1..=12).map(|i| empty(0, u32::from(i) << 28, i)));
+    records.extend([history(1, 0, 0, 13, 12), record::reply(1, None)]);
+    vector(
+        draft.bytes(),
+        paged(0, RESULT_LENGTH, PAGE_LENGTH),
+        printed(records.concat(), TWELVE),
+    )
+}
+
+/// The history of a manager of an empty method, the i-th at its level.
+fn empty(level: u8, fork_stamp: u32, i: u16) -> Record {
+    let history = History {
+        level,
+        fork_stamp,
+        first_write_stamp: i,
+        last_write_stamp: i,
+        ..History::default()
+    };
+    history.record()
+}
+
 /// The bound of 1 and 2 is 3: a manager at level 1, from a frame at level 0,
 /// sends to an object at level 2.
 fn m9() -> Vector {
@@ -229,14 +275,7 @@ fn m12() -> Vector {
     let mut records: Vec<Record> = objects.collect();
     records.extend([history(0, 0, 0, 4, 3), history(1, 0x2000_0000, 0, 2, 1)]);
     for (i, stamp) in (1..).zip([0x1000_0000, 0x2100_0000, 0x3000_0000]) {
-        let history = History {
-            level: 2,
-            fork_stamp: stamp,
-            first_write_stamp: i,
-            last_write_stamp: i,
-            ..History::default()
-        };
-        records.push(history.record());
+        records.push(empty(2, stamp, i));
     }
     records.push(record::reply(0, None));
     vector(draft.bytes(), plain(2), finished(records.concat()))
