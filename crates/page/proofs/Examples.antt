@@ -11,7 +11,7 @@ use Rattle.model.specs.Limits.{pageBytes}
 use Rattle.page.specs.Text.{hexIn, alignedIn, frontOf, lineOf, totalLine, sumOf, pageOf, readHex, hexFrom, readAligned, alignedFrom}
 
 -- the codes of a text's characters
-codes : String → List ℕ
+unfoldable pub codes : String → List ℕ
 codes []ᵗ = []
 codes (c ∷ᵗ s) = code c ∷ codes s
 

@@ -1,3 +1,4 @@
 pub mod Laws
 pub mod Examples
+pub mod Answered
 pub mod Pages

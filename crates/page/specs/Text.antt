@@ -77,13 +77,16 @@ lineOf rec =
 abbrev pub totalWord : List ℕ
 totalWord = 84 ∷ 79 ∷ 84 ∷ 65 ∷ 76 ∷ []
 
+abbrev pub wordColumns : ℕ
+wordColumns = 5
+
 -- "right-aligned at 23 to 27"
 abbrev pub totalColumns : ℕ
 totalColumns = 5
 
 -- the blanks between them: columns 6 to 22
 abbrev pub totalGap : ℕ
-totalGap = lineBytes - 1 - 5 - totalColumns
+totalGap = lineBytes - 1 - wordColumns - totalColumns
 
 unfoldable pub totalLine : ℕ → List ℕ
 totalLine n = totalWord ++ replicate totalGap blank ++ alignedIn totalColumns n ++ (lineFeed ∷ [])

@@ -11,7 +11,7 @@ ghost use Rattle.session.specs.Record.{recordAt, recordCount, byteOf, wordOf};
 ghost use Rattle.model.specs.Limits.{lineBytes, resultBytes};
 ghost use Rattle.model.specs.Result.{halfOf};
 ghost use Rattle.records.specs.Writing.{Placed, Written};
-ghost use Rattle.page.specs.Text.{blank, digitOf, hexIn, alignedIn, fieldIn, frontOf, lineOf, totalWord, totalLine, pageOf};
+ghost use Rattle.page.specs.Text.{blank, digitOf, hexIn, alignedIn, fieldIn, frontOf, lineOf, wordColumns, totalWord, totalLine, pageOf};
 ghost use Rattle.page.specs.Shown.{frontBytes, shownLine, shownSteps};
 
 // The kind of a history's record, and where its numbers stand in it.
@@ -38,7 +38,7 @@ const SECOND: u32 = 1 << 8;
 
 const THIRD: u32 = 1 << 16;
 
-// How many columns each number has.
+// How many columns each number has, and the word of the last line.
 const STAMP_PLACES: usize = 8;
 
 const LEVEL_COLUMNS: usize = 1;
@@ -51,10 +51,12 @@ const WRITE_STAMP_COLUMNS: usize = 3;
 
 const STEPS_COLUMNS: usize = 3;
 
+const WORD_COLUMNS: usize = 5;
+
 const TOTAL_COLUMNS: usize = 5;
 
 // The blanks between the word and the number of the last line.
-const TOTAL_GAP: usize = LINE_BYTES - 1 - 5 - TOTAL_COLUMNS;
+const TOTAL_GAP: usize = LINE_BYTES - 1 - WORD_COLUMNS - TOTAL_COLUMNS;
 
 // The digit of a number below 16, in upper case.
 fn digit(n: u32) -> u8
@@ -190,7 +192,7 @@ fn put_line(page: &mut [u8], at: usize, bytes: &[u8], number: usize) -> usize
 
 // Writes the word of the last line.
 fn put_word(page: &mut [u8], at: usize) -> usize
-    requires { ⌜ at + 5 ≤ length (now page) ⌝ }
+    requires { ⌜ at + wordColumns ≤ length (now page) ⌝ }
     ensures { λ next. ⌜ Placed totalWord at (now (page .entry)) (now (page .exit)) next ⌝ }
 {
     let second = put(page, at, b'T');
