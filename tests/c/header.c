@@ -1,6 +1,6 @@
 /* Calls the library from C by way of its header: session W of document 01, by
- * all three runs and the check; refusals; empty slices that are NULL; and how
- * much stack the calls take. */
+ * all runs and the check, with a page; refusals; empty slices that are NULL; and
+ * how much stack the calls take. */
 
 #define _XOPEN_SOURCE 700
 
@@ -16,8 +16,9 @@ static size_t length;
 
 static uint32_t work[LUPINPAUSE_WORK];
 static uint8_t result[LUPINPAUSE_RESULT];
-/* One more than asked for, to see that it stays. */
-static uint32_t place_and_count[LUPINPAUSE_PLACE_AND_COUNT + 1];
+static uint8_t page[LUPINPAUSE_PAGE];
+/* One more than asked for, to see that it stays; the page's count is the third. */
+static uint32_t place_and_count[LUPINPAUSE_PLACE_AND_COUNTS + 1];
 
 static const uint8_t six_and_six[] = {0, 0, 0, 0, 0, 0, 1, 1, 1, 1, 1, 1};
 
@@ -26,7 +27,9 @@ static const uint8_t six_and_six[] = {0, 0, 0, 0, 0, 0, 1, 1, 1, 1, 1, 1};
 #define TIMETABLE six_and_six, sizeof six_and_six
 #define WORK work, LUPINPAUSE_WORK
 #define RESULT result, LUPINPAUSE_RESULT
+#define PAGE page, LUPINPAUSE_PAGE
 #define ANSWER place_and_count, LUPINPAUSE_PLACE_AND_COUNT
+#define PAGE_ANSWER place_and_count, LUPINPAUSE_PLACE_AND_COUNTS
 #define NONE NULL, 0
 
 /* What a reader cleared to level 0 is shown. */
@@ -35,6 +38,10 @@ static const uint8_t shown[] = {
     0x06, 0x00, 0x00, 0x01, 0x00, 0, 0, 0, 1, 0, 2, 0, 5, 0, 0, 0,
     0x07, 0x00, 0x00, 0x01, 0x09, 0, 0, 0, 0, 0, 0, 0, 0, 0, 0, 0,
 };
+
+static const char printed[] =
+    "00000000 0 0  1   1   2   5\n"
+    "TOTAL                     5\n";
 
 static const uint32_t untouched = 0xa5a5a5a5;
 
@@ -48,15 +55,35 @@ static void expect(const char *what, uint32_t number, uint32_t wanted)
     }
 }
 
-/* A run's number, place and count; the next run finds none of them. */
-static void expect_run(const char *what, uint32_t number, uint32_t wanted,
-    uint32_t place, uint32_t written)
+/* A run's number, place and counts; the next run finds none of them. */
+static void expect_answer(const char *what, uint32_t number, uint32_t wanted,
+    uint32_t place, uint32_t written, uint32_t page_written)
 {
     expect(what, number, wanted);
     expect(what, place_and_count[0], place);
     expect(what, place_and_count[1], written);
-    expect(what, place_and_count[2], untouched);
+    expect(what, place_and_count[2], page_written);
+    expect(what, place_and_count[3], untouched);
     memset(place_and_count, 0xa5, sizeof place_and_count);
+}
+
+/* Of a run without a page. */
+static void expect_run(const char *what, uint32_t number, uint32_t wanted,
+    uint32_t place, uint32_t written)
+{
+    expect_answer(what, number, wanted, place, written, untouched);
+}
+
+/* All bytes from a place on are as they were before the call. */
+static void expect_kept(const char *what, const uint8_t *bytes, size_t from, size_t size)
+{
+    for (size_t i = from; i < size; i++) {
+        if (bytes[i] != 0xa5) {
+            fprintf(stderr, "%s: byte %u changed\n", what, (unsigned)i);
+            failures++;
+            return;
+        }
+    }
 }
 
 static void expect_records(const char *what, uint32_t number)
@@ -67,6 +94,52 @@ static void expect_records(const char *what, uint32_t number)
         failures++;
     }
     memset(result, 0xa5, sizeof result);
+}
+
+/* The result records and the page, and nothing beyond either. */
+static void expect_page(const char *what, uint32_t number)
+{
+    const size_t length = sizeof printed - 1;
+    expect_answer(what, number, 0, 0, sizeof shown, (uint32_t)length);
+    if (memcmp(result, shown, sizeof shown) != 0 || memcmp(page, printed, length) != 0) {
+        fprintf(stderr, "%s: other records or another page\n", what);
+        failures++;
+    }
+    expect_kept(what, result, sizeof shown, sizeof result);
+    expect_kept(what, page, length, sizeof page);
+    memset(result, 0xa5, sizeof result);
+    memset(page, 0xa5, sizeof page);
+}
+
+/* Both buffers are as they were. */
+static void expect_no_page(const char *what, uint32_t number, uint32_t wanted)
+{
+    expect_answer(what, number, wanted, 0, 0, 0);
+    expect_kept(what, result, 0, sizeof result);
+    expect_kept(what, page, 0, sizeof page);
+}
+
+/* Each slice in turn is NULL with length 0 too. */
+static void expect_pages(void)
+{
+    memset(result, 0xa5, sizeof result);
+    memset(page, 0xa5, sizeof page);
+    expect_page("page", lupinpause_run_page(SESSION, 0, RESULT, PAGE, PAGE_ANSWER));
+    expect_no_page("page too short", lupinpause_run_page(SESSION, 0, RESULT,
+        page, LUPINPAUSE_PAGE - 1, PAGE_ANSWER), 16);
+    expect_no_page("both too short", lupinpause_run_page(SESSION, 0,
+        result, LUPINPAUSE_RESULT - 1, page, LUPINPAUSE_PAGE - 1, PAGE_ANSWER), 11);
+    expect_no_page("page, no such clearance", lupinpause_run_page(SESSION, 2, RESULT,
+        PAGE, PAGE_ANSWER), 9);
+    expect_no_page("page, no session", lupinpause_run_page(NONE, 0, RESULT,
+        PAGE, PAGE_ANSWER), 1);
+    expect_no_page("page, no result", lupinpause_run_page(SESSION, 0, NONE,
+        PAGE, PAGE_ANSWER), 11);
+    expect_no_page("no page", lupinpause_run_page(SESSION, 0, RESULT,
+        NONE, PAGE_ANSWER), 16);
+    expect_answer("page, room for two numbers", lupinpause_run_page(SESSION, 0, RESULT,
+        PAGE, ANSWER), 0, untouched, untouched, untouched);
+    expect("page, no answer", lupinpause_run_page(SESSION, 0, RESULT, PAGE, NONE), 0);
 }
 
 static void expect_refusals(void)
@@ -184,6 +257,11 @@ static void run_depth_first(void)
     number = lupinpause_run_depth_first(SESSION, 7, RESULT, ANSWER);
 }
 
+static void run_page(void)
+{
+    number = lupinpause_run_page(SESSION, 7, RESULT, PAGE, PAGE_ANSWER);
+}
+
 static uint8_t stack[4 * LUPINPAUSE_STACK];
 
 /* Makes a call on a stack of its own, and sees up to where that was written to. */
@@ -213,6 +291,7 @@ static void expect_stacks(const char *what)
     expect_stack(what, run_timetable, 15);
     expect_stack(what, run_plain, 0);
     expect_stack(what, run_depth_first, 0);
+    expect_stack(what, run_page, 0);
 }
 
 int main(int count, char **arguments)
@@ -240,5 +319,6 @@ int main(int count, char **arguments)
     expect_records("depth-first", lupinpause_run_depth_first(SESSION, 0, RESULT, ANSWER));
     expect_refusals();
     expect_empty();
+    expect_pages();
     return failures != 0;
 }

@@ -1,8 +1,6 @@
 //! The library under test, linked as the static library libexports.a.
 
-use crate::library::{Answer, Library};
-use crate::limits::{PAGE_LENGTH, PLACE_AND_COUNT_LENGTH, RESULT_LENGTH};
-use crate::tuned::page;
+use crate::library::Library;
 
 extern "C" {
     fn lupinpause_check(session: *const u8, length: usize) -> u32;
@@ -39,6 +37,17 @@ extern "C" {
         place_and_count: *mut u32,
         place_and_count_length: usize,
     ) -> u32;
+    fn lupinpause_run_page(
+        session: *const u8,
+        length: usize,
+        clearance: usize,
+        result: *mut u8,
+        result_length: usize,
+        page: *mut u8,
+        page_length: usize,
+        place_and_counts: *mut u32,
+        place_and_counts_length: usize,
+    ) -> u32;
 }
 
 pub struct Compiled;
@@ -64,7 +73,7 @@ impl Library for Compiled {
     ) -> u32 {
         // SAFETY: each pointer is to as many values as the length beside it
         // says; they stay borrowed during the call, the session and the
-        // timetable unchanged and the other three for this call alone.
+        // timetable unchanged and the others for this call alone.
         unsafe {
             lupinpause_run_timetable(
                 session.as_ptr(),
@@ -127,8 +136,6 @@ impl Library for Compiled {
         }
     }
 
-    // Stands in for an entry that the library does not have: its depth-first run, and the
-    // tuned variant's page of the records.
     fn run_page(
         &self,
         session: &[u8],
@@ -137,22 +144,19 @@ impl Library for Compiled {
         page: &mut [u8],
         place_and_counts: &mut [u32],
     ) -> u32 {
-        let mut given = [0; PLACE_AND_COUNT_LENGTH];
-        let answer = if page.len() < PAGE_LENGTH {
-            let mut unused = [0; RESULT_LENGTH];
-            let length = result.len().min(RESULT_LENGTH);
-            match self.run_depth_first(session, clearance, &mut unused[..length], &mut given) {
-                0 => Answer::refused(16, 0),
-                number => Answer::refused(number, 0),
-            }
-        } else {
-            let number = self.run_depth_first(session, clearance, result, &mut given);
-            let count = given[1] as usize;
-            match number {
-                0 => Answer::paged(count, page::write(&result[..count], page)),
-                _ => Answer::refused(number, 0),
-            }
-        };
-        answer.give_with_page(place_and_counts)
+        // SAFETY: as for the timetabled run.
+        unsafe {
+            lupinpause_run_page(
+                session.as_ptr(),
+                session.len(),
+                clearance,
+                result.as_mut_ptr(),
+                result.len(),
+                page.as_mut_ptr(),
+                page.len(),
+                place_and_counts.as_mut_ptr(),
+                place_and_counts.len(),
+            )
+        }
     }
 }
