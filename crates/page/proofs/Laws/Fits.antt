@@ -1,6 +1,6 @@
 -- The page of an accepted session's depth-first run fits question 16's buffer. Assumes nothing.
 use Prim.Native.Nat.{ℕ, _*_, _≤_}
-use mathlib.Core.Path.{_≡_, sym, _∙_, ap}
+use mathlib.Core.Path.{_≡_, ap}
 use mathlib.Core.List.{List, [], _∷_, map}
 use native.Mathlib.Omega.{arith}
 use lib.ListN.{length, length-append, length-map}
@@ -15,10 +15,10 @@ use Rattle.session.proofs.Laws.Lists.{select-length, length-tab}
 use Rattle.session.proofs.Laws.Verdict.{accepted}
 use Rattle.session.proofs.Laws.Numbering.{few-levels}
 use Rattle.model.specs.Limits.{maxManagers, pageBytes}
-use Rattle.model.specs.Step.{State, levelAt}
-use Rattle.model.specs.Schedule.{readIn, finished, runOf, plainOrder}
+use Rattle.model.specs.Step.{levelAt}
+use Rattle.model.specs.Schedule.{readIn, runOf, plainOrder}
 use Rattle.model.specs.DepthFirst.{tallyAt, depthFirst}
-use Rattle.model.specs.Result.{Result, resultOfDepthFirst, historyRecord, levelsShown, historiesShown, bytesOf}
+use Rattle.model.specs.Result.{Result, resultOfDepthFirst, historyRecord, levelsShown, historiesShown}
 use Rattle.model.proofs.Laws.Invariant.Measure.{Bounded}
 use Rattle.model.proofs.Laws.Order.Accepted.{sound}
 use Rattle.model.proofs.Laws.Order.Finish.{finishes}

@@ -1,16 +1,16 @@
 -- How long the parts of a page are: a line has 28 bytes, and a page one line more than there are histories. Assumes nothing.
 use Prim.Native.Nat.{ℕ, zero, suc, _+_, _*_, _/_}
-use mathlib.Core.Path.{_≡_, refl, _∙_, ap}
+use mathlib.Core.Path.{_≡_, refl}
 use mathlib.Core.List.{List, [], _∷_, map}
 use native.Mathlib.Omega.{arith}
 use lib.Dec.{ltb}
-use lib.ListN.{length, replicate, length-append, length-replicate}
+use lib.ListN.{length, length-append, length-replicate}
 use Rattle.session.specs.Lists.{joined}
 use Rattle.session.specs.Record.{Record}
 use Rattle.session.proofs.Laws.Lists.{holds, fails, truth}
 use Rattle.model.specs.Limits.{lineBytes}
 use Rattle.model.specs.Result.{levelIn, endingIn, writesIn, stampIn, firstIn, lastIn, stepsIn}
-use Rattle.page.specs.Text.{blank, hexIn, alignedIn, fieldIn, frontOf, lineOf, totalWord, totalGap, totalLine, historiesIn, totalOf, pageOf}
+use Rattle.page.specs.Text.{blank, hexIn, alignedIn, fieldIn, frontOf, lineOf, totalLine, historiesIn, totalOf, pageOf}
 use Rattle.page.specs.Shown.{frontBytes}
 
 pub hex-length : (places n : ℕ) → length (hexIn places n) ≡ places
