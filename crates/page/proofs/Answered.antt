@@ -5,7 +5,6 @@ use mathlib.Core.List.{List, [], _∷_}
 use lib.ListN.{length, getD, take, replicate}
 use Rattle.session.specs.SessionW.{sessionW}
 use Rattle.model.specs.Limits.{resultBytes, pageBytes}
-use Rattle.model.specs.Entries.{Request}
 use Rattle.model.proofs.Computing.{computing}
 use Rattle.page.specs.Text.{hexIn, alignedIn, frontOf, lineOf, totalLine, sumOf, pageOf}
 use Rattle.page.specs.Entries.{pageRefusal, Paged, paged}
