@@ -98,6 +98,8 @@ fn stated_cases() -> Vec<(&'static str, Vector)> {
 fn pages() -> Vec<(&'static str, Vector)> {
     let m1 = bytes(M1).expect("M1 is in hexadecimal");
     let [result, page] = [RESULT_LENGTH, PAGE_LENGTH];
+    // A length that is 0 in its lowest 16 bits.
+    let long = 65_536;
     let w = |clearance, result, page, expected| {
         vector(example_w(), paged(clearance, result, page), expected)
     };
@@ -106,7 +108,11 @@ fn pages() -> Vec<(&'static str, Vector)> {
     above.root_object = 1;
     let hidden = shown(0, 0, [None; FIELDS]).to_vec();
     vec![
-        ("page, clearance 0", w(0, result, page, printed(m1, W_0))),
+        (
+            "page, clearance 0",
+            w(0, result, page, printed(m1.clone(), W_0)),
+        ),
+        ("long buffers", w(0, long, long, printed(m1, W_0))),
         ("page, clearance 1", w(1, result, page, printed(m2(), W_1))),
         ("page too short", w(0, result, page - 1, refused(16, 0))),
         ("no page", w(1, result, 0, refused(16, 0))),

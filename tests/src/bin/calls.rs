@@ -1,6 +1,7 @@
 //! Makes calls of one entry, and nothing else: for counting instructions.
 //! Arguments: library, reference or tuned; check, plain, timetabled,
-//! timetabled-early, depth-first, page or page-apart; w, typical, forks or steps; number of calls.
+//! timetabled-early, depth-first, page or page-apart; w, typical, forks or steps;
+//! number of calls.
 
 use lupinpause_tests::ffi::Compiled;
 use lupinpause_tests::library::Library;

@@ -88,7 +88,7 @@ fn known(sort: &str, cases: &[(impl Display, Vector)]) -> Result<(), String> {
     for (name, library) in libraries {
         for (i, (case, vector)) in cases.iter().enumerate() {
             let fill = Fill {
-                bytes: &[0xa5; 20_000],
+                bytes: &[0xa5; 70_000],
                 words: &[0xdead_beef; 20_000],
                 place_and_count: &[0xdead_beef; 100],
                 guard: [0, GUARD][i % 2],
