@@ -38,12 +38,13 @@ fn report(place_and_count: &mut [u32], answer: Answer) -> u32
 fn report_page(place_and_counts: &mut [u32], answer: PageAnswer) -> u32
     ensures { λ r. ⌜ (r ≡ answer .number) × (now («place_and_counts» .exit) ≡ reportedPage (answer .place) (answer .count) (answer .«page_count») (now («place_and_counts» .entry))) ⌝ }
 {
+    let number = answer.number;
     if place_and_counts.len() >= PAGE_NUMBERS {
         place_and_counts[PLACE] = answer.place;
         place_and_counts[COUNT] = answer.count;
         place_and_counts[PAGE_COUNT] = answer.page_count;
     }
-    answer.number
+    number
 }
 
 // Check: the number of document 01's answer; its place is 0.
