@@ -25,19 +25,19 @@ use Rattle.model.proofs.Laws.Reader.Answers.{passes, timetabled-is, dee
 use Rattle.model.proofs.Laws.Code.Progress.{run-made, run-stops, run-ends, run-unended}
 
 -- the number of the first question that says no, or 0
-unfoldable lowestOf : List Question → ℕ
+unfoldable pub lowestOf : List Question → ℕ
 lowestOf [] = 0
 lowestOf (x ∷ xs) = cond (x .says) (lowestOf xs) (x .number)
 
 -- a number, or where it is 0 the rest
-abbrev past : ℕ → ℕ → ℕ
+abbrev pub past : ℕ → ℕ → ℕ
 past number rest = cond (eqb number 0) rest number
 
 -- no question has the number 0
-abbrev Numbered : List Question → Type 0
+abbrev pub Numbered : List Question → Type 0
 Numbered qs = every (λ x. not (eqb (x .number) 0)) qs ≡ true
 
-all-zero : (qs : List Question) → AllYes qs → lowestOf qs ≡ 0
+pub all-zero : (qs : List Question) → AllYes qs → lowestOf qs ≡ 0
 unfolding lowestOf every
 all-zero [] y = refl
 all-zero (x ∷ xs) y = rw (and-left (x .says) _ y) (all-zero xs (and-right (x .says) _ y))
@@ -55,14 +55,14 @@ module _ (k : ℕ) (behind : List Question) where
   first-numbered (x ∷ xs) n = first-numbered xs (and-right (not (eqb (x .number) 0)) _ n)
 
 module _ (qs : List Question) (k : ℕ) (w : LowestNo qs k) where
-  lowest-is : lowestOf qs ≡ k
+  pub lowest-is : lowestOf qs ≡ k
   lowest-is = rw (w .place) (first-no k (w .behind) (w .before) (w .passed))
 
-  lowest-not : Numbered qs → k ≡ 0 → ⊥
+  pub lowest-not : Numbered qs → k ≡ 0 → ⊥
   lowest-not n = eqb-false k 0 (not-true (eqb k 0) (first-numbered k (w .behind) (w .before) (rw (w .place) at n)))
 
 -- one question ends the call, or all say yes
-put-of : (qs : List Question) → Put qs
+pub put-of : (qs : List Question) → Put qs
 unfolding every
 put-of [] = faults.passes refl
 put-of (x ∷ xs) = by (truth (x .says)) (put-of xs)
@@ -97,7 +97,7 @@ chain true true true true true true false h xs = refl
 chain true true true true true true true false xs = refl
 chain true true true true true true true true xs = refl
 
-checked : (s : List ℕ) (xs : List Question) → lowestOf (checkAsks s ++ xs) ≡ past (numberOfVerdict (verdictOf s)) (lowestOf xs)
+pub checked : (s : List ℕ) (xs : List Question) → lowestOf (checkAsks s ++ xs) ≡ past (numberOfVerdict (verdictOf s)) (lowestOf xs)
 checked s xs =
     chain (question1 s) (question2 s) (question3 s) (question4 s) (question5 s) (question6 s) (question7 s) (question8 s) xs
     ∙ ap (λ v. past (numberOfVerdict v) (lowestOf xs)) (sym (verdict-chain s))

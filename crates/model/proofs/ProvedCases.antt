@@ -53,6 +53,7 @@ pub record ProvedCases : Type 0 where
   m2-depth-first : answered (deep (lent sessionW 1)) ≡ for1
   m3 : answered (timetabledW sixAndSix) ≡ for1
   m4 : answered (timetabledW (1 ∷ sixAndSix)) ≡ 13 ∷ 0 ∷ 0 ∷ []
+  -- as document 02 changes it
   m5 : answered (timetabledW (0 ∷ 0 ∷ 0 ∷ 1 ∷ [])) ≡ 15 ∷ 0 ∷ 0 ∷ []
   m5-early : answered (timetabledW (replicate 3 0 ++ replicate 6 1 ++ replicate 3 0)) ≡ for1
   m6 : answered (timetabledW (sixAndSix ++ 0 ∷ [])) ≡ 13 ∷ 12 ∷ 0 ∷ []

@@ -31,6 +31,10 @@ history1 = 0x06 ∷ 0x01 ∷ 0x00 ∷ 0x02 ∷ 0x00 ∷ 0x00 ∷ 0x00 ∷ 0x10 �
 abbrev reply : Record
 reply = 0x07 ∷ 0x00 ∷ 0x00 ∷ 0x01 ∷ 0x09 ∷ 0x00 ∷ 0x00 ∷ 0x00 ∷ 0x00 ∷ 0x00 ∷ 0x00 ∷ 0x00 ∷ 0x00 ∷ 0x00 ∷ 0x00 ∷ 0x00 ∷ []
 
+-- an object with 7 in its third field
+abbrev object2 : Record
+object2 = 0x05 ∷ 0x02 ∷ 0x00 ∷ 0x04 ∷ 0x00 ∷ 0x00 ∷ 0x00 ∷ 0x00 ∷ 0x00 ∷ 0x00 ∷ 0x00 ∷ 0x00 ∷ 0x07 ∷ 0x00 ∷ 0x00 ∷ 0x00 ∷ []
+
 -- a history whose numbers fill their columns: level 7, ending 2, 16 writes, stamp FEDCBA90 hex, stamps 497 and 512, 256 steps
 abbrev full : Record
 full = 0x06 ∷ 0x07 ∷ 0x02 ∷ 0x10 ∷ 0x90 ∷ 0xBA ∷ 0xDC ∷ 0xFE ∷ 0xF1 ∷ 0x01 ∷ 0x00 ∷ 0x02 ∷ 0x00 ∷ 0x01 ∷ 0x00 ∷ 0x00 ∷ []
@@ -40,6 +44,8 @@ pub record Examples : Type 0 where
       ≡ codes "00000000 0 0  1   1   2   5\nTOTAL                     5\n"
   session-w-1 : pageOf (joined (object0 ∷ object1 ∷ history0 ∷ history1 ∷ reply ∷ []))
       ≡ codes "00000000 0 0  1   1   2   5\n10000000 1 0  2   1   1   5\nTOTAL                    10\n"
+  -- the third field of an object is not among the steps
+  objects-aside : pageOf (joined (object2 ∷ history0 ∷ [])) ≡ codes "00000000 0 0  1   1   2   5\nTOTAL                     5\n"
   nothing-shown : pageOf [] ≡ codes "TOTAL                     0\n"
   filled : lineOf full ≡ codes "FEDCBA90 7 2 16 497 512 256\n"
   largest-total : totalLine 57600 ≡ codes "TOTAL                 57600\n"
@@ -56,6 +62,7 @@ examples =
     record {
       session-w-0 = refl;
       session-w-1 = refl;
+      objects-aside = refl;
       nothing-shown = refl;
       filled = refl;
       largest-total = refl;

@@ -1,16 +1,18 @@
 -- Pages: the statements of specs/Pages, proved. Assumes nothing.
 use Prim.Native.Nat.{ℕ, zero, suc, _+_, _*_, _-_, _^_, _≤_, _<_}
 use mathlib.Core.Path.{_≡_, refl, sym, _∙_, ap}
-use mathlib.Core.Bool.{true}
+use mathlib.Core.Bool.{Bool, true, false, cond}
 use mathlib.Core.List.{List, [], _∷_, _++_, map}
 use native.Mathlib.Omega.{arith}
+use borrow.Author.Tests.{eqb-true, eq-eqb, ne-eqb}
+use lib.Dec.{eqb}
 use lib.ListN.{length, take, drop, replicate, length-append, length-drop}
 use lib.Seq.{take-all, take-append-le, drop-append-le, drop-append-add}
 use Rattle.session.specs.Limits.{maxLevels}
-use Rattle.session.specs.Lists.{tab, joined}
+use Rattle.session.specs.Lists.{every, tab, joined}
 use Rattle.session.specs.Record.{Record}
 use Rattle.session.specs.Program.{Program, programOf}
-use Rattle.session.specs.Questions.{verdictOf}
+use Rattle.session.specs.Questions.{verdictOf, numberOfVerdict}
 use Rattle.session.specs.Meaning.{rootOf, levelOf, rootObject}
 use Rattle.session.specs.declared.Verdict.the-variants.{Accepted}
 use Rattle.session.specs.Emptied.{emptied}
@@ -25,15 +27,18 @@ use Rattle.model.specs.History.{History, Limited, AllLimited}
 use Rattle.model.specs.Limits.{maxManagers}
 use Rattle.model.specs.DepthFirst.{depthFirst}
 use Rattle.model.specs.Result.{Result, resultOfDepthFirst, historyRecord, historiesShown, levelIn, endingIn, writesIn, stampIn, firstIn, lastIn, stepsIn}
-use Rattle.model.specs.Entries.{Answer}
+use Rattle.model.specs.Entries.{Request, Answer, question9, question11, entryRefusal, writtenOver, deep}
 use Rattle.model.specs.Reader.{bytesWritten}
 use Rattle.model.specs.Demands.{DepthFirstRun}
+use Rattle.model.specs.Faults.{asks}
+use Rattle.model.proofs.Faults.{lowestOf, past, checked, lowest-is, lowest-not, all-zero, put-of}
 use Rattle.model.proofs.Demands.{deep-emptied, histories-limited}
-use Rattle.model.proofs.Laws.Reader.Answers.{passes, deep-passes, deep-bytes}
-use Rattle.model.proofs.Laws.Reader.Bytes.{chosen-groups, histories-found}
+use Rattle.model.proofs.Laws.Reader.Answers.{passes, deep-is, deep-finished, deep-passes, deep-bytes}
+use Rattle.model.proofs.Laws.Reader.Bytes.{chosen-groups, histories-found, written-bytes}
 use Rattle.model.proofs.Laws.Reader.Fields.{level-read, ending-read, writes-read, stamp-read, first-read, last-read, steps-read}
+use Rattle.page.specs.Entries.{question16, pageRefusal, paged}
 use Rattle.page.specs.Text.{hexIn, alignedIn, fieldIn, frontOf, lineOf, totalLine, totalWord, totalGap, blank, lineFeed, sumOf, historiesIn, totalOf, pageOf, readAligned, readHex}
-use Rattle.page.specs.Pages.{SamePage, columns, ReadBack, AllReadBack, PagesFit}
+use Rattle.page.specs.Pages.{SamePage, PageCalled, SamePageCalls, pageAsks, Demand1Page, columns, ReadBack, AllReadBack, PagesFit}
 use Rattle.page.proofs.Laws.Lengths.{hex-length, aligned-length, front-length}
 use Rattle.page.proofs.Laws.Numbers.{hex-read, aligned-read}
 use Rattle.page.proofs.Laws.Fits.{histories-few, ended-few}
@@ -255,4 +260,84 @@ pages-fit c s a x =
     record {
       histories = rw is (all-read shown fine);
       total = total-read (totalOf (bytesWritten a)) (omega (arith, ap (λ recs. sumOf (map stepsIn recs)) is, steps-sum shown fine, shown-few (q .session) accept (q .clearance)));
+    }
+
+past-no : (v n : ℕ) → eqb v 0 ≡ false → past v n ≡ v
+past-no v n e = rw e refl
+
+past-yes : (v n : ℕ) → eqb v 0 ≡ true → past v n ≡ n
+past-yes v n e = rw e refl
+
+-- a page that was answered 0 is the page of the depth-first run
+module _ (q : Request) (page : List ℕ) where
+  page-yes : paged q page .number ≡ 0 → pageRefusal q page ≡ 0
+  unfolding paged
+  page-yes f = elim (truth (eqb (pageRefusal q page) 0)) [
+    | holds e ↦ eqb-true (pageRefusal q page) 0 e
+    | fails e ↦ rw e at f
+  ]
+
+  page-deep : pageRefusal q page ≡ 0 → entryRefusal true q ≡ 0
+  unfolding pageRefusal
+  page-deep f = elim (truth (eqb (entryRefusal true q) 0)) [
+    | holds e ↦ eqb-true (entryRefusal true q) 0 e
+    | fails e ↦ rw e at f
+  ]
+
+  page-is : pageRefusal q page ≡ 0 → paged q page ≡ record { number = 0; place = 0; count = deep q .count; pageCount = length (pageOf (bytesWritten (deep q))); buffer = deep q .buffer; page = writtenOver (pageOf (bytesWritten (deep q))) page }
+  unfolding paged
+  page-is f = rw (eq-eqb (pageRefusal q page) 0 f) refl
+
+  -- the lowest of its questions that says no
+  page-lowest : pageRefusal q page ≡ lowestOf (pageAsks q page)
+  unfolding pageRefusal entryRefusal lowestOf
+  page-lowest =
+      by (numberOfVerdict (verdictOf (q .session))) (question9 q) (question11 q) (question16 page)
+      ∙ sym (checked (q .session) (asks 9 (question9 q) ∷ asks 11 (question11 q) ∷ asks 16 (question16 page) ∷ []))
+    where
+      by : (v : ℕ) (a b c : Bool) → past (past v (cond a (cond true (cond b 0 11) 10) 9)) (cond c 0 16) ≡ past v (cond a (cond b (cond c 0 16) 11) 9)
+      by v a b c = elim (truth (eqb v 0)) [
+        | fails e ↦ ap (λ n. past n (cond c 0 16)) (past-no v _ e) ∙ past-no v _ e ∙ sym (past-no v _ e)
+        | holds e ↦ ap (λ n. past n (cond c 0 16)) (past-yes v _ e) ∙ rest a b ∙ sym (past-yes v _ e)
+      ]
+        where
+          rest : (a b : Bool) → past (cond a (cond true (cond b 0 11) 10) 9) (cond c 0 16) ≡ cond a (cond b (cond c 0 16) 11) 9
+          rest true true = refl
+          rest true false = refl
+          rest false b = refl
+
+called-page : (s : List ℕ) (c : ℕ) (text : List ℕ) (x : PageCalled s c text) → (a : Answer) × (DepthFirstRun s c a × (text ≡ pageOf (bytesWritten a)))
+called-page s c text x =
+    let q = x .request in
+    let zero : paged q (x .lent) .number ≡ 0 = sym (ap (λ a. a .number) (x .answers)) ∙ x .finished in
+    let yes = page-yes q (x .lent) zero in
+    let is = x .answers ∙ page-is q (x .lent) yes in
+    let run = pageOf (bytesWritten (deep q)) in
+    let count : x .answer .«page_count» ≡ length run = ap (λ a. a .pageCount) is in
+    let page : x .page ≡ writtenOver run (x .lent) = ap (λ a. a .page) is in (
+      deep q,
+      (
+        record { request = q; of = x .session-is; reader = x .clearance-is; answer = refl; finished = deep-finished q (page-deep q (x .lent) yes) },
+        x .written ∙ rw (count, page) (written-bytes run (x .lent)),
+      ),
+    )
+
+pub same-page-calls : SamePageCalls
+same-page-calls c s s' text text' d d' x x' y y' e =
+    let (a, (run, is)) = called-page s c text x in
+    let (a', (run', is')) = called-page s' c text' x' in
+    is ∙ same-page c s s' a a' d d' run run' y y' e ∙ sym is'
+
+pub demand-1-page : Demand1Page
+unfolding paged
+demand-1-page =
+    record {
+      refused = λ q page k w.
+          rw (page-lowest q page ∙ lowest-is (pageAsks q page) k w, ne-eqb k 0 (lowest-not (pageAsks q page) k w (unfold every in refl))) refl;
+      ended = λ q page y.
+          let yes = page-lowest q page ∙ all-zero (pageAsks q page) y in
+          let ran = deep-is q (page-deep q page yes) in
+          let bytes = deep-bytes q (page-deep q page yes) in
+          page-is q page yes ∙ rw (bytes, ran) refl;
+      put = λ q page. put-of (pageAsks q page);
     }

@@ -1,14 +1,20 @@
 -- What holds of pages, as statements. Their proofs are in proofs/Pages.antt. Assumes nothing.
 use Prim.Native.Nat.{ℕ, _+_, _-_}
 use mathlib.Core.Path.{_≡_}
-use mathlib.Core.List.{List, [], _∷_}
-use lib.ListN.{take, drop}
+use mathlib.Core.List.{List, [], _∷_, _++_}
+use lib.ListN.{length, take, drop}
 use Rattle.session.specs.Record.{Record}
+use Rattle.session.specs.Meaning.{rootOf}
+use Rattle.session.specs.Program.{programOf}
 use Rattle.session.specs.Emptied.{emptied}
-use Rattle.model.specs.Result.{levelIn, endingIn, writesIn, stampIn, firstIn, lastIn, stepsIn}
-use Rattle.model.specs.Entries.{Answer}
+use Rattle.model.specs.DepthFirst.{depthFirst}
+use Rattle.model.specs.Result.{resultOfDepthFirst, levelIn, endingIn, writesIn, stampIn, firstIn, lastIn, stepsIn}
+use Rattle.model.specs.Entries.{Request, Answer, question9, question11, bytesFor, writtenOver}
+use Rattle.model.specs.Faults.{Question, asks, checkAsks, AllYes, LowestNo, Put}
 use Rattle.model.specs.Reader.{bytesWritten, EqualToReader}
 use Rattle.model.specs.Demands.{DepthFirstRun}
+use Rattle.page.specs.declared.PageAnswer.{PageAnswer}
+use Rattle.page.specs.Entries.{question16, paged, PageAnswers}
 use Rattle.page.specs.Text.{lineOf, totalLine, totalOf, historiesIn, pageOf, readAligned, readHex}
 
 -- "Two accepted sessions whose depth-first runs, emptied for a reader's level, are equal to that reader give it the same page": the pages of the
@@ -49,3 +55,52 @@ pub record NumbersFit (a : Answer) : Type 0 where
 
 abbrev pub PagesFit : Type 0
 PagesFit = (c : ℕ) (s : List ℕ) (a : Answer) → DepthFirstRun s c a → NumbersFit a
+
+-- The same of calls: what the contract of the entry promises of one on session s, for a reader cleared to level c, that answered 0 and wrote
+-- this text to its page buffer
+pub record PageCalled (s : List ℕ) (c : ℕ) (text : List ℕ) : Type 0 where
+  pub request : Request
+  pub session-is : request .session ≡ s
+  pub clearance-is : request .clearance ≡ c
+  pub lent : List ℕ
+  pub answer : PageAnswer
+  pub buffer : List ℕ
+  pub page : List ℕ
+  pub answers : PageAnswers (paged request lent) answer buffer page
+  pub finished : answer .number ≡ 0
+  pub written : text ≡ take (answer .«page_count») page
+
+abbrev pub SamePageCalls : Type 0
+SamePageCalls =
+    (c : ℕ) (s s' text text' : List ℕ) (d d' : Answer)
+    → PageCalled s c text
+    → PageCalled s' c text'
+    → DepthFirstRun (emptied c s) c d
+    → DepthFirstRun (emptied c s') c d'
+    → EqualToReader d d'
+    → text ≡ text'
+
+-- the questions that the entry puts
+abbrev pub pageAsks : Request → List ℕ → List Question
+pageAsks q page =
+    checkAsks (q .session) ++ asks 9 (question9 q) ∷ asks 11 (question11 q) ∷ asks 16 (question16 page) ∷ []
+
+-- the bytes of the depth-first run
+abbrev pub bytesRun : Request → List ℕ
+bytesRun q = bytesFor q (resultOfDepthFirst (programOf (q .session)) (depthFirst (programOf (q .session)) (rootOf (q .session))))
+
+-- Demand 1 of the page entry, for any bytes, clearance and buffers
+pub record Demand1Page : Type 0 where
+  pub refused : (q : Request) (page : List ℕ) (k : ℕ) → LowestNo (pageAsks q page) k →
+      paged q page ≡ record { number = k; place = 0; count = 0; pageCount = 0; buffer = q .buffer; page = page }
+  pub ended : (q : Request) (page : List ℕ) → AllYes (pageAsks q page) →
+      paged q page
+      ≡ record {
+        number = 0;
+        place = 0;
+        count = length (bytesRun q);
+        pageCount = length (pageOf (bytesRun q));
+        buffer = writtenOver (bytesRun q) (q .buffer);
+        page = writtenOver (pageOf (bytesRun q)) page;
+      }
+  pub put : (q : Request) (page : List ℕ) → Put (pageAsks q page)

@@ -108,8 +108,8 @@ pub fn is_lowest(masks: &[u16], tallies: &[usize], level: usize) -> bool
 }
 
 // Question 14 of a level where no manager runs: does none hold back the first that waits? Of each level the
-// first manager that has not ended is asked; the others of that level have greater stamps and are no
-// ancestors.
+// first manager that has not ended is asked. The others there lie behind its whole interval of stamps: where
+// it does not hold back, they do not.
 fn is_free(masks: &[u16], tallies: &[usize], queue: &[u32], level: usize) -> bool
     requires { ⌜ Askable (now masks) (now tallies) (now queue) × (level < length (now masks)) × (managed (now tallies) level ≡ true) ⌝ }
     ensures { λ r. ⌜ r ≡ freeOf (now (masks .entry)) (now (tallies .entry)) (now (queue .entry)) level ⌝ }
