@@ -1,4 +1,4 @@
--- Document 01's proved cases M1 to M12, computed over the definitions: one table. Assumes nothing.
+-- Document 01's proved cases M1 to M12, M5 as document 02 answers it, computed over the definitions: one table. Assumes nothing.
 use Prim.Native.Nat.{ℕ}
 use mathlib.Core.Path.{_≡_, refl}
 use mathlib.Core.List.{List, [], _∷_, _++_}
