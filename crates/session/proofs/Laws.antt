@@ -3,6 +3,7 @@ pub mod Lists
 pub mod Rising
 pub mod Verdict
 pub mod Record
+pub mod Words
 pub mod Parts
 pub mod Choice
 pub mod Emptied

@@ -2,6 +2,7 @@
 pub mod Limits
 pub mod Lists
 pub mod Record
+pub mod Words
 pub mod Parts
 pub mod Questions
 pub mod Meaning

@@ -3,6 +3,7 @@
 use crate::limits::MAX_LEVELS;
 use crate::limits::MAX_OBJECTS;
 use crate::limits::MAX_STEPS;
+use crate::masks;
 use crate::places;
 use crate::record;
 ghost use mathlib.Core.Path.{_≡_};
@@ -36,7 +37,7 @@ fn is_padded(session: &[u8], count: usize) -> bool
     ensures { λ x. ⌜ x ≡ all count (λ i. zeroAt (from 3) (recordAt (now (session .entry)) i)) ⌝ }
 {
     for i in 0..count {
-        if !record::is_unused(session, i, places::MASK_END) {
+        if !record::are_unused(session, i, masks::FROM_MASK_END, masks::ALL) {
             return false;
         }
     }

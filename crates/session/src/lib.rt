@@ -3,6 +3,7 @@ pub mod contents;
 mod kinds;
 mod levels;
 pub mod limits;
+mod masks;
 mod methods;
 mod objects;
 mod places;

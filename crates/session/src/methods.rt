@@ -4,6 +4,7 @@ use crate::limits::FIELDS;
 use crate::limits::MAX_METHOD;
 use crate::limits::NAME_COUNT;
 use crate::limits::REGISTERS;
+use crate::masks;
 use crate::places;
 use crate::reader;
 use crate::record;
@@ -32,7 +33,7 @@ fn are_two_valid(session: &[u8], r: usize, a: u8, b: u8, limit: usize) -> bool
     if limit <= b as usize {
         return false;
     }
-    record::is_unused(session, r, places::OPERAND_C)
+    record::are_unused(session, r, masks::FROM_OPERAND_C, masks::ALL)
 }
 
 // The operands of SET.
@@ -43,11 +44,7 @@ fn are_set_valid(session: &[u8], r: usize, a: u8) -> bool
     if REGISTERS <= a {
         return false;
     }
-    if record::are_unused(session, r, places::OPERAND_B, places::OPERAND_N) {
-        record::is_word_unused(session, r, places::LAST_WORD)
-    } else {
-        false
-    }
+    record::are_unused(session, r, masks::FROM_OPERAND_B, masks::FROM_LAST_WORD)
 }
 
 // The operands of SEND, among so many objects.
@@ -64,7 +61,7 @@ fn are_send_valid(session: &[u8], r: usize, objects: usize, a: u8, b: u8, c: u8)
     if objects <= c as usize {
         return false;
     }
-    record::is_unused(session, r, places::OPERANDS_END)
+    record::are_unused(session, r, masks::FROM_OPERANDS_END, masks::ALL)
 }
 
 // The operands of QUIT.
@@ -75,7 +72,7 @@ fn are_quit_valid(session: &[u8], r: usize, a: u8) -> bool
     if REGISTERS <= a {
         return false;
     }
-    record::is_unused(session, r, places::OPERAND_B)
+    record::are_unused(session, r, masks::FROM_OPERAND_B, masks::ALL)
 }
 
 // The operands of a step in record `r`, among so many objects and in a method of `count` steps.

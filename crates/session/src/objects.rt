@@ -1,6 +1,7 @@
 // Question 6: the objects.
 use crate::limits::FIELD_MASKS;
 use crate::limits::FIELDS;
+use crate::masks;
 use crate::places;
 use crate::record;
 ghost use mathlib.Core.Path.{_≡_};
@@ -19,7 +20,12 @@ fn is_field_valid(session: &[u8], r: usize, k: usize) -> bool
     if (mask >> k) % 2 == 1 {
         true
     } else {
-        record::is_word_unused(session, r, places::FIRST_FIELD + places::WORD_BYTES * k)
+        record::are_unused(
+            session,
+            r,
+            masks::FIRST_OF_FIELD[k],
+            masks::SECOND_OF_FIELD[k],
+        )
     }
 }
 

@@ -42,14 +42,17 @@ pub const TAG: usize = 3;
 
 pub const PARAMETER: usize = 4;
 
-pub const PARAMETER_END: usize = PARAMETER + WORD_BYTES;
-
 // The tag of a number. "1 number, 0 NIL".
 pub const NUMBER_TAG: u8 = 1;
 
-// The bytes of a 32-bit number, and where the last two of a record's four words start.
+// The bytes of a 32-bit number, and where the last one of a record starts.
 pub const WORD_BYTES: usize = 4;
 
-pub const THIRD_WORD: usize = RECORD_BYTES - 2 * WORD_BYTES;
-
 pub const LAST_WORD: usize = RECORD_BYTES - WORD_BYTES;
+
+// The bytes of a 64-bit word, and where the two of a record start.
+pub const LONG_BYTES: usize = 8;
+
+pub const FIRST_LONG: usize = 0;
+
+pub const SECOND_LONG: usize = RECORD_BYTES - LONG_BYTES;

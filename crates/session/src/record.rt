@@ -6,7 +6,8 @@ use crate::places;
 ghost use mathlib.Core.Path.{_≡_};
 ghost use Prim.Native.Nat.{_+_, _≤_, _<_};
 ghost use Rattle.session.specs.Limits.{recordBytes};
-ghost use Rattle.session.specs.Record.{recordAt, recordCount, byteOf, wordOf, zeroAt, between, from, stepOf};
+ghost use Rattle.session.specs.Record.{recordAt, recordCount, byteOf, wordOf, stepOf};
+ghost use Rattle.session.specs.Words.{longBytes, longOf, SaysUnused};
 ghost use Rattle.session.specs.Parts.{keyOf};
 
 // "Operations: 1 SET .. 7 QUIT".
@@ -30,6 +31,9 @@ const SECOND: u32 = 1 << 8;
 const THIRD: u32 = 1 << 16;
 
 const FOURTH: u32 = 1 << 24;
+
+// And the second half of a 64-bit word.
+const HIGH_WORD: u64 = 1 << 32;
 
 // What a step's object is worth in the number that stands for (object, name).
 pub const KEY_OBJECT: usize = 1 << 8;
@@ -71,39 +75,33 @@ pub fn word_at(session: &[u8], r: usize, k: usize) -> u32
     b0 + SECOND * b1 + THIRD * b2 + FOURTH * b3
 }
 
-// Whether the bytes from `a` up to `e` of record `r` are 0.
-pub fn are_unused(session: &[u8], r: usize, a: usize, e: usize) -> bool
-    requires { ⌜ (r < recordCount (now session)) × (e ≤ recordBytes) ⌝ }
-    ensures { λ x. ⌜ x ≡ zeroAt (between a e) (recordAt (now (session .entry)) r) ⌝ }
+// A word of 32 bits as one of 64.
+fn long(w: u32) -> u64
+    ensures { λ r. ⌜ r ≡ w ⌝ }
 {
-    for k in a..e {
-        if byte_at(session, r, k) != 0 {
-            return false;
-        }
-    }
-    true
+    w as u64
 }
 
-// Whether the four bytes from `k` on of record `r` are 0.
-pub fn is_word_unused(session: &[u8], r: usize, k: usize) -> bool
-    requires { ⌜ (r < recordCount (now session)) × (k + 4 ≤ recordBytes) ⌝ }
-    ensures { λ x. ⌜ x ≡ zeroAt (between k (k + 4)) (recordAt (now (session .entry)) r) ⌝ }
+// The 64-bit word in the bytes from `k` on of record `r`.
+fn long_at(session: &[u8], r: usize, k: usize) -> u64
+    requires { ⌜ (r < recordCount (now session)) × (k + longBytes ≤ recordBytes) ⌝ }
+    ensures { λ x. ⌜ x ≡ longOf (recordAt (now (session .entry)) r) k ⌝ }
 {
-    word_at(session, r, k) == 0
+    let low = long(word_at(session, r, k));
+    let high = long(word_at(session, r, k + places::WORD_BYTES));
+    low + HIGH_WORD * high
 }
 
-// Whether the bytes from `a` on of record `r` are 0, where `a` is no further on than the third word.
-pub fn is_unused(session: &[u8], r: usize, a: usize) -> bool
-    requires { ⌜ (r < recordCount (now session)) × (a ≤ 8) ⌝ }
-    ensures { λ x. ⌜ x ≡ zeroAt (from a) (recordAt (now (session .entry)) r) ⌝ }
+// Whether the chosen bytes of record `r` are 0. The choice is given as masks of its two 64-bit words: each
+// chosen byte of a mask is all ones, and each other byte 0.
+pub fn are_unused(session: &[u8], r: usize, first: u64, second: u64) -> bool
+    requires { ⌜ r < recordCount (now session) ⌝ }
+    ensures { λ x. ⌜ SaysUnused (recordAt (now (session .entry)) r) first second x ⌝ }
 {
-    if !are_unused(session, r, a, places::THIRD_WORD) {
+    if long_at(session, r, places::FIRST_LONG) & first != 0 {
         return false;
     }
-    if !is_word_unused(session, r, places::THIRD_WORD) {
-        return false;
-    }
-    is_word_unused(session, r, places::LAST_WORD)
+    long_at(session, r, places::SECOND_LONG) & second == 0
 }
 
 // The script step that record `r` is.

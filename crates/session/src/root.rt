@@ -1,5 +1,6 @@
 // Question 8: the root message.
 use crate::limits::NAME_COUNT;
+use crate::masks;
 use crate::places;
 use crate::record;
 ghost use mathlib.Core.Path.{_≡_};
@@ -17,7 +18,7 @@ fn is_parameter_valid(session: &[u8], r: usize) -> bool
     if record::byte_at(session, r, places::TAG) == places::NUMBER_TAG {
         true
     } else {
-        record::is_word_unused(session, r, places::PARAMETER)
+        record::are_unused(session, r, masks::FROM_PARAMETER, masks::NONE)
     }
 }
 
@@ -38,5 +39,5 @@ pub fn is_valid(session: &[u8], r: usize, objects: usize) -> bool
     if !is_parameter_valid(session, r) {
         return false;
     }
-    record::is_unused(session, r, places::PARAMETER_END)
+    record::are_unused(session, r, masks::NONE, masks::ALL)
 }

@@ -1,6 +1,6 @@
 -- Laws of tests: the halves of `&&`, and what `all` and `first` say of the numbers below n. Assumes nothing.
 use Prim.Native.Nat.{ℕ, zero, suc, _+_, _-_, _≤_, _<_}
-use mathlib.Core.Path.{_≡_, refl, sym, _∙_, ap₂}
+use mathlib.Core.Path.{_≡_, refl, sym, _∙_}
 use mathlib.Core.Bool.{Bool, true, false, not, cond, _&&_, true≢false, false≢true}
 use native.Mathlib.Omega.{arith}
 use native.Mathlib.Decide.{decLt}
@@ -107,18 +107,6 @@ module _ (n : ℕ) (p : ℕ → Bool) where
 
   pub tested-all : (i : ℕ) → Tested n p i → n ≤ i → true ≡ all n p
   tested-all i h l = let z : i ≡ n = omega arith in rw z at (sym (h .1))
-
--- where one test is two, so is the test of all
-pub all-both : (n : ℕ) (p q r : ℕ → Bool) → ((i : ℕ) → r i ≡ (p i && q i)) → all n r ≡ (all n p && all n q)
-unfolding all
-all-both zero p q r f = refl
-all-both (suc n) p q r f = ap₂ _&&_ (all-both n p q r f) (f n) ∙ swap (all n p) (all n q) (p n) (q n)
-  where
-    swap : (a b c d : Bool) → (a && b && (c && d)) ≡ (a && c && (b && d))
-    swap true true c d = refl
-    swap true false true d = refl
-    swap true false false d = refl
-    swap false b c d = refl
 
 -- `first`: it is at most n; below n it passes, and nothing before it does
 pub first-le : (n : ℕ) (p : ℕ → Bool) → first n p ≤ n

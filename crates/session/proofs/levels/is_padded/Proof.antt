@@ -1,6 +1,9 @@
 -- `session::levels::is_padded` meets its contract. The invariant: the records passed have no byte used from 3 on. Assumes nothing.
 use Prim.Native.Nat.{_-_}
+use mathlib.Core.Path.{refl}
 use native.Mathlib.Omega.{arith}
+use Rattle.session.specs.Lists.{tab}
+use Rattle.session.specs.Words.{joinedFrom, kept}
 use Rattle.lattice.proofs.Laws.Range.{Tested, tested-none, tested-more, tested-fails, tested-all}
 use Rattle.session.specs.Record.{recordAt, zeroAt, from}
 use Rattle.session.proofs.levels.is_padded.Statement.{statement}
@@ -15,11 +18,12 @@ abbrev μ-loop : tie.MeasureT-loop
 loop-holds : tie.Need-loop-holds Inv-loop μ-loop
 loop-holds c = tested-none _ _
 
-is-unused-requires : tie.Need-is-unused-requires Inv-loop μ-loop
-is-unused-requires c κs = omega arith
+are-unused-requires : tie.Need-are-unused-requires Inv-loop μ-loop
+are-unused-requires c κs = omega arith
 
 returns : tie.Need-returns Inv-loop μ-loop
-returns c = tested-fails _ _ _ _ (c .before .before .loop-test .taken) (c .before .is-unused .ensures) (c .if1 .taken)
+unfolding joinedFrom kept tab
+returns c = tested-fails _ _ _ _ (c .before .before .loop-test .taken) (c .before .are-unused .ensures (from 3) (record { first-is = refl; second-is = refl })) (c .if1 .taken)
 
 add-i : tie.Need-add-i Inv-loop μ-loop
 add-i c = omega arith
@@ -28,8 +32,9 @@ loop-less : tie.Need-loop-less Inv-loop μ-loop
 loop-less c = omega arith
 
 loop-again : tie.Need-loop-again Inv-loop μ-loop
+unfolding joinedFrom kept tab
 loop-again c =
-    tested-more _ _ _ _ (c .before .before .before .loop .inv) (c .before .before .loop-test .taken) (c .before .is-unused .ensures) (c .if1 .left)
+    tested-more _ _ _ _ (c .before .before .before .loop .inv) (c .before .before .loop-test .taken) (c .before .are-unused .ensures (from 3) (record { first-is = refl; second-is = refl })) (c .if1 .left)
 
 returns-2 : tie.Need-returns-2 Inv-loop μ-loop
 returns-2 c = tested-all _ _ _ (c .before .loop .inv) (c .loop-test .left)
@@ -41,7 +46,7 @@ is-padded-spec =
     Inv-loop
     μ-loop
     loop-holds
-    is-unused-requires
+    are-unused-requires
     returns
     add-i
     loop-less

@@ -1,5 +1,9 @@
 -- `session::methods::are_send_valid` meets its contract. Assumes nothing.
+use mathlib.Core.Path.{refl}
 use borrow.Author.Tests.{lt-ltb, le-ltb}
+use Rattle.session.specs.Record.{from}
+use Rattle.session.specs.Lists.{tab}
+use Rattle.session.specs.Words.{joinedFrom, kept}
 use borrow.Author.Needs.{needs}
 use Rattle.session.proofs.methods.are_send_valid.Statement.{statement}
 use Rattle.session.proofs.methods.are_send_valid.Tie as tie
@@ -13,12 +17,13 @@ returns-2 c = simp (lt-ltb _ _ (c .before .if1 .left), le-ltb _ _ (c .if2 .taken
 returns-3 : tie.Need-returns-3
 returns-3 c = simp (lt-ltb _ _ (c .before .before .if1 .left), lt-ltb _ _ (c .before .if2 .left), le-ltb _ _ (c .if3 .taken))
 
-is-unused-requires : tie.Need-is-unused-requires
-is-unused-requires c κs = search needs
+are-unused-requires : tie.Need-are-unused-requires
+are-unused-requires c κs = search needs
 
 returns-4 : tie.Need-returns-4
+unfolding joinedFrom kept tab
 returns-4 c =
-    simp (lt-ltb _ _ (c .before .before .before .if1 .left), lt-ltb _ _ (c .before .before .if2 .left), lt-ltb _ _ (c .before .if3 .left)) (c .is-unused .ensures)
+    simp (lt-ltb _ _ (c .before .before .before .if1 .left), lt-ltb _ _ (c .before .before .if2 .left), lt-ltb _ _ (c .before .if3 .left)) (c .are-unused .ensures (from 7) (record { first-is = refl; second-is = refl }))
 
 pub are-send-valid-spec : {M : Type 1} → statement M
-are-send-valid-spec = tie.close (tie.spec returns returns-2 returns-3 is-unused-requires returns-4)
+are-send-valid-spec = tie.close (tie.spec returns returns-2 returns-3 are-unused-requires returns-4)

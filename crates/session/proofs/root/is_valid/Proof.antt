@@ -1,5 +1,8 @@
 -- `session::root::is_valid` meets its contract: each part of question 8, put where the one before says yes. Assumes nothing.
-use mathlib.Core.Path.{sym, _∙_}
+use mathlib.Core.Path.{refl, sym, _∙_}
+use Rattle.session.specs.Record.{from}
+use Rattle.session.specs.Lists.{tab}
+use Rattle.session.specs.Words.{joinedFrom, kept}
 use borrow.Author.Tests.{lt-ltb, le-ltb, le-leb, lt-leb, not-true, not-false}
 use Rattle.session.specs.Questions.{rootValid}
 use borrow.Author.Needs.{needs}
@@ -52,11 +55,11 @@ returns-4 c =
       sym (c .before .is-parameter-valid .ensures) ∙ not-true _ (c .if4 .taken),
     )
 
-is-unused-requires : tie.Need-is-unused-requires
-is-unused-requires c κs = search needs
+are-unused-requires : tie.Need-are-unused-requires
+are-unused-requires c κs = search needs
 
 returns-5 : tie.Need-returns-5
-unfolding rootValid
+unfolding rootValid joinedFrom kept tab
 returns-5 c =
     simp (
       lt-ltb _ _ (rw (c .before .before .before .before .before .before .before .before .byte-at .ensures) at (c .before .before .before .before .before .before .before .if1 .left)),
@@ -64,7 +67,7 @@ returns-5 c =
       le-leb _ _ (rw (c .before .before .before .before .byte-at3 .ensures) at (c .before .before .before .if3 .left)),
       sym (c .before .before .is-parameter-valid .ensures) ∙ not-false _ (c .before .if4 .left),
     )
-    (c .is-unused .ensures)
+    (c .are-unused .ensures (from 8) (record { first-is = refl; second-is = refl }))
 
 pub is-valid-spec : {M : Type 1} → statement M
 is-valid-spec =
@@ -79,5 +82,5 @@ is-valid-spec =
     returns-3
     is-parameter-valid-requires
     returns-4
-    is-unused-requires
+    are-unused-requires
     returns-5)
