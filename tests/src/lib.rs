@@ -7,6 +7,7 @@ pub mod guarded;
 pub mod library;
 pub mod limits;
 pub mod measured;
+pub mod padding;
 pub mod random;
 pub mod record;
 pub mod reference;

@@ -1,8 +1,9 @@
-//! Compares the library with the reference: on the recorded vectors, on the
-//! stated cases, on fixed sessions and on generated ones, valid and damaged, with
-//! all runs. Ends with a report of how often each answer, each length, each
-//! clearance, each broken rule and each limit occurred; if one occurred too rarely,
-//! that is a failure, unless fewer sessions were asked for than by default.
+//! Compares the library with the reference: on the recorded vectors, on the stated
+//! cases, on fixed sessions, on small ones with one byte or two changed, and on
+//! generated ones, valid and damaged, with all runs. Ends with a report of how often
+//! each answer, each length, each clearance, each broken rule and each limit
+//! occurred; if one occurred too rarely, that is a failure, unless fewer sessions
+//! were asked for than by default.
 //! Arguments: number of sessions of each sort (20000), seed (1), first case (0).
 
 use lupinpause_tests::counts::Counts;
@@ -14,7 +15,7 @@ use lupinpause_tests::request::{perform, Fill};
 use lupinpause_tests::trial::Trial;
 use lupinpause_tests::tuned::Tuned;
 use lupinpause_tests::vectors::Vector;
-use lupinpause_tests::{sessions, stated, vectors};
+use lupinpause_tests::{padding, sessions, stated, vectors};
 use std::fmt::Display;
 use std::panic::{catch_unwind, AssertUnwindSafe};
 use std::process::ExitCode;
@@ -51,6 +52,7 @@ fn run() -> Result<(), String> {
     known("vector", &numbered(recorded))?;
     known("stated case", &stated::cases())?;
     fixed(seed)?;
+    padded()?;
     let start = Instant::now();
     let counts = generated(first, count, seed)?;
     print!("{}", counts.report());
@@ -120,6 +122,16 @@ fn fixed(seed: u64) -> Result<(), String> {
         "fixed sessions: {} agree, and {} examples",
         sessions::FIXED.len(),
         examples.len()
+    );
+    Ok(())
+}
+
+/// Small sessions in which one byte or two changed, padding and others.
+fn padded() -> Result<(), String> {
+    let tried = padding::all(&Compiled)?;
+    println!(
+        "padding: {} checks agree with reference, tuned variant and library, {} of them as stated",
+        tried.checks, tried.stated
     );
     Ok(())
 }
