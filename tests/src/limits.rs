@@ -28,7 +28,7 @@ pub const RESULT_LENGTH: usize = 4624;
 /// Bytes of a page's line: 27 columns and a line feed.
 pub const PAGE_LINE: usize = 28;
 /// Bytes of the page buffer that a run with a page asks for.
-pub const PAGE_LENGTH: usize = 7196;
+pub const PAGE_LENGTH: usize = 7420;
 /// The most managers of a session: the root, its 15 forks at the one level next
 /// above it, and 32 at each of six further levels.
 pub const MANAGERS_MAX: usize = 1 + FORKS_MAX as usize + 6 * KEPT_MAX;

@@ -23,9 +23,9 @@ resultBytes = recordBytes * (maxObjects + maxLevels * maxManagers + 1)
 abbrev pub lineBytes : ℕ
 lineBytes = 27 + 1
 
--- question 16: a line for each manager and the total
+-- question 16: a line for each manager, the total and each level
 abbrev pub pageBytes : ℕ
-pageBytes = lineBytes * (maxLevels * maxManagers + 1)
+pageBytes = lineBytes * (maxLevels * maxManagers + 1 + maxLevels)
 
 -- a plain run is over within so many scheduler steps: a start and the script steps of each manager
 abbrev pub maxSchedule : ℕ

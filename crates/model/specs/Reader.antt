@@ -7,10 +7,10 @@ use mathlib.Core.List.{List}
 use lib.Dec.{eqb}
 use lib.ListN.{take}
 use Rattle.session.specs.Lists.{select}
-use Rattle.session.specs.Record.{Record, byteOf}
+use Rattle.session.specs.Record.{Record}
 use Rattle.session.specs.Parts.{ofKind}
 use Rattle.session.specs.Program.{Program}
-use Rattle.model.specs.Result.{Result, bytesOf}
+use Rattle.model.specs.Result.{Result, levelIn, bytesOf}
 use Rattle.model.specs.Entries.{Answer}
 
 -- "A run .. is finished when every question it uses says yes"
@@ -27,7 +27,7 @@ EqualToReader a b = bytesWritten a ≡ bytesWritten b
 
 -- "the .. kind 6 records of that level", in their order
 abbrev pub historiesAt : ℕ → List ℕ → List Record
-historiesAt l bytes = select (λ rec. eqb (byteOf rec 1) l) (ofKind 6 bytes)
+historiesAt l bytes = select (λ rec. eqb (levelIn rec) l) (ofKind 6 bytes)
 
 -- document 01's comparison, record by record: "the result bytes written hold the same kind 5 records in the same order, for every level the same
 -- kind 6 records of that level in the same order, and either the same kind 7 record or none in both"

@@ -17,5 +17,5 @@ pub const RESULT_BYTES: usize = RECORD_BYTES * (MAX_OBJECTS + MAX_LEVELS * MAX_M
 // A line of a page: 27 columns and a line feed.
 pub const LINE_BYTES: usize = 27 + 1;
 
-// Question 16: a line for each manager and the total.
-pub const PAGE_BYTES: usize = LINE_BYTES * (MAX_LEVELS * MAX_MANAGERS + 1);
+// Question 16: a line for each manager, the total and each level.
+pub const PAGE_BYTES: usize = LINE_BYTES * (MAX_LEVELS * MAX_MANAGERS + 1 + MAX_LEVELS);

@@ -8,7 +8,7 @@ use Rattle.session.specs.Lists.{select, tab, joined}
 use Rattle.session.specs.Record.{Record, recordAt, recordsOf, wordOf}
 use Rattle.session.specs.Parts.{ofKind}
 use Rattle.model.specs.Limits.{pageBytes}
-use Rattle.page.specs.Text.{hexIn, alignedIn, frontOf, lineOf, totalLine, sumOf, pageOf, readHex, hexFrom, readAligned, alignedFrom}
+use Rattle.page.specs.Text.{hexIn, alignedIn, frontOf, lineOf, totalLine, averageLine, sumOf, levelsIn, pageOf, readHex, hexFrom, readAligned, alignedFrom}
 
 -- the codes of a text's characters
 unfoldable pub codes : String → List ℕ
@@ -41,11 +41,11 @@ full = 0x06 ∷ 0x07 ∷ 0x02 ∷ 0x10 ∷ 0x90 ∷ 0xBA ∷ 0xDC ∷ 0xFE ∷ 0
 
 pub record Examples : Type 0 where
   session-w-0 : pageOf (joined (object0 ∷ history0 ∷ reply ∷ []))
-      ≡ codes "00000000 0 0  1   1   2   5\nTOTAL                     5\n"
+      ≡ codes "00000000 0 0  1   1   2   5\nTOTAL                     5\nLEVEL 0           5       0\n"
   session-w-1 : pageOf (joined (object0 ∷ object1 ∷ history0 ∷ history1 ∷ reply ∷ []))
-      ≡ codes "00000000 0 0  1   1   2   5\n10000000 1 0  2   1   1   5\nTOTAL                    10\n"
+      ≡ codes "00000000 0 0  1   1   2   5\n10000000 1 0  2   1   1   5\nTOTAL                    10\nLEVEL 0           5       0\nLEVEL 1           5       0\n"
   -- the third field of an object is not among the steps
-  objects-aside : pageOf (joined (object2 ∷ history0 ∷ [])) ≡ codes "00000000 0 0  1   1   2   5\nTOTAL                     5\n"
+  objects-aside : pageOf (joined (object2 ∷ history0 ∷ [])) ≡ codes "00000000 0 0  1   1   2   5\nTOTAL                     5\nLEVEL 0           5       0\n"
   nothing-shown : pageOf [] ≡ codes "TOTAL                     0\n"
   filled : lineOf full ≡ codes "FEDCBA90 7 2 16 497 512 256\n"
   largest-total : totalLine 57600 ≡ codes "TOTAL                 57600\n"
@@ -54,10 +54,10 @@ pub record Examples : Type 0 where
   zero : alignedIn 3 0 ≡ codes "  0"
   ten : alignedIn 3 10 ≡ codes " 10"
   ten-read : readAligned (codes " 10") ≡ 10
-  question-16 : pageBytes ≡ 7196
+  question-16 : pageBytes ≡ 7420
 
 pub examples : Examples
-unfolding codes hexIn alignedIn frontOf lineOf totalLine sumOf pageOf hexFrom alignedFrom select tab joined recordAt recordsOf wordOf ofKind
+unfolding codes hexIn alignedIn frontOf lineOf totalLine averageLine sumOf levelsIn pageOf hexFrom alignedFrom select tab joined recordAt recordsOf wordOf ofKind
 examples =
     record {
       session-w-0 = refl;

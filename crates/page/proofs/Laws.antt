@@ -2,6 +2,7 @@
 pub mod Lengths
 pub mod Placing
 pub mod Shown
+pub mod Levels
 pub mod Numbers
 pub mod Fits
 pub mod Answers

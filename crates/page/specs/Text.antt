@@ -5,12 +5,14 @@ use Prim.Native.Nat.{ℕ, zero, suc, _+_, _*_, _-_, _/_, _%_}
 use mathlib.Core.Bool.{cond}
 use mathlib.Core.List.{List, [], _∷_, _++_, map}
 use lib.Dec.{eqb, ltb}
-use lib.ListN.{replicate}
-use Rattle.session.specs.Lists.{joined}
+use lib.ListN.{length, replicate}
+use Rattle.session.specs.Limits.{maxLevels}
+use Rattle.session.specs.Lists.{select, tab, joined}
 use Rattle.session.specs.Record.{Record}
 use Rattle.session.specs.Parts.{ofKind}
 use Rattle.model.specs.Limits.{lineBytes}
 use Rattle.model.specs.Result.{levelIn, endingIn, writesIn, stampIn, firstIn, lastIn, stepsIn}
+use Rattle.model.specs.Reader.{historiesAt}
 
 abbrev pub lineFeed : ℕ
 lineFeed = 10
@@ -32,9 +34,12 @@ unfoldable pub alignedIn : ℕ → ℕ → List ℕ
 alignedIn zero n = []
 alignedIn (suc columns) n = cond (ltb n 10) (replicate columns blank) (alignedIn columns (n / 10)) ++ (digitOf (n % 10) ∷ [])
 
--- such a number behind a column that is "unused"
+-- such a number behind a column that is "unused", and behind a gap of several
 abbrev pub fieldIn : ℕ → ℕ → List ℕ
 fieldIn columns n = blank ∷ alignedIn columns n
+
+abbrev pub apartIn : ℕ → ℕ → ℕ → List ℕ
+apartIn gap columns n = replicate gap blank ++ alignedIn columns n
 
 -- "8 upper-case hex digits at columns 1 to 8", "level at 10, ending at 12"
 abbrev pub stampPlaces : ℕ
@@ -89,7 +94,33 @@ abbrev pub totalGap : ℕ
 totalGap = lineBytes - 1 - wordColumns - totalColumns
 
 unfoldable pub totalLine : ℕ → List ℕ
-totalLine n = totalWord ++ replicate totalGap blank ++ alignedIn totalColumns n ++ (lineFeed ∷ [])
+totalLine n = totalWord ++ apartIn totalGap totalColumns n ++ (lineFeed ∷ [])
+
+-- "LEVEL at columns 1 to 5", "the level at 7"
+abbrev pub levelWord : List ℕ
+levelWord = 76 ∷ 69 ∷ 86 ∷ 69 ∷ 76 ∷ []
+
+-- "quotient at 17 to 19", "remainder at 25 to 27", and the blanks before each: from column 8 and from column 20 on
+abbrev pub quotientColumns : ℕ
+quotientColumns = 3
+
+abbrev pub remainderColumns : ℕ
+remainderColumns = 3
+
+abbrev pub quotientGap : ℕ
+quotientGap = 17 - 8
+
+abbrev pub remainderGap : ℕ
+remainderGap = 25 - 20
+
+-- the line of a level
+unfoldable pub averageLine : ℕ → ℕ → ℕ → List ℕ
+averageLine level quotient remainder =
+    levelWord
+    ++ fieldIn levelColumns level
+    ++ apartIn quotientGap quotientColumns quotient
+    ++ apartIn remainderGap remainderColumns remainder
+    ++ (lineFeed ∷ [])
 
 unfoldable pub sumOf : List ℕ → ℕ
 sumOf [] = 0
@@ -103,9 +134,31 @@ historiesIn bytes = ofKind 6 bytes
 abbrev pub totalOf : List ℕ → ℕ
 totalOf bytes = sumOf (map stepsIn (historiesIn bytes))
 
--- the page: a line for each history, and "the last line"
+-- the "number of managers" of a level, and "the level's sum" of script steps, over its histories shown
+abbrev pub managersAt : ℕ → List ℕ → ℕ
+managersAt level bytes = length (historiesAt level bytes)
+
+abbrev pub stepsAt : ℕ → List ℕ → ℕ
+stepsAt level bytes = sumOf (map stepsIn (historiesAt level bytes))
+
+-- "the mean script steps as a whole quotient .. and its remainder"
+abbrev pub quotientAt : ℕ → List ℕ → ℕ
+quotientAt level bytes = stepsAt level bytes / managersAt level bytes
+
+abbrev pub remainderAt : ℕ → List ℕ → ℕ
+remainderAt level bytes = stepsAt level bytes % managersAt level bytes
+
+-- each "shown level that had managers, by level number". Every level of a session is below `maxLevels`
+unfoldable pub levelsIn : List ℕ → List ℕ
+levelsIn bytes = select (λ level. ltb 0 (managersAt level bytes)) (tab maxLevels (λ level. level))
+
+abbrev pub averageOf : List ℕ → ℕ → List ℕ
+averageOf bytes level = averageLine level (quotientAt level bytes) (remainderAt level bytes)
+
+-- the page: a line for each history, the total, and "Below the total .. one line per shown level that had managers"
 unfoldable pub pageOf : List ℕ → List ℕ
-pageOf bytes = joined (map lineOf (historiesIn bytes)) ++ totalLine (totalOf bytes)
+pageOf bytes =
+    joined (map lineOf (historiesIn bytes)) ++ totalLine (totalOf bytes) ++ joined (map (averageOf bytes) (levelsIn bytes))
 
 -- a number read back from its columns, n standing for what was read before: a blank is no digit
 unfoldable pub alignedFrom : ℕ → List ℕ → ℕ

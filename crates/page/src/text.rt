@@ -1,18 +1,20 @@
 // The text of a page, as ASCII. Each function writes to a page from `at` on and returns the place behind what it
 // wrote.
 use model::LINE_BYTES;
+use session::limits::MAX_LEVELS;
 use session::limits::RECORD_BYTES;
 ghost use Prim.Native.Nat.{_+_, _^_, _≤_, _<_};
 ghost use mathlib.Core.Path.{_≡_};
 ghost use mathlib.Core.List.{[], _∷_};
 ghost use lib.ListN.{length, replicate};
-ghost use Rattle.session.specs.Limits.{recordBytes};
+ghost use Rattle.session.specs.Limits.{recordBytes, maxLevels};
+ghost use Rattle.session.specs.Lists.{tab, joined};
 ghost use Rattle.session.specs.Record.{recordAt, recordCount, byteOf, wordOf};
 ghost use Rattle.model.specs.Limits.{lineBytes, resultBytes};
 ghost use Rattle.model.specs.Result.{halfOf};
 ghost use Rattle.records.specs.Writing.{Placed, Written};
-ghost use Rattle.page.specs.Text.{blank, digitOf, hexIn, alignedIn, fieldIn, frontOf, lineOf, wordColumns, totalWord, totalLine, pageOf};
-ghost use Rattle.page.specs.Shown.{frontBytes, shownLine, shownSteps};
+ghost use Rattle.page.specs.Text.{blank, digitOf, hexIn, alignedIn, fieldIn, apartIn, frontOf, lineOf, wordColumns, totalLine, averageLine, pageOf};
+ghost use Rattle.page.specs.Shown.{frontBytes, shownLine, shownSteps, Tallied, shownAverage, averageIn};
 
 // The kind of a history's record, and where its numbers stand in it.
 const HISTORY: u32 = 6;
@@ -38,7 +40,7 @@ const SECOND: u32 = 1 << 8;
 
 const THIRD: u32 = 1 << 16;
 
-// How many columns each number has, and the word of the last line.
+// How many columns each number has, and the word of a line that is not a history's.
 const STAMP_PLACES: usize = 8;
 
 const LEVEL_COLUMNS: usize = 1;
@@ -55,8 +57,17 @@ const WORD_COLUMNS: usize = 5;
 
 const TOTAL_COLUMNS: usize = 5;
 
-// The blanks between the word and the number of the last line.
+const QUOTIENT_COLUMNS: usize = 3;
+
+const REMAINDER_COLUMNS: usize = 3;
+
+// The blanks between the word and the number of the total's line.
 const TOTAL_GAP: usize = LINE_BYTES - 1 - WORD_COLUMNS - TOTAL_COLUMNS;
+
+// The blanks before the quotient and the remainder of a level: from column 8 and from column 20 on.
+const QUOTIENT_GAP: usize = 17 - 8;
+
+const REMAINDER_GAP: usize = 25 - 20;
 
 // The digit of a number below 16, in upper case.
 fn digit(n: u32) -> u8
@@ -125,6 +136,15 @@ fn put_field(page: &mut [u8], at: usize, columns: usize, n: u32) -> usize
     put_aligned(page, next, columns, n)
 }
 
+// Writes blanks and a number behind them.
+fn put_apart(page: &mut [u8], at: usize, gap: usize, columns: usize, n: u32) -> usize
+    requires { ⌜ at + gap + columns ≤ length (now page) ⌝ }
+    ensures { λ next. ⌜ Placed (apartIn gap columns n) at (now (page .entry)) (now (page .exit)) next ⌝ }
+{
+    let next = put_blanks(page, at, gap);
+    put_aligned(page, next, columns, n)
+}
+
 // A byte as a number of 32 bits.
 fn wide(byte: u8) -> u32
     ensures { λ r. ⌜ (r ≡ byte) × (r < 2 ^ 8) ⌝ }
@@ -190,26 +210,37 @@ fn put_line(page: &mut [u8], at: usize, bytes: &[u8], number: usize) -> usize
     put(page, end, b'\n')
 }
 
-// Writes the word of the last line.
-fn put_word(page: &mut [u8], at: usize) -> usize
-    requires { ⌜ at + wordColumns ≤ length (now page) ⌝ }
-    ensures { λ next. ⌜ Placed totalWord at (now (page .entry)) (now (page .exit)) next ⌝ }
+// Writes the word of a line.
+fn put_word(page: &mut [u8], at: usize, word: &[u8; WORD_COLUMNS]) -> usize
+    requires { ⌜ (length (now word) ≡ wordColumns) × (at + wordColumns ≤ length (now page)) ⌝ }
+    ensures { λ next. ⌜ Placed (now (word .entry)) at (now (page .entry)) (now (page .exit)) next ⌝ }
 {
-    let second = put(page, at, b'T');
-    let third = put(page, second, b'O');
-    let fourth = put(page, third, b'T');
-    let fifth = put(page, fourth, b'A');
-    put(page, fifth, b'L')
+    let mut next = at;
+    for i in 0..WORD_COLUMNS {
+        next = put(page, next, word[i]);
+    }
+    next
 }
 
-// Writes the last line.
+// Writes the line of the total.
 fn put_total(page: &mut [u8], at: usize, total: u32) -> usize
     requires { ⌜ at + lineBytes ≤ length (now page) ⌝ }
     ensures { λ next. ⌜ Placed (totalLine total) at (now (page .entry)) (now (page .exit)) next ⌝ }
 {
-    let gap = put_word(page, at);
-    let number = put_blanks(page, gap, TOTAL_GAP);
-    let end = put_aligned(page, number, TOTAL_COLUMNS, total);
+    let second = put_word(page, at, b"TOTAL");
+    let end = put_apart(page, second, TOTAL_GAP, TOTAL_COLUMNS, total);
+    put(page, end, b'\n')
+}
+
+// Writes the line of a level.
+fn put_average(page: &mut [u8], at: usize, level: u32, quotient: u32, remainder: u32) -> usize
+    requires { ⌜ at + lineBytes ≤ length (now page) ⌝ }
+    ensures { λ next. ⌜ Placed (averageLine level quotient remainder) at (now (page .entry)) (now (page .exit)) next ⌝ }
+{
+    let second = put_word(page, at, b"LEVEL");
+    let third = put_field(page, second, LEVEL_COLUMNS, level);
+    let fourth = put_apart(page, third, QUOTIENT_GAP, QUOTIENT_COLUMNS, quotient);
+    let end = put_apart(page, fourth, REMAINDER_GAP, REMAINDER_COLUMNS, remainder);
     put(page, end, b'\n')
 }
 
@@ -235,16 +266,62 @@ fn steps_shown(bytes: &[u8], number: usize) -> u32
     half_in(bytes, number, STEPS)
 }
 
-// Writes the page of some result bytes: a line for each history, in their order, and the total over these.
+// Adds a record that is a history's to the steps and the managers of its level. Every level of a session is below
+// MAX_LEVELS; a record that names another has no line of a level.
+fn tally(steps: &mut [u32; MAX_LEVELS], managers: &mut [u32; MAX_LEVELS], bytes: &[u8], number: usize)
+    requires { ⌜ Tallied (now bytes) number (now steps) (now managers) × (number < recordCount (now bytes)) × (length (now bytes) ≤ resultBytes) ⌝ }
+    ensures { λ _. ⌜ Tallied (now (bytes .entry)) (number + 1) (now (steps .exit)) (now (managers .exit)) ⌝ }
+{
+    if byte_in(bytes, number, KIND) != HISTORY {
+        return;
+    }
+    let level = byte_in(bytes, number, LEVEL) as usize;
+    if level >= MAX_LEVELS {
+        return;
+    }
+    steps[level] += half_in(bytes, number, STEPS);
+    managers[level] += 1;
+}
+
+// Writes the line of a level that had managers, with the mean of their steps, and nothing of another.
+fn put_shown_average(page: &mut [u8], at: usize, level: u32, steps: u32, managers: u32) -> usize
+    requires { ⌜ at + length (shownAverage level steps managers) ≤ length (now page) ⌝ }
+    ensures { λ next. ⌜ Placed (shownAverage level steps managers) at (now (page .entry)) (now (page .exit)) next ⌝ }
+{
+    if managers == 0 {
+        return at;
+    }
+    let quotient = steps / managers;
+    put_average(page, at, level, quotient, steps - quotient * managers)
+}
+
+// Writes the lines of the levels, by their number.
+fn put_averages(page: &mut [u8], at: usize, steps: &[u32; MAX_LEVELS], managers: &[u32; MAX_LEVELS]) -> usize
+    requires { ⌜ at + length (joined (tab maxLevels (averageIn (now steps) (now managers)))) ≤ length (now page) ⌝ }
+    ensures { λ next. ⌜ Placed (joined (tab maxLevels (averageIn (now (steps .entry)) (now (managers .entry))))) at (now (page .entry)) (now (page .exit)) next ⌝ }
+{
+    let mut next = at;
+    for level in 0..MAX_LEVELS {
+        next = put_shown_average(page, next, level as u32, steps[level], managers[level]);
+    }
+    next
+}
+
+// Writes the page of some result bytes: a line for each history, in their order, the total over these, and a line for
+// each level that they are of.
 pub fn write_page(page: &mut [u8], bytes: &[u8]) -> usize
     requires { ⌜ (length (pageOf (now bytes)) ≤ length (now page)) × (length (now bytes) ≤ resultBytes) ⌝ }
     ensures { λ next. ⌜ Written (pageOf (now (bytes .entry))) (now (page .entry)) (now (page .exit)) next ⌝ }
 {
     let mut at = 0;
     let mut total = 0;
+    let mut steps = [0u32; MAX_LEVELS];
+    let mut managers = [0u32; MAX_LEVELS];
     for number in 0..bytes.len() / RECORD_BYTES {
         at = put_shown(page, at, bytes, number);
         total += steps_shown(bytes, number);
+        tally(&mut steps, &mut managers, bytes, number);
     }
-    put_total(page, at, total)
+    let next = put_total(page, at, total);
+    put_averages(page, next, &steps, &managers)
 }

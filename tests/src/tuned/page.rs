@@ -1,6 +1,6 @@
 //! The page of a depth-first run, made from the result records that the run wrote.
 
-use crate::limits::PAGE_LINE;
+use crate::limits::{LEVELS_MAX, PAGE_LINE};
 use crate::record::{number_at, records, Record, HISTORY};
 
 type Line = [u8; PAGE_LINE];
@@ -8,6 +8,7 @@ type Line = [u8; PAGE_LINE];
 /// Lines with nothing but what they all have.
 const BLANK: Line = *b"                           \n";
 const TOTAL: Line = *b"TOTAL                      \n";
+const AVERAGE: Line = *b"LEVEL                      \n";
 
 // Where the columns of a line start, counted from 0.
 const LEVEL: usize = 9;
@@ -17,22 +18,46 @@ const FIRST: usize = 16;
 const LAST: usize = 20;
 const STEPS: usize = 24;
 const SUM: usize = 22;
+const AVERAGED: usize = 6;
+const QUOTIENT: usize = 16;
+const REMAINDER: usize = 24;
 
 /// Writes the page of a result, for which there is room; gives its length.
 pub fn write(result: &[u8], page: &mut [u8]) -> usize {
     let (lines, _) = page.as_chunks_mut::<PAGE_LINE>();
     let histories = records(result).iter().filter(|record| record[0] == HISTORY);
     let mut count = 0;
-    let mut total = 0;
+    // Managers and script steps of each level.
+    let mut levels = [(0, 0); LEVELS_MAX];
     for (place, history) in lines.iter_mut().zip(histories) {
         *place = line(history);
-        total += two_bytes(history, 12);
+        let (managers, steps) = &mut levels[usize::from(history[1])];
+        *managers += 1;
+        *steps += two_bytes(history, 12);
         count += 1;
     }
-    let mut line = TOTAL;
-    put_decimal::<5>(&mut line, SUM, total);
-    lines[count] = line;
+    lines[count] = total(levels.iter().map(|(_, steps)| steps).sum());
+    for (level, (managers, steps)) in levels.into_iter().enumerate() {
+        if managers > 0 {
+            count += 1;
+            lines[count] = average(level as u8, steps / managers, steps % managers);
+        }
+    }
     PAGE_LINE * (count + 1)
+}
+
+fn total(steps: u32) -> Line {
+    let mut line = TOTAL;
+    put_decimal::<5>(&mut line, SUM, steps);
+    line
+}
+
+fn average(level: u8, quotient: u32, remainder: u32) -> Line {
+    let mut line = AVERAGE;
+    line[AVERAGED] = b'0' + level;
+    put_decimal::<3>(&mut line, QUOTIENT, quotient);
+    put_decimal::<3>(&mut line, REMAINDER, remainder);
+    line
 }
 
 fn line(history: &Record) -> Line {

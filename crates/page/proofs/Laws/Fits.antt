@@ -27,7 +27,7 @@ use Rattle.model.proofs.Laws.Deep.Root.{deep-run, deep-end, same-result}
 use Rattle.model.proofs.Laws.Reader.Bytes.{histories-found}
 use Rattle.depth_first.specs.Runs.{bytesShown}
 use Rattle.page.specs.Text.{historiesIn, pageOf}
-use Rattle.page.proofs.Laws.Lengths.{page-length}
+use Rattle.page.proofs.Laws.Lengths.{page-length, levels-few}
 
 -- groups of at most 32
 groups-few : (g : ℕ → List Record) → ((l : ℕ) → length (g l) ≤ maxManagers) → (ls : List ℕ) → length (joined (map g ls)) ≤ maxManagers * length ls
@@ -50,8 +50,8 @@ histories-few p r c few h =
     )
 
 module _ (s : List ℕ) (a : verdictOf s ≡ Accepted) where
-  levels-few : programOf s .levels ≤ maxLevels
-  levels-few = unfold programOf in few-levels s (accepted s a .three)
+  few : programOf s .levels ≤ maxLevels
+  few = unfold programOf in few-levels s (accepted s a .three)
 
   -- the managers of a level that have ended
   pub ended-few : (l : ℕ) → length (tallyAt (depthFirst (programOf s) (rootOf s)) l .ended) ≤ maxManagers
@@ -63,9 +63,9 @@ module _ (s : List ℕ) (a : verdictOf s ≡ Accepted) where
       let ls = plainOrder p root in
       let t = accepted-plain s a .0 in
       let e = accepted-plain s a .1 in
-      let same : length (levelAt t l .ended) ≡ length (tallyAt (depthFirst p root) l .ended) = ap (λ r. length (r .ended l)) (same-result p so levels-few root ls t e) in
-      let end : t ≡ deep-run p so levels-few root .to = deep-end p so levels-few root ls t (finishes 0 p ls (readIn p root) t e) in
-      let b : Bounded (levelAt t l) = rw end (deep-run p so levels-few root .done .steady .bounded l) in
+      let same : length (levelAt t l .ended) ≡ length (tallyAt (depthFirst p root) l .ended) = ap (λ r. length (r .ended l)) (same-result p so few root ls t e) in
+      let end : t ≡ deep-run p so few root .to = deep-end p so few root ls t (finishes 0 p ls (readIn p root) t e) in
+      let b : Bounded (levelAt t l) = rw end (deep-run p so few root .done .steady .bounded l) in
       omega (arith, same, b .room)
 
   -- question 16's buffer has room
@@ -74,4 +74,4 @@ module _ (s : List ℕ) (a : verdictOf s ≡ Accepted) where
       let p = programOf s in
       let r = resultOfDepthFirst p (depthFirst p (rootOf s)) in
       let found : length (historiesIn (bytesShown s c)) ≡ length (historiesShown p r c) = ap length (histories-found p (levelOf s (rootObject s)) r c) in
-      omega (arith, page-length (bytesShown s c), found, histories-few p r c levels-few ended-few)
+      omega (arith, page-length (bytesShown s c), found, histories-few p r c few ended-few, levels-few (bytesShown s c))

@@ -5,8 +5,8 @@ use mathlib.Core.List.{List, [], _∷_}
 use native.Mathlib.Numerals.{add-one}
 use native.Mathlib.Omega.{arith}
 use borrow.Author.Tests.{lt-ltb, le-ltb}
-use lib.ListN.{length, set, take, drop, replicate, replicate-append-replicate}
-use lib.Seq.{set-split, append-snoc}
+use lib.ListN.{length, getD, set, take, drop, replicate, replicate-append-replicate}
+use lib.Seq.{set-split, append-snoc, take-suc}
 use Rattle.records.specs.Writing.{Placed}
 use Rattle.records.proofs.Laws.Placed.{placed-none, placed-then}
 use Rattle.page.specs.Text.{blank, digitOf, hexIn, alignedIn}
@@ -62,3 +62,7 @@ pub aligned-none : (columns x at : ℕ) (b : List ℕ) → columns ≡ 0 → at 
 unfolding alignedIn
 aligned-none zero x at b e h = placed-none at b h
 aligned-none (suc columns) x at b e h = absurd (omega arith)
+
+-- one more of some characters
+pub word-more : (word : List ℕ) (i at m n : ℕ) (b b' b'' : List ℕ) → i < length word → Placed (take i word) at b b' m → Placed (getD word i 0 ∷ []) m b' b'' n → Placed (take (i + 1) word) at b b'' n
+word-more word i at m n b b' b'' h p q = rw (add-one, take-suc word i 0 h) (placed-then b b' (take i word) at m p b'' (getD word i 0 ∷ []) n q)

@@ -1,21 +1,26 @@
--- The page as what is made of each record in its turn. Assumes nothing.
+-- The page as what is made of each record in its turn, and then of each level. Assumes nothing.
 use Prim.Native.Nat.{ℕ, zero, suc, _+_, _≤_, _<_}
 use mathlib.Core.Path.{_≡_, refl, sym, _∙_, ap, ap₂}
+use mathlib.Core.Bool.{Bool}
 use mathlib.Core.List.{List, [], _++_, map}
 use native.Mathlib.Decide.{decLt}
 use native.Mathlib.Numerals.{add-one}
 use native.Mathlib.Omega.{arith}
 use borrow.Author.Tests.{eq-eqb, ne-eqb}
+use lib.Dec.{eqb, ltb}
 use lib.ListN.{length, length-append}
+use Rattle.session.specs.Limits.{maxLevels}
 use Rattle.session.specs.Lists.{select, tab, joined}
 use Rattle.session.specs.Record.{Record, recordAt, recordCount, recordsOf, kindOf}
 use Rattle.session.specs.Parts.{ofKind}
+use Rattle.session.proofs.Laws.Fill.{tab-ext}
 use Rattle.session.proofs.Laws.Lists.{holds, fails, truth}
 use Rattle.model.specs.Limits.{lineBytes}
-use Rattle.model.specs.Result.{stepsIn}
+use Rattle.model.specs.Result.{levelIn, stepsIn}
+use Rattle.model.proofs.Laws.Reader.Bytes.{chosen-groups}
 use Rattle.records.proofs.Laws.Placed.{joined-more}
-use Rattle.page.specs.Text.{lineOf, totalLine, sumOf, pageOf}
-use Rattle.page.specs.Shown.{isHistory, shownLine, shownSteps}
+use Rattle.page.specs.Text.{lineOf, totalLine, sumOf, managersAt, stepsAt, levelsIn, averageOf, pageOf}
+use Rattle.page.specs.Shown.{isHistory, shownLine, shownSteps, stepsAdded, managersAdded, shownAverage}
 use Rattle.page.proofs.Laws.Lengths.{total-length}
 
 -- the lines of those that are histories, and the sum of their steps
@@ -35,16 +40,65 @@ steps-chosen (suc n) f = elim (truth (isHistory (f zero))) [
   | fails e ↦ rw e (steps-chosen n (λ i. f (suc i)) ∙ omega arith)
 ]
 
+-- of those of one level
+abbrev ofLevel : ℕ → Record → Bool
+ofLevel level rec = eqb (levelIn rec) level
+
+level-steps : (level n : ℕ) (f : ℕ → Record) → sumOf (map stepsIn (select (ofLevel level) (select isHistory (tab n f)))) ≡ sumOf (tab n (λ i. stepsAdded level (f i)))
+unfolding select tab stepsAdded sumOf
+level-steps level zero f = refl
+level-steps level (suc n) f = elim (truth (isHistory (f zero))) [
+  | holds e ↦ elim (truth (ofLevel level (f zero))) [
+    | holds d ↦ rw (e, d) (ap (λ k. stepsIn (f zero) + k) (level-steps level n (λ i. f (suc i))))
+    | fails d ↦ rw (e, d) (level-steps level n (λ i. f (suc i)) ∙ omega arith)
+  ]
+  | fails e ↦ rw e (level-steps level n (λ i. f (suc i)) ∙ omega arith)
+]
+
+level-managers : (level n : ℕ) (f : ℕ → Record) → length (select (ofLevel level) (select isHistory (tab n f))) ≡ sumOf (tab n (λ i. managersAdded level (f i)))
+unfolding select tab managersAdded sumOf
+level-managers level zero f = refl
+level-managers level (suc n) f = elim (truth (isHistory (f zero))) [
+  | holds e ↦ elim (truth (ofLevel level (f zero))) [
+    | holds d ↦ rw (e, d) (omega (arith, level-managers level n (λ i. f (suc i))))
+    | fails d ↦ rw (e, d) (level-managers level n (λ i. f (suc i)) ∙ omega arith)
+  ]
+  | fails e ↦ rw e (level-managers level n (λ i. f (suc i)) ∙ omega arith)
+]
+
 -- of record r of s
-abbrev pub lineAt : List ℕ → ℕ → List ℕ
-lineAt s r = shownLine (recordAt s r)
+abbrev pub recordLine : List ℕ → ℕ → List ℕ
+recordLine s r = shownLine (recordAt s r)
 
-abbrev pub stepsAt : List ℕ → ℕ → ℕ
-stepsAt s r = shownSteps (recordAt s r)
+abbrev pub recordSteps : List ℕ → ℕ → ℕ
+recordSteps s r = shownSteps (recordAt s r)
 
-pub page-is : (s : List ℕ) → pageOf s ≡ joined (tab (recordCount s) (lineAt s)) ++ totalLine (sumOf (tab (recordCount s) (stepsAt s)))
+pub steps-are : (level : ℕ) (s : List ℕ) → stepsAt level s ≡ sumOf (tab (recordCount s) (λ r. stepsAdded level (recordAt s r)))
+unfolding ofKind recordsOf
+steps-are level s = level-steps level (recordCount s) (recordAt s)
+
+pub managers-are : (level : ℕ) (s : List ℕ) → managersAt level s ≡ sumOf (tab (recordCount s) (λ r. managersAdded level (recordAt s r)))
+unfolding ofKind recordsOf
+managers-are level s = level-managers level (recordCount s) (recordAt s)
+
+-- the lines of the levels
+abbrev pub levelLine : List ℕ → ℕ → List ℕ
+levelLine s level = shownAverage level (stepsAt level s) (managersAt level s)
+
+levels-are : (s : List ℕ) → joined (map (averageOf s) (levelsIn s)) ≡ joined (tab maxLevels (levelLine s))
+unfolding levelsIn shownAverage
+levels-are s = chosen-groups (λ level. ltb 0 (managersAt level s)) (averageOf s) maxLevels (λ level. level)
+
+-- all lines and the total
+abbrev pub aboveLevels : List ℕ → List ℕ
+aboveLevels s = joined (tab (recordCount s) (recordLine s)) ++ totalLine (sumOf (tab (recordCount s) (recordSteps s)))
+
+pub page-is : (s : List ℕ) → pageOf s ≡ aboveLevels s ++ joined (tab maxLevels (levelLine s))
 unfolding pageOf ofKind recordsOf
-page-is s = ap₂ (λ l n. l ++ totalLine n) (lines-chosen (recordCount s) (recordAt s)) (steps-chosen (recordCount s) (recordAt s))
+page-is s =
+    ap₂ _++_
+    (ap₂ (λ l n. l ++ totalLine n) (lines-chosen (recordCount s) (recordAt s)) (steps-chosen (recordCount s) (recordAt s)))
+    (levels-are s)
 
 -- one more
 pub sum-none : (g : ℕ → ℕ) → sumOf (tab 0 g) ≡ 0
@@ -90,12 +144,18 @@ module _ (rec : Record) (kind : ℕ) (e : kind ≡ kindOf rec) where
   unfolding shownSteps
   steps-hidden n = rw (ne-eqb (kindOf rec) 6 (λ h. n (e ∙ h))) refl
 
--- the page has room for what is placed of it: all lines and the total, and so each line behind those before it
-pub lines-room : (s : List ℕ) → length (joined (tab (recordCount s) (lineAt s))) + lineBytes ≡ length (pageOf s)
-lines-room s =
-    let lines = joined (tab (recordCount s) (lineAt s)) in
-    let total = sumOf (tab (recordCount s) (stepsAt s)) in
-    omega (arith, ap length (page-is s), length-append lines (totalLine total), total-length total)
+-- the page has room for what is placed of it: all lines, the total and the levels, and so each line behind those before it
+pub levels-room : (s : List ℕ) → length (joined (tab (recordCount s) (recordLine s))) + lineBytes + length (joined (tab maxLevels (levelLine s))) ≡ length (pageOf s)
+levels-room s =
+    let lines = joined (tab (recordCount s) (recordLine s)) in
+    let total = sumOf (tab (recordCount s) (recordSteps s)) in
+    omega (
+      arith,
+      ap length (page-is s),
+      length-append (aboveLevels s) (joined (tab maxLevels (levelLine s))),
+      length-append lines (totalLine total),
+      total-length total,
+    )
 
-pub page-room : (s : List ℕ) (r : ℕ) → r < recordCount s → length (joined (tab r (lineAt s))) + length (lineAt s r) ≤ length (pageOf s)
-page-room s r h = omega (arith, lines-room s, groups-room (recordCount s) r (lineAt s) h)
+pub page-room : (s : List ℕ) (r : ℕ) → r < recordCount s → length (joined (tab r (recordLine s))) + length (recordLine s r) ≤ length (pageOf s)
+page-room s r h = omega (arith, levels-room s, groups-room (recordCount s) r (recordLine s) h)

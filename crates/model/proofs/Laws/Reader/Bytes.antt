@@ -172,7 +172,7 @@ module _ {A : Type 0} (pick : ℕ → A → Bool) (g : ℕ → List A) (own : (l
       ∙ append-nil (joined (tab n g))
 
 -- the group of a level, where clearance c is shown it
-abbrev groupShown : Program → Result → ℕ → ℕ → List Record
+abbrev pub groupShown : Program → Result → ℕ → ℕ → List Record
 groupShown p r c l = cond (p .dom c l) (map (historyRecord l) (r .ended l)) []
 
 group-own : (p : Program) (r : Result) (c l : ℕ) → select (ofLevel l) (groupShown p r c l) ≡ groupShown p r c l
@@ -235,8 +235,14 @@ module _ (p : Program) (rootLevel : ℕ) (r : Result) (c : ℕ) where
       ∙ ap₂ _++_ (ap₂ _++_ (kind-other 5 7 (omega arith) _ (objects-kind p r c)) (kind-other 6 7 (omega arith) _ (histories-kind p r c)))
       (select-all (ofOne 7) _ (reply-kind p r c rootLevel))
 
-  -- the histories of a level, one level after the other
-  histories-by-level : (more : ℕ) → joined (tab (p .levels + more) (λ l. historiesAt l bytes)) ≡ historiesShown p r c
+  -- the histories of a level, and of one level after the other
+  pub histories-of-level : (l : ℕ) → l < p .levels → historiesAt l bytes ≡ groupShown p r c l
+  unfolding historiesShown
+  histories-of-level l h =
+      ap (select (ofLevel l)) (histories-found ∙ chosen-groups (p .dom c) (λ k. map (historyRecord k) (r .ended k)) (p .levels) (λ k. k))
+      ∙ pick-own ofLevel (groupShown p r c) (group-own p r c) (group-other p r c) (p .levels) l h
+
+  pub histories-by-level : (more : ℕ) → joined (tab (p .levels + more) (λ l. historiesAt l bytes)) ≡ historiesShown p r c
   unfolding historiesShown
   histories-by-level more =
       let groups : joined (tab (p .levels) (groupShown p r c)) ≡ historiesShown p r c = sym (chosen-groups (p .dom c) (λ l. map (historyRecord l) (r .ended l)) (p .levels) (λ l. l)) in

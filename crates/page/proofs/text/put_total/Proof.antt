@@ -1,11 +1,10 @@
--- `page::text::put_total` meets its contract: word, blanks, number and line feed stand one behind the other. Assumes nothing.
+-- `page::text::put_total` meets its contract: word, number and line feed stand one behind the other. Assumes nothing.
 use mathlib.Core.List.{[], _∷_, _++_}
 use native.Mathlib.Omega.{arith}
-use lib.ListN.{replicate}
 use Rattle.records.specs.Writing.{Placed}
 use Rattle.records.proofs.Laws.Placed.{placed-then}
-use Rattle.page.specs.Text.{blank, lineFeed, alignedIn, totalWord, totalColumns, totalGap, totalLine}
-use Rattle.page.proofs.Laws.Lengths.{aligned-length}
+use Rattle.page.specs.Text.{lineFeed, apartIn, totalWord, totalColumns, totalGap, totalLine}
+use Rattle.page.proofs.Laws.Lengths.{apart-length}
 use borrow.Author.Needs.{needs}
 use Rattle.page.proofs.text.put_total.Statement.{statement}
 use Rattle.page.proofs.text.put_total.Tie as tie
@@ -13,28 +12,22 @@ use Rattle.page.proofs.text.put_total.Tie as tie
 put-word-requires : tie.Need-put-word-requires
 put-word-requires c κs = search needs
 
-put-blanks-requires : tie.Need-put-blanks-requires
-put-blanks-requires c κs = search needs
-
-put-aligned-requires : tie.Need-put-aligned-requires
-put-aligned-requires c κs = search needs
+put-apart-requires : tie.Need-put-apart-requires
+put-apart-requires c κs = search needs
 
 put-requires : tie.Need-put-requires
 put-requires c κs =
-    let s = c .before .before .before .before .before .before .before .before .before .before .before .before .before .before in
-    let word = c .before .before .before .before .before .before .before .before .before .before .before .put-word in
-    let gap = c .before .before .before .before .before .before .before .put-blanks in
-    let number = c .before .before .before .put-aligned in
+    let s = c .before .before .before .before .before .before .before .before .before .before .before in
+    let word = c .before .before .before .before .before .before .before .put-word in
+    let number = c .before .before .before .put-apart in
     omega (
       arith,
       s .pre,
       word .kept .0,
       word .ensures .ends,
-      gap .kept .0,
-      gap .ensures .ends,
       number .kept .0,
       number .ensures .ends,
-      aligned-length totalColumns (s .args .total),
+      apart-length totalGap totalColumns (s .args .total),
     )
 
 same-length : tie.Need-same-length
@@ -43,27 +36,22 @@ same-length c = search needs
 returns : tie.Need-returns
 unfolding totalLine
 returns c =
-    let g = c .before .before .before .before .before .before .before .before .before .before .before .before .before .before .before .before .before .args in
+    let g = c .before .before .before .before .before .before .before .before .before .before .before .before .before .before .args in
     let b = g .page .now in
-    let word = c .before .before .before .before .before .before .before .before .before .before .before .before .before .before .put-word in
-    let gap = c .before .before .before .before .before .before .before .before .before .before .put-blanks in
-    let number = c .before .before .before .before .before .before .put-aligned in
+    let word = c .before .before .before .before .before .before .before .before .before .before .put-word in
+    let number = c .before .before .before .before .before .before .put-apart in
     let end = c .before .before .put in
-    let spaces = replicate totalGap blank in
-    let digits = alignedIn totalColumns (g .total) in
-    let two : Placed (totalWord ++ spaces) (g .at) b (gap .last .0) (gap .result) =
-    placed-then b (word .last .0) totalWord (g .at) (word .result) (word .ensures) (gap .last .0) spaces (gap .result) (gap .ensures) in
-    let three : Placed (totalWord ++ spaces ++ digits) (g .at) b (number .last .0) (number .result) =
-    placed-then b (gap .last .0) (totalWord ++ spaces) (g .at) (gap .result) two (number .last .0) digits (number .result) (number .ensures) in
-    placed-then b (number .last .0) (totalWord ++ spaces ++ digits) (g .at) (number .result) three (end .last .0) (lineFeed ∷ []) (end .result) (end .ensures)
+    let digits = apartIn totalGap totalColumns (g .total) in
+    let two : Placed (totalWord ++ digits) (g .at) b (number .last .0) (number .result) =
+    placed-then b (word .last .0) totalWord (g .at) (word .result) (word .ensures) (number .last .0) digits (number .result) (number .ensures) in
+    placed-then b (number .last .0) (totalWord ++ digits) (g .at) (number .result) two (end .last .0) (lineFeed ∷ []) (end .result) (end .ensures)
 
 pub put-total-spec : {M : Type 1} → statement M
 put-total-spec =
     tie.close
     (tie.spec
     put-word-requires
-    put-blanks-requires
-    put-aligned-requires
+    put-apart-requires
     put-requires
     same-length
     returns)
