@@ -20,7 +20,7 @@ use Rattle.model.specs.Result.{levelIn, stepsIn}
 use Rattle.model.proofs.Laws.Reader.Bytes.{chosen-groups}
 use Rattle.records.proofs.Laws.Placed.{joined-more}
 use Rattle.page.specs.Text.{lineOf, totalLine, sumOf, managersAt, stepsAt, levelsIn, averageOf, pageOf}
-use Rattle.page.specs.Shown.{isHistory, shownLine, shownSteps, stepsAdded, managersAdded, shownAverage}
+use Rattle.page.specs.Shown.{isHistory, shownLine, shownSteps, stepsAdded, managersAdded, Tallied, shownAverage, averageIn}
 use Rattle.page.proofs.Laws.Lengths.{total-length}
 
 -- the lines of those that are histories, and the sum of their steps
@@ -88,6 +88,12 @@ levelLine s level = shownAverage level (stepsAt level s) (managersAt level s)
 levels-are : (s : List ℕ) → joined (map (averageOf s) (levelsIn s)) ≡ joined (tab maxLevels (levelLine s))
 unfolding levelsIn shownAverage
 levels-are s = chosen-groups (λ level. ltb 0 (managersAt level s)) (averageOf s) maxLevels (λ level. level)
+
+-- of what is counted over all records
+pub levels-tallied : (s steps managers : List ℕ) → Tallied s (recordCount s) steps managers → tab maxLevels (averageIn steps managers) ≡ tab maxLevels (levelLine s)
+levels-tallied s steps managers t =
+    tab-ext maxLevels (averageIn steps managers) (levelLine s)
+    (λ level h. ap₂ (shownAverage level) (t .steps-are level h ∙ sym (steps-are level s)) (t .managers-are level h ∙ sym (managers-are level s)))
 
 -- all lines and the total
 abbrev pub aboveLevels : List ℕ → List ℕ
