@@ -41,7 +41,8 @@ static const uint8_t shown[] = {
 
 static const char printed[] =
     "00000000 0 0  1   1   2   5\n"
-    "TOTAL                     5\n";
+    "TOTAL                     5\n"
+    "LEVEL 0           5       0\n";
 
 static const uint32_t untouched = 0xa5a5a5a5;
 

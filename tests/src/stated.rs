@@ -17,11 +17,14 @@ const M1: &str = "05000001090000000000000000000000 \
 const W_0: &str = "\
 00000000 0 0  1   1   2   5
 TOTAL                     5
+LEVEL 0           5       0
 ";
 const W_1: &str = "\
 00000000 0 0  1   1   2   5
 10000000 1 0  2   1   1   5
 TOTAL                    10
+LEVEL 0           5       0
+LEVEL 1           5       0
 ";
 
 /// The root's level is 1, under level 0: groups stand by number, not by stamp.
@@ -40,6 +43,29 @@ B0000000 0 0  0  11  11   0
 C0000000 0 0  0  12  12   0
 00000000 1 0  0   1  13  12
 TOTAL                    12
+LEVEL 0           0       0
+LEVEL 1          12       0
+";
+
+/// 11 managers of level 2 have 2 steps each and the twelfth 1: 12 × 1 + 11. Level 1
+/// had no manager.
+const UNEVEN: &str = "\
+00000000 0 0  0   1  13  12
+10000000 2 0  0   1   1   2
+20000000 2 0  0   2   2   2
+30000000 2 0  0   3   3   2
+40000000 2 0  0   4   4   2
+50000000 2 0  0   5   5   2
+60000000 2 0  0   6   6   2
+70000000 2 0  0   7   7   2
+80000000 2 0  0   8   8   2
+90000000 2 0  0   9   9   2
+A0000000 2 0  0  10  10   2
+B0000000 2 0  0  11  11   2
+C0000000 2 0  0  12  12   1
+TOTAL                    35
+LEVEL 0          12       0
+LEVEL 2           1      11
 ";
 
 /// The page of a clearance that is shown no history.
@@ -119,6 +145,7 @@ fn pages() -> Vec<(&'static str, Vector)> {
         ("both short", w(0, result - 1, page - 1, refused(11, 0))),
         ("no level", w(2, result, page - 1, refused(9, 0))),
         ("page of twelve forks", twelve()),
+        ("page of a mean with a remainder", uneven()),
         (
             "page of no history",
             vector(
@@ -239,6 +266,41 @@ fn twelve() -> Vector {
         draft.bytes(),
         paged(0, RESULT_LENGTH, PAGE_LENGTH),
         printed(records.concat(), TWELVE),
+    )
+}
+
+/// The root makes twelve forks two levels above it, of a method of two steps and, at
+/// last, of one.
+fn uneven() -> Vector {
+    let mut draft = draft(&[0x01, 0x03, 0x07]);
+    let set = Operation::Set { a: 0, n: 1 };
+    draft.put(2, 0, vec![set; 2]);
+    draft.put(2, 1, vec![set]);
+    let mut script = vec![send(2); 11];
+    script.push(Operation::Send {
+        a: 0,
+        name: 1,
+        object: 2,
+    });
+    draft.put(0, 0, script);
+    let mut records: Vec<Record> = (0..3).map(|i| shown(i, i, [None; FIELDS])).collect();
+    records.push(history(0, 0, 0, 13, 12));
+    for i in 1..=12 {
+        let history = History {
+            level: 2,
+            fork_stamp: u32::from(i) << 28,
+            first_write_stamp: i,
+            last_write_stamp: i,
+            steps: if i < 12 { 2 } else { 1 },
+            ..History::default()
+        };
+        records.push(history.record());
+    }
+    records.push(record::reply(0, None));
+    vector(
+        draft.bytes(),
+        paged(2, RESULT_LENGTH, PAGE_LENGTH),
+        printed(records.concat(), UNEVEN),
     )
 }
 

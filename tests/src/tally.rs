@@ -74,6 +74,12 @@ events! {
     PageSteps "page with steps of three digits",
     PageTotal "page with a total of five digits",
     PageHidden "page whose total leaves out steps not shown",
+    PageQuotient "page with a quotient of three digits",
+    PageExact "page with a level of several managers whose mean has no remainder",
+    PageLargestRemainder "page with the remainder 31, of 32 managers",
+    PageIdleLevel "page with a level shown that had no managers, between two that had",
+    PageHiddenLevel "page without the line of a level that had managers and is not shown",
+    PageAllLevels "page with a line for each of 8 levels",
     NilOfFork "NIL seen in place of a number sent to a fork",
     NilOfSixteenth "NIL seen in place of a number sent to a 16th fork",
     NilOfInside "NIL seen in place of a number sent upward inside a manager",
@@ -83,7 +89,7 @@ events! {
 }
 
 /// What document 02 changes must occur in many sessions, all else in one.
-const FREQUENT: [(Event, u64); 11] = [
+const FREQUENT: [(Event, u64); 17] = [
     (Event::EarlyFinished, 1_000),
     (Event::HeldBack, 1_000),
     (Event::PageOfNone, PAGES),
@@ -95,6 +101,12 @@ const FREQUENT: [(Event, u64); 11] = [
     (Event::PageSteps, PAGES),
     (Event::PageTotal, PAGES),
     (Event::PageHidden, PAGES),
+    (Event::PageQuotient, PAGES),
+    (Event::PageExact, PAGES),
+    (Event::PageLargestRemainder, PAGES),
+    (Event::PageIdleLevel, PAGES),
+    (Event::PageHiddenLevel, PAGES),
+    (Event::PageAllLevels, PAGES),
 ];
 
 /// How often whatever concerns the page must occur.

@@ -3,20 +3,20 @@ use Prim.Native.Nat.{ℕ, zero, suc, _+_, _*_, _-_, _^_, _≤_, _<_}
 use mathlib.Core.Path.{_≡_, refl, sym, _∙_, ap}
 use mathlib.Core.Bool.{Bool, true, false, cond}
 use mathlib.Core.List.{List, [], _∷_, _++_, map}
+use native.Mathlib.Nat.{mod-lt, div-add-mod', div-le-of-le-mul}
 use native.Mathlib.Omega.{arith}
 use borrow.Author.Tests.{eqb-true, eq-eqb, ne-eqb}
-use lib.Dec.{eqb}
-use lib.ListN.{length, take, drop, replicate, length-append, length-drop}
-use lib.Seq.{take-all, take-append-le, drop-append-le, drop-append-add}
+use lib.Dec.{eqb, ltb}
+use lib.ListN.{length}
 use Rattle.session.specs.Limits.{maxLevels}
-use Rattle.session.specs.Lists.{every, tab, joined}
+use Rattle.session.specs.Lists.{every, select, tab, joined}
 use Rattle.session.specs.Record.{Record}
 use Rattle.session.specs.Program.{Program, programOf}
 use Rattle.session.specs.Questions.{verdictOf, numberOfVerdict}
-use Rattle.session.specs.Meaning.{rootOf, levelOf, rootObject}
+use Rattle.session.specs.Meaning.{levelOf, rootObject}
 use Rattle.session.specs.declared.Verdict.the-variants.{Accepted}
 use Rattle.session.specs.Emptied.{emptied}
-use Rattle.session.proofs.Laws.Lists.{holds, fails, truth}
+use Rattle.session.proofs.Laws.Lists.{holds, fails, truth, select-length}
 use Rattle.session.proofs.Laws.Verdict.{accepted}
 use Rattle.session.proofs.Laws.Numbering.{few-levels}
 use Rattle.scripts.specs.Limits.{maxScriptSteps}
@@ -25,22 +25,21 @@ use Rattle.scripts.specs.declared.Ending.{Ending}
 use Rattle.scripts.specs.declared.Ending.the-variants.{Running, Finished, OutOfSteps, OutOfWrites}
 use Rattle.model.specs.History.{History, Limited, AllLimited}
 use Rattle.model.specs.Limits.{maxManagers}
-use Rattle.model.specs.DepthFirst.{depthFirst}
-use Rattle.model.specs.Result.{Result, resultOfDepthFirst, historyRecord, historiesShown, levelIn, endingIn, writesIn, stampIn, firstIn, lastIn, stepsIn}
+use Rattle.model.specs.Result.{Result, historyRecord, historiesShown, bytesOf, stepsIn}
 use Rattle.model.specs.Entries.{Request, Answer, question9, question11, entryRefusal, writtenOver, deep}
-use Rattle.model.specs.Reader.{bytesWritten}
+use Rattle.model.specs.Reader.{bytesWritten, historiesAt}
 use Rattle.model.specs.Demands.{DepthFirstRun}
 use Rattle.model.specs.Faults.{asks}
 use Rattle.model.proofs.Faults.{lowestOf, past, checked, lowest-is, lowest-not, all-zero, put-of}
 use Rattle.model.proofs.Demands.{deep-emptied, histories-limited}
 use Rattle.model.proofs.Laws.Reader.Answers.{passes, deep-is, deep-finished, deep-passes, deep-bytes}
-use Rattle.model.proofs.Laws.Reader.Bytes.{chosen-groups, histories-found, written-bytes}
+use Rattle.model.proofs.Laws.Reader.Bytes.{chosen-groups, histories-found, histories-of-level, histories-of-none, histories-by-level, written-bytes}
 use Rattle.model.proofs.Laws.Reader.Fields.{level-read, ending-read, writes-read, stamp-read, first-read, last-read, steps-read}
 use Rattle.page.specs.Entries.{question16, pageRefusal, paged}
-use Rattle.page.specs.Text.{hexIn, alignedIn, fieldIn, frontOf, lineOf, totalLine, totalWord, totalGap, blank, lineFeed, sumOf, historiesIn, totalOf, pageOf, readAligned, readHex}
-use Rattle.page.specs.Pages.{SamePage, PageCalled, SamePageCalls, pageAsks, Demand1Page, columns, ReadBack, AllReadBack, PagesFit}
-use Rattle.page.proofs.Laws.Lengths.{hex-length, aligned-length, front-length}
-use Rattle.page.proofs.Laws.Numbers.{hex-read, aligned-read}
+use Rattle.page.specs.Text.{sumOf, historiesIn, totalOf, managersAt, stepsAt, quotientAt, remainderAt, levelsIn, pageOf}
+use Rattle.page.specs.Pages.{SamePage, PageCalled, SamePageCalls, pageAsks, Demand1Page, ReadBack, AllReadBack, HasLine, LevelReadBack, PagesFit, LevelsAveraged, LevelsTotal, leftBy, LevelsShown}
+use Rattle.page.proofs.Laws.Columns.{read-back, total-read, number-read, quotient-read, remainder-read}
+use Rattle.page.proofs.Laws.Averages.{stepsOf, steps-joined, steps-none, sum-chosen}
 use Rattle.page.proofs.Laws.Fits.{histories-few, ended-few}
 
 -- a session's own page is that of its depth-first run emptied for the reader
@@ -52,118 +51,6 @@ own-page c s a d x y =
 
 pub same-page : SamePage
 same-page c s s' a a' d d' x x' y y' e = ap pageOf (own-page c s a d x y ∙ e ∙ sym (own-page c s' a' d' x' y'))
-
--- columns that lie in the first of two lists, and in the second
-in-front : (from to : ℕ) (xs ys : List ℕ) → 0 < from → from ≤ to → to ≤ length xs → columns from to (xs ++ ys) ≡ columns from to xs
-in-front from to xs ys p q h =
-    ap (take (to + 1 - from)) (drop-append-le (from - 1) xs ys (omega (arith, p, q, h)))
-    ∙ take-append-le (to + 1 - from) (drop (from - 1) xs) ys (omega (arith, length-drop (from - 1) xs, p, q, h))
-
-behind : (n from to : ℕ) (xs ys : List ℕ) → 0 < from → length xs ≡ n → columns (n + from) (n + to) (xs ++ ys) ≡ columns from to ys
-behind n from to xs ys p h =
-    let at : n + from - 1 ≡ length xs + (from - 1) = omega (arith, p, h) in
-    let many : n + to + 1 - (n + from) ≡ to + 1 - from = omega arith in
-    ap (λ k. take (n + to + 1 - (n + from)) (drop k (xs ++ ys))) at
-    ∙ ap (take (n + to + 1 - (n + from))) (drop-append-add xs ys (from - 1))
-    ∙ ap (λ k. take k (drop (from - 1) ys)) many
-
--- a number behind its blank
-in-field : (w n : ℕ) → columns 2 (w + 1) (fieldIn w n) ≡ alignedIn w n
-in-field w n =
-    let all : w + 1 + 1 - 2 ≡ w = omega arith in
-    ap (λ k. take k (alignedIn w n)) all ∙ take-all w (alignedIn w n) (omega (arith, aligned-length w n))
-
--- a field at the end of a line's beginning, and one with more behind it
-field-last : (n w k : ℕ) (xs : List ℕ) → length xs ≡ n → columns (n + 2) (n + (w + 1)) (xs ++ fieldIn w k) ≡ alignedIn w k
-field-last n w k xs h = behind n 2 (w + 1) xs (fieldIn w k) (omega arith) h ∙ in-field w k
-
-module _ (rec : Record) where
-  abbrev stampText : List ℕ
-  stampText = hexIn 8 (stampIn rec)
-
-  abbrev levelText : List ℕ
-  levelText = stampText ++ fieldIn 1 (levelIn rec)
-
-  abbrev endingText : List ℕ
-  endingText = levelText ++ fieldIn 1 (endingIn rec)
-
-  abbrev firstText : List ℕ
-  firstText = frontOf rec ++ fieldIn 3 (firstIn rec)
-
-  abbrev lastText : List ℕ
-  lastText = firstText ++ fieldIn 3 (lastIn rec)
-
-  abbrev stepsText : List ℕ
-  stepsText = lastText ++ fieldIn 3 (stepsIn rec)
-
-  level-long : length levelText ≡ 10
-  level-long = length-append stampText (fieldIn 1 (levelIn rec)) ∙ omega (arith, hex-length 8 (stampIn rec), aligned-length 1 (levelIn rec))
-
-  ending-long : length endingText ≡ 12
-  ending-long = length-append levelText (fieldIn 1 (endingIn rec)) ∙ omega (arith, level-long, aligned-length 1 (endingIn rec))
-
-  first-long : length firstText ≡ 19
-  first-long = length-append (frontOf rec) (fieldIn 3 (firstIn rec)) ∙ omega (arith, front-length rec, aligned-length 3 (firstIn rec))
-
-  last-long : length lastText ≡ 23
-  last-long = length-append firstText (fieldIn 3 (lastIn rec)) ∙ omega (arith, first-long, aligned-length 3 (lastIn rec))
-
-  steps-long : length stepsText ≡ 27
-  steps-long = length-append lastText (fieldIn 3 (stepsIn rec)) ∙ omega (arith, last-long, aligned-length 3 (stepsIn rec))
-
-  line-is : lineOf rec ≡ stepsText ++ (lineFeed ∷ [])
-  unfolding lineOf
-  line-is = refl
-
-  front-is : frontOf rec ≡ endingText ++ fieldIn 2 (writesIn rec)
-  unfolding frontOf
-  front-is = refl
-
-  -- what is in the front is in the line, and so on
-  of-steps : (from to : ℕ) → 0 < from → from ≤ to → to ≤ 27 → columns from to (lineOf rec) ≡ columns from to stepsText
-  of-steps from to p q h =
-      ap (columns from to) line-is ∙ in-front from to stepsText (lineFeed ∷ []) p q (omega (arith, steps-long, h))
-
-  of-last : (from to : ℕ) → 0 < from → from ≤ to → to ≤ 23 → columns from to (lineOf rec) ≡ columns from to lastText
-  of-last from to p q h =
-      of-steps from to p q (omega (arith, h)) ∙ in-front from to lastText (fieldIn 3 (stepsIn rec)) p q (omega (arith, last-long, h))
-
-  of-first : (from to : ℕ) → 0 < from → from ≤ to → to ≤ 19 → columns from to (lineOf rec) ≡ columns from to firstText
-  of-first from to p q h =
-      of-last from to p q (omega (arith, h)) ∙ in-front from to firstText (fieldIn 3 (lastIn rec)) p q (omega (arith, first-long, h))
-
-  of-front : (from to : ℕ) → 0 < from → from ≤ to → to ≤ 15 → columns from to (lineOf rec) ≡ columns from to (frontOf rec)
-  of-front from to p q h =
-      of-first from to p q (omega (arith, h)) ∙ in-front from to (frontOf rec) (fieldIn 3 (firstIn rec)) p q (omega (arith, front-length rec, h))
-
-  of-ending : (from to : ℕ) → 0 < from → from ≤ to → to ≤ 12 → columns from to (lineOf rec) ≡ columns from to endingText
-  of-ending from to p q h =
-      of-front from to p q (omega (arith, h))
-      ∙ ap (columns from to) front-is
-      ∙ in-front from to endingText (fieldIn 2 (writesIn rec)) p q (omega (arith, ending-long, h))
-
-  of-level : (from to : ℕ) → 0 < from → from ≤ to → to ≤ 10 → columns from to (lineOf rec) ≡ columns from to levelText
-  of-level from to p q h =
-      of-ending from to p q (omega (arith, h)) ∙ in-front from to levelText (fieldIn 1 (endingIn rec)) p q (omega (arith, level-long, h))
-
-  of-stamp : columns 1 8 (lineOf rec) ≡ stampText
-  of-stamp =
-      of-level 1 8 (omega arith) (omega arith) (omega arith)
-      ∙ in-front 1 8 stampText (fieldIn 1 (levelIn rec)) (omega arith) (omega arith) (omega (arith, hex-length 8 (stampIn rec)))
-      ∙ take-all 8 stampText (omega (arith, hex-length 8 (stampIn rec)))
-
-  -- where each number is below what its columns hold, it is read back
-  read-back : stampIn rec < 16 ^ 8 → levelIn rec < 10 ^ 1 → endingIn rec < 10 ^ 1 → writesIn rec < 10 ^ 2 → firstIn rec < 10 ^ 3 → lastIn rec < 10 ^ 3 → stepsIn rec < 10 ^ 3 → ReadBack rec
-  read-back s l e w f t n =
-      record {
-        stamp = ap readHex of-stamp ∙ hex-read 8 (stampIn rec) s;
-        level = ap readAligned (of-level 10 10 (omega arith) (omega arith) (omega arith) ∙ field-last 8 1 (levelIn rec) stampText (hex-length 8 (stampIn rec))) ∙ aligned-read 1 (levelIn rec) l;
-        ending = ap readAligned (of-ending 12 12 (omega arith) (omega arith) (omega arith) ∙ field-last 10 1 (endingIn rec) levelText level-long) ∙ aligned-read 1 (endingIn rec) e;
-        writes = ap readAligned (of-front 14 15 (omega arith) (omega arith) (omega arith) ∙ ap (columns 14 15) front-is ∙ field-last 12 2 (writesIn rec) endingText ending-long) ∙ aligned-read 2 (writesIn rec) w;
-        first = ap readAligned (of-first 17 19 (omega arith) (omega arith) (omega arith) ∙ field-last 15 3 (firstIn rec) (frontOf rec) (front-length rec)) ∙ aligned-read 3 (firstIn rec) f;
-        last = ap readAligned (of-last 21 23 (omega arith) (omega arith) (omega arith) ∙ field-last 19 3 (lastIn rec) firstText first-long) ∙ aligned-read 3 (lastIn rec) t;
-        steps = ap readAligned (of-steps 25 27 (omega arith) (omega arith) (omega arith) ∙ field-last 23 3 (stepsIn rec) lastText last-long) ∙ aligned-read 3 (stepsIn rec) n;
-      }
 
 -- a history within the limits of a run fits its line
 ending-small : (e : Ending) → numberOfEnding e < 10 ^ 1
@@ -208,6 +95,14 @@ all-histories : (l : ℕ) → l < maxLevels → (hs : List History) → AllLimit
 all-histories l k [] e = tt
 all-histories l k (h ∷ hs) e = (history-fine l k h (e .0), all-histories l k hs (e .1))
 
+all-chosen : (t : Record → Bool) (recs : List Record) → AllFine recs → AllFine (select t recs)
+unfolding select
+all-chosen t [] e = tt
+all-chosen t (rec ∷ recs) e = elim (truth (t rec)) [
+  | holds d ↦ rw d (e .0, all-chosen t recs (e .1))
+  | fails d ↦ rw d (all-chosen t recs (e .1))
+]
+
 all-read : (recs : List Record) → AllFine recs → AllReadBack recs
 all-read [] e = tt
 all-read (rec ∷ recs) e = (e .0 .0, all-read recs (e .1))
@@ -217,21 +112,26 @@ unfolding sumOf
 steps-sum [] e = omega arith
 steps-sum (rec ∷ recs) e = omega (arith, e .0 .1, steps-sum recs (e .1))
 
--- the total is read back from the last line
-total-read : (n : ℕ) → n < 10 ^ 5 → readAligned (columns 23 27 (totalLine n)) ≡ n
-unfolding totalLine
-total-read n h =
-    ap readAligned (in-front 23 27 (totalWord ++ replicate totalGap blank ++ alignedIn 5 n) (lineFeed ∷ []) (omega arith) (omega arith) (omega (arith, length-append (totalWord ++ replicate totalGap blank) (alignedIn 5 n), aligned-length 5 n))
-    ∙ behind 22 1 5 (totalWord ++ replicate totalGap blank) (alignedIn 5 n) (omega arith) refl
-    ∙ take-all 5 (alignedIn 5 n) (omega (arith, aligned-length 5 n)))
-    ∙ aligned-read 5 n h
+-- the numbers of a level that has a line
+module _ (bytes : List ℕ) (fine : AllFine (historiesIn bytes)) (few : length (historiesIn bytes) ≤ maxLevels * maxManagers) where
+  level-back : (level : ℕ) → HasLine bytes level → LevelReadBack bytes level
+  level-back level (small, some) =
+      let steps : stepsAt level bytes ≤ maxScriptSteps * managersAt level bytes = steps-sum (historiesAt level bytes) (all-chosen _ (historiesIn bytes) fine) in
+      let quotient : quotientAt level bytes ≤ maxScriptSteps = div-le-of-le-mul (managersAt level bytes) (omega (arith, steps)) in
+      let remainder : remainderAt level bytes < managersAt level bytes = mod-lt (stepsAt level bytes) some in
+      let managers : managersAt level bytes ≤ length (historiesIn bytes) = select-length _ (historiesIn bytes) in
+      record {
+        number = number-read level (quotientAt level bytes) (remainderAt level bytes) (omega (arith, small));
+        quotient = quotient-read level (quotientAt level bytes) (remainderAt level bytes) (omega (arith, quotient));
+        remainder = remainder-read level (quotientAt level bytes) (remainderAt level bytes) (omega (arith, remainder, managers, few));
+      }
 
 module _ (s : List ℕ) (a : verdictOf s ≡ Accepted) (c : ℕ) where
   abbrev p : Program
   p = programOf s
 
   abbrev ran : Result
-  ran = resultOfDepthFirst p (depthFirst p (rootOf s))
+  ran = leftBy s
 
   few : p .levels ≤ maxLevels
   few = unfold programOf in few-levels s (accepted s a .three)
@@ -249,17 +149,59 @@ module _ (s : List ℕ) (a : verdictOf s ≡ Accepted) (c : ℕ) where
   shown-few : length (historiesShown p ran c) ≤ maxLevels * maxManagers
   shown-few = histories-few p ran c few (ended-few s a)
 
-pub pages-fit : PagesFit
-pages-fit c s a x =
+-- what a depth-first run of s that was not refused wrote
+record Ran (s : List ℕ) (c : ℕ) (bytes : List ℕ) : Type 0 where
+  accept : verdictOf s ≡ Accepted
+  is : bytes ≡ bytesOf (programOf s) (levelOf s (rootObject s)) (leftBy s) c
+
+ran-is : (c : ℕ) (s : List ℕ) (a : Answer) → DepthFirstRun s c a → Ran s c (bytesWritten a)
+ran-is c s a x =
     let q = x .request in
     let yes = deep-passes q (rw (sym (x .answer)) (x .finished)) in
-    let accept = passes true q yes .accepted in
-    let is : historiesIn (bytesWritten a) ≡ historiesShown (programOf (q .session)) (ran (q .session) accept (q .clearance)) (q .clearance) = ap historiesIn (ap bytesWritten (x .answer) ∙ deep-bytes q yes) ∙ histories-found (programOf (q .session)) (levelOf (q .session) (rootObject (q .session))) (ran (q .session) accept (q .clearance)) (q .clearance) in
-    let shown = historiesShown (programOf (q .session)) (ran (q .session) accept (q .clearance)) (q .clearance) in
-    let fine = shown-fine (q .session) accept (q .clearance) in
+    rw (sym (x .of), sym (x .reader)) (record { accept = passes true q yes .accepted; is = ap bytesWritten (x .answer) ∙ deep-bytes q yes })
+
+pub pages-fit : PagesFit
+pages-fit c s a x =
+    let r = ran-is c s a x in
+    let bytes = bytesWritten a in
+    let is : historiesIn bytes ≡ historiesShown (programOf s) (leftBy s) c = ap historiesIn (r .is) ∙ histories-found (programOf s) (levelOf s (rootObject s)) (leftBy s) c in
+    let fine : AllFine (historiesIn bytes) = rw is (shown-fine s (r .accept) c) in
+    let few : length (historiesIn bytes) ≤ maxLevels * maxManagers = rw is (shown-few s (r .accept) c) in
     record {
-      histories = rw is (all-read shown fine);
-      total = total-read (totalOf (bytesWritten a)) (omega (arith, ap (λ recs. sumOf (map stepsIn recs)) is, steps-sum shown fine, shown-few (q .session) accept (q .clearance)));
+      histories = all-read (historiesIn bytes) fine;
+      total = total-read (totalOf bytes) (omega (arith, steps-sum (historiesIn bytes) fine, few));
+      levels = level-back bytes fine few;
+    }
+
+pub levels-averaged : LevelsAveraged
+levels-averaged bytes level (small, some) =
+    record { sum = div-add-mod' (stepsAt level bytes) (managersAt level bytes); remainder = mod-lt (stepsAt level bytes) some }
+
+-- the sums of the levels that have a line, of any result
+levels-sum : (p : Program) (root : ℕ) (r : Result) (c : ℕ) → p .levels ≤ maxLevels → sumOf (map (λ level. stepsAt level (bytesOf p root r c)) (levelsIn (bytesOf p root r c))) ≡ totalOf (bytesOf p root r c)
+unfolding levelsIn
+levels-sum p root r c few =
+    let bytes = bytesOf p root r c in
+    let all : p .levels + (maxLevels - p .levels) ≡ maxLevels = omega (arith, few) in
+    sum-chosen (λ level. ltb 0 (managersAt level bytes)) (λ level. stepsAt level bytes) (λ level e. steps-none (historiesAt level bytes) e) maxLevels (λ level. level)
+    ∙ sym (steps-joined maxLevels (λ level. historiesAt level bytes))
+    ∙ ap (λ n. stepsOf (joined (tab n (λ level. historiesAt level bytes)))) (sym all)
+    ∙ ap stepsOf (histories-by-level p root r c (maxLevels - p .levels) ∙ sym (histories-found p root r c))
+
+pub levels-total : LevelsTotal
+levels-total c s a x =
+    let r = ran-is c s a x in
+    rw (r .is) (levels-sum (programOf s) (levelOf s (rootObject s)) (leftBy s) c (few s (r .accept) c))
+
+pub levels-shown : LevelsShown
+levels-shown c s a x level =
+    let r = ran-is c s a x in
+    let at = ap (historiesAt level) (r .is) in
+    let own = histories-of-level (programOf s) (levelOf s (rootObject s)) (leftBy s) c level in
+    record {
+      shown = λ h d. at ∙ own h ∙ rw d refl;
+      hidden = λ h d. at ∙ own h ∙ rw d refl;
+      absent = λ h. at ∙ histories-of-none (programOf s) (levelOf s (rootObject s)) (leftBy s) c level h;
     }
 
 past-no : (v n : ℕ) → eqb v 0 ≡ false → past v n ≡ v

@@ -268,7 +268,12 @@ fn steps_shown(bytes: &[u8], number: usize) -> u32
 
 // Adds a record that is a history's to the steps and the managers of its level. Every level of a session is below
 // MAX_LEVELS; a record that names another has no line of a level.
-fn tally(steps: &mut [u32; MAX_LEVELS], managers: &mut [u32; MAX_LEVELS], bytes: &[u8], number: usize)
+fn tally(
+    steps: &mut [u32; MAX_LEVELS],
+    managers: &mut [u32; MAX_LEVELS],
+    bytes: &[u8],
+    number: usize,
+)
     requires { ⌜ Tallied (now bytes) number (now steps) (now managers) × (number < recordCount (now bytes)) × (length (now bytes) ≤ resultBytes) ⌝ }
     ensures { λ _. ⌜ Tallied (now (bytes .entry)) (number + 1) (now (steps .exit)) (now (managers .exit)) ⌝ }
 {
@@ -296,7 +301,12 @@ fn put_shown_average(page: &mut [u8], at: usize, level: u32, steps: u32, manager
 }
 
 // Writes the lines of the levels, by their number.
-fn put_averages(page: &mut [u8], at: usize, steps: &[u32; MAX_LEVELS], managers: &[u32; MAX_LEVELS]) -> usize
+fn put_averages(
+    page: &mut [u8],
+    at: usize,
+    steps: &[u32; MAX_LEVELS],
+    managers: &[u32; MAX_LEVELS],
+) -> usize
     requires { ⌜ at + length (joined (tab maxLevels (averageIn (now steps) (now managers)))) ≤ length (now page) ⌝ }
     ensures { λ next. ⌜ Placed (joined (tab maxLevels (averageIn (now (steps .entry)) (now (managers .entry))))) at (now (page .entry)) (now (page .exit)) next ⌝ }
 {

@@ -156,6 +156,41 @@ fn downward(scene: &Scene) -> Vec<usize> {
     order
 }
 
+/// Managers of the top level whose methods have so many steps, or one more: the
+/// mean of their steps has any remainder, often the largest there is. The root
+/// makes some of the forks, managers between the others.
+pub fn uneven(random: &mut Random) -> Draft {
+    let levels = random.between(3, LEVELS_MAX);
+    let masks = lattices::chain(random, levels);
+    let mut scene = Scene::new(random, masks);
+    let order = downward(&scene);
+    let (top, low) = (order[0], order[levels - 1]);
+    let middle = scene.random.pick(&order[1..levels - 1]);
+    let [top, middle, low] = [top, middle, low].map(|level| scene.object_at(level));
+
+    let steps = scene.random.below(METHOD_STEPS_MAX);
+    let [short, long] = [steps, steps + 1].map(|steps| {
+        let script = (0..steps).map(|_| scene.quiet(0)).collect();
+        send(scene.add(top, script), top)
+    });
+    let any = scene.random.between(2, KEPT_MAX);
+    let managers = scene.random.pick(&[any, KEPT_MAX]);
+    let any = scene.random.below(managers);
+    let longer = scene.random.pick(&[0, any, managers - 1]);
+    let mut sends = vec![short; managers - longer];
+    sends.extend(vec![long; longer]);
+    scene.random.shuffle(&mut sends);
+
+    let direct = sends.split_off(sends.len() - managers % 5);
+    let mut script: Vec<Operation> = sends
+        .chunks(FORKS_MAX as usize)
+        .map(|sends| send(scene.add(middle, sends.to_vec()), middle))
+        .collect();
+    script.extend(direct);
+    scene.start_with(low, script);
+    scene.draft
+}
+
 /// As many managers as a session can have: a chain of 8 levels, and on each level
 /// every manager makes 15 forks at the next.
 pub fn fullest(random: &mut Random) -> Draft {

@@ -36,6 +36,7 @@ fn valid_draft(random: &mut Random) -> Draft {
         forks::crowd,
         forks::crowd,
         forks::tower,
+        forks::uneven,
         forks::join_above,
         forks::join_above,
         work::versions,

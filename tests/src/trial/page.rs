@@ -1,7 +1,7 @@
 //! Calls of the entry with a page.
 
 use super::Trial;
-use crate::limits::{MANAGERS_MAX, PAGE_LENGTH, RESULT_LENGTH};
+use crate::limits::{KEPT_MAX, LEVELS_MAX, MANAGERS_MAX, PAGE_LENGTH, RESULT_LENGTH};
 use crate::record::History;
 use crate::reference::{self, Reference, Session};
 use crate::request::{Lengths, Outcome, Request, Run};
@@ -19,6 +19,7 @@ impl Trial<'_> {
         tally: &mut Tally,
     ) -> Result<(), String> {
         note_page(session, left, clearance, tally);
+        note_levels(session, left, clearance, tally);
         let page = reference::page(left, session, clearance).into_bytes();
         let expected = Outcome::paged(left.shown(session, clearance), page);
         let request = self.finishing(Run::Page, clearance);
@@ -71,6 +72,50 @@ fn note_page(session: &Session, left: &reference::Outcome, clearance: usize, tal
         (any(|history| history.steps > 99), Event::PageSteps),
         (total > 9_999, Event::PageTotal),
         (total < left.script_steps(), Event::PageHidden),
+    ] {
+        if holds {
+            tally.saw(event);
+        }
+    }
+}
+
+/// What the levels' lines have that wrong ones might lack.
+fn note_levels(session: &Session, left: &reference::Outcome, clearance: usize, tally: &mut Tally) {
+    let is_shown = |level: &usize| session.lattice.dominates(clearance, *level);
+    let managed = |level: &usize| !left.histories[*level].is_empty();
+    let shown: Vec<usize> = session.lattice.levels().filter(is_shown).collect();
+    let averages: Vec<(usize, usize, usize)> = shown
+        .iter()
+        .filter(|&level| managed(level))
+        .map(|&level| {
+            let histories = &left.histories[level];
+            let steps = histories.iter().map(|history| usize::from(history.steps));
+            let (sum, managers) = (steps.sum::<usize>(), histories.len());
+            (managers, sum / managers, sum % managers)
+        })
+        .collect();
+    let any = |test: fn(&(usize, usize, usize)) -> bool| averages.iter().any(test);
+    let is_between =
+        |level: usize| shown[..level].iter().any(managed) && shown[level..].iter().any(managed);
+    for (holds, event) in [
+        (any(|&(_, quotient, _)| quotient > 99), Event::PageQuotient),
+        (
+            any(|&(managers, _, remainder)| managers > 1 && remainder == 0),
+            Event::PageExact,
+        ),
+        (
+            any(|&(.., remainder)| remainder == KEPT_MAX - 1),
+            Event::PageLargestRemainder,
+        ),
+        (
+            (0..shown.len()).any(|i| !managed(&shown[i]) && is_between(i)),
+            Event::PageIdleLevel,
+        ),
+        (
+            session.lattice.levels().any(|level| managed(&level) && !is_shown(&level)),
+            Event::PageHiddenLevel,
+        ),
+        (averages.len() == LEVELS_MAX, Event::PageAllLevels),
     ] {
         if holds {
             tally.saw(event);

@@ -235,20 +235,29 @@ module _ (p : Program) (rootLevel : ℕ) (r : Result) (c : ℕ) where
       ∙ ap₂ _++_ (ap₂ _++_ (kind-other 5 7 (omega arith) _ (objects-kind p r c)) (kind-other 6 7 (omega arith) _ (histories-kind p r c)))
       (select-all (ofOne 7) _ (reply-kind p r c rootLevel))
 
-  -- the histories of a level, and of one level after the other
-  pub histories-of-level : (l : ℕ) → l < p .levels → historiesAt l bytes ≡ groupShown p r c l
+  -- the histories of each level
+  histories-grouped : ofKind 6 bytes ≡ joined (tab (p .levels) (groupShown p r c))
   unfolding historiesShown
+  histories-grouped =
+      histories-found ∙ chosen-groups (p .dom c) (λ l. map (historyRecord l) (r .ended l)) (p .levels) (λ l. l)
+
+  pub histories-of-level : (l : ℕ) → l < p .levels → historiesAt l bytes ≡ groupShown p r c l
   histories-of-level l h =
-      ap (select (ofLevel l)) (histories-found ∙ chosen-groups (p .dom c) (λ k. map (historyRecord k) (r .ended k)) (p .levels) (λ k. k))
+      ap (select (ofLevel l)) histories-grouped
       ∙ pick-own ofLevel (groupShown p r c) (group-own p r c) (group-other p r c) (p .levels) l h
 
+  pub histories-of-none : (l : ℕ) → p .levels ≤ l → historiesAt l bytes ≡ []
+  histories-of-none l h =
+      ap (select (ofLevel l)) histories-grouped
+      ∙ pick-none ofLevel (groupShown p r c) (group-own p r c) (group-other p r c) (p .levels) l h
+
+  -- and of one level after the other
   pub histories-by-level : (more : ℕ) → joined (tab (p .levels + more) (λ l. historiesAt l bytes)) ≡ historiesShown p r c
-  unfolding historiesShown
   histories-by-level more =
-      let groups : joined (tab (p .levels) (groupShown p r c)) ≡ historiesShown p r c = sym (chosen-groups (p .dom c) (λ l. map (historyRecord l) (r .ended l)) (p .levels) (λ l. l)) in
-      ap (λ hs. joined (tab (p .levels + more) (λ l. select (ofLevel l) hs))) (histories-found ∙ sym groups)
+      ap (λ hs. joined (tab (p .levels + more) (λ l. select (ofLevel l) hs))) histories-grouped
       ∙ picked ofLevel (groupShown p r c) (group-own p r c) (group-other p r c) (p .levels) more
-      ∙ groups
+      ∙ sym histories-grouped
+      ∙ histories-found
 
   -- the bytes are made of the records that document 01 compares, of as many levels as one likes
   pub made-of-records : (more : ℕ) → bytes ≡ joined (ofKind 5 bytes ++ joined (tab (p .levels + more) (λ l. historiesAt l bytes)) ++ ofKind 7 bytes)
