@@ -13,7 +13,7 @@
  *   11        the result buffer has fewer than 4,624 bytes
  *   12 to 14  a step of the timetable
  *   15        at the timetable's end a manager has not ended
- *   16        the page buffer has fewer than 7,196 bytes; put after 11
+ *   16        the page buffer has fewer than 7,420 bytes; put after 11
  *
  * A slice is a pointer and the number of its elements. The pointer is to so many
  * elements, and aligned for their type. Where the number is 0 it may be NULL, or
@@ -58,7 +58,7 @@
  * numbers of `place_and_count`, numbers of `place_and_counts`. */
 #define LUPINPAUSE_WORK 8192
 #define LUPINPAUSE_RESULT 4624
-#define LUPINPAUSE_PAGE 7196
+#define LUPINPAUSE_PAGE 7420
 #define LUPINPAUSE_PLACE_AND_COUNT 2
 #define LUPINPAUSE_PLACE_AND_COUNTS 3
 
@@ -100,9 +100,10 @@ uint32_t lupinpause_run_depth_first(
     uint32_t *place_and_count, size_t place_and_count_length);
 
 /* The depth-first run, which also writes a page: a line of 27 columns and a line
- * feed for each history record of the result, in their order, and a last line with
- * the sum of their script steps (docs/FORMAT.md). Put after the questions of the
- * depth-first run, 16 asks for the page buffer. */
+ * feed for each history record of the result, in their order, one with the sum of
+ * their script steps, and below it one with the mean for each level that they are
+ * of, by its number (docs/FORMAT.md). Put after the questions of the depth-first
+ * run, 16 asks for the page buffer. */
 uint32_t lupinpause_run_page(
     const uint8_t *session, size_t session_length,
     size_t clearance,

@@ -101,7 +101,7 @@ pub extern "C" fn lupinpause_run_depth_first(
     report(place_and_count, answer)
 }
 
-// The depth-first run with a page of its histories. `page` has at least 7,196 bytes, or the run is refused.
+// The depth-first run with a page of its histories. `page` has at least 7,420 bytes, or the run is refused.
 #[no_mangle]
 pub extern "C" fn lupinpause_run_page(
     session: &[u8],

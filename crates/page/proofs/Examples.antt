@@ -1,5 +1,5 @@
 -- Pages and their parts, computed from the definitions. Assumes nothing.
-use Prim.Native.Nat.{ℕ}
+use Prim.Native.Nat.{ℕ, _*_}
 use Prim.Native.Char.{code}
 use Prim.Native.String.{String, [] as []ᵗ, _∷_ as _∷ᵗ_}
 use mathlib.Core.Path.{_≡_, refl}
@@ -39,9 +39,9 @@ object2 = 0x05 ∷ 0x02 ∷ 0x00 ∷ 0x04 ∷ 0x00 ∷ 0x00 ∷ 0x00 ∷ 0x00 �
 abbrev full : Record
 full = 0x06 ∷ 0x07 ∷ 0x02 ∷ 0x10 ∷ 0x90 ∷ 0xBA ∷ 0xDC ∷ 0xFE ∷ 0xF1 ∷ 0x01 ∷ 0x00 ∷ 0x02 ∷ 0x00 ∷ 0x01 ∷ 0x00 ∷ 0x00 ∷ []
 
--- a history of a level with so many script steps
-abbrev of : ℕ → ℕ → Record
-of level steps = 0x06 ∷ level ∷ 0x00 ∷ 0x00 ∷ 0x00 ∷ 0x00 ∷ 0x00 ∷ 0x20 ∷ 0x01 ∷ 0x00 ∷ 0x01 ∷ 0x00 ∷ steps ∷ 0x00 ∷ 0x00 ∷ 0x00 ∷ []
+-- a history of a level, of the root's first, second .. fork, with so many script steps
+abbrev of : ℕ → ℕ → ℕ → Record
+of level fork steps = 0x06 ∷ level ∷ 0x00 ∷ 0x00 ∷ 0x00 ∷ 0x00 ∷ 0x00 ∷ 0x10 * fork ∷ 0x01 ∷ 0x00 ∷ 0x01 ∷ 0x00 ∷ steps ∷ 0x00 ∷ 0x00 ∷ 0x00 ∷ []
 
 pub record Examples : Type 0 where
   session-w-0 : pageOf (joined (object0 ∷ history0 ∷ reply ∷ []))
@@ -51,10 +51,10 @@ pub record Examples : Type 0 where
   -- the third field of an object is not among the steps
   objects-aside : pageOf (joined (object2 ∷ history0 ∷ [])) ≡ codes "00000000 0 0  1   1   2   5\nTOTAL                     5\nLEVEL 0           5       0\n"
   -- levels stand by number, wherever their histories do; level 1 has none. 9 + 12 + 2 = 3 × 7 + 2
-  averages : pageOf (joined (of 2 9 ∷ of 2 12 ∷ history0 ∷ of 2 2 ∷ []))
-      ≡ codes "20000000 2 0  0   1   1   9\n20000000 2 0  0   1   1  12\n00000000 0 0  1   1   2   5\n20000000 2 0  0   1   1   2\nTOTAL                    28\nLEVEL 0           5       0\nLEVEL 2           7       2\n"
+  averages : pageOf (joined (of 2 1 9 ∷ of 2 2 12 ∷ history0 ∷ of 2 3 2 ∷ []))
+      ≡ codes "10000000 2 0  0   1   1   9\n20000000 2 0  0   1   1  12\n00000000 0 0  1   1   2   5\n30000000 2 0  0   1   1   2\nTOTAL                    28\nLEVEL 0           5       0\nLEVEL 2           7       2\n"
   -- a level that no session has is in the total alone
-  no-such-level : pageOf (joined (of 8 9 ∷ [])) ≡ codes "20000000 8 0  0   1   1   9\nTOTAL                     9\n"
+  no-such-level : pageOf (joined (of 8 1 9 ∷ [])) ≡ codes "10000000 8 0  0   1   1   9\nTOTAL                     9\n"
   nothing-shown : pageOf [] ≡ codes "TOTAL                     0\n"
   filled : lineOf full ≡ codes "FEDCBA90 7 2 16 497 512 256\n"
   largest-total : totalLine 57600 ≡ codes "TOTAL                 57600\n"

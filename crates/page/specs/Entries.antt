@@ -12,7 +12,7 @@ use Rattle.model.specs.Reader.{bytesWritten}
 use Rattle.page.specs.Text.{pageOf}
 use Rattle.page.specs.declared.PageAnswer.{PageAnswer}
 
--- 16. Is the page buffer at least 7,196 bytes?
+-- 16. Is the page buffer at least 7,420 bytes?
 abbrev pub question16 : List ℕ → Bool
 question16 page = leb pageBytes (length page)
 

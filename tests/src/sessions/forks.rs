@@ -174,9 +174,9 @@ pub fn uneven(random: &mut Random) -> Draft {
         send(scene.add(top, script), top)
     });
     let any = scene.random.between(2, KEPT_MAX);
-    let managers = scene.random.pick(&[any, KEPT_MAX]);
+    let managers = scene.random.pick(&[any, KEPT_MAX, KEPT_MAX]);
     let any = scene.random.below(managers);
-    let longer = scene.random.pick(&[0, any, managers - 1]);
+    let longer = scene.random.pick(&[any, managers - 1]);
     let mut sends = vec![short; managers - longer];
     sends.extend(vec![long; longer]);
     scene.random.shuffle(&mut sends);

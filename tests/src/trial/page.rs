@@ -112,7 +112,10 @@ fn note_levels(session: &Session, left: &reference::Outcome, clearance: usize, t
             Event::PageIdleLevel,
         ),
         (
-            session.lattice.levels().any(|level| managed(&level) && !is_shown(&level)),
+            session
+                .lattice
+                .levels()
+                .any(|level| managed(&level) && !is_shown(&level)),
             Event::PageHiddenLevel,
         ),
         (averages.len() == LEVELS_MAX, Event::PageAllLevels),
