@@ -7,7 +7,7 @@ use lib.ListN.{length, take, drop}
 use Rattle.session.specs.Limits.{maxLevels}
 use Rattle.session.specs.Record.{Record}
 use Rattle.session.specs.Meaning.{rootOf}
-use Rattle.session.specs.Program.{Program, programOf}
+use Rattle.session.specs.Program.{programOf}
 use Rattle.session.specs.Emptied.{emptied}
 use Rattle.model.specs.DepthFirst.{depthFirst}
 use Rattle.model.specs.Result.{Result, resultOfDepthFirst, historyRecord, levelIn, endingIn, writesIn, stampIn, firstIn, lastIn, stepsIn}

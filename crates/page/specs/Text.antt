@@ -100,7 +100,7 @@ totalLine n = totalWord ++ apartIn totalGap totalColumns n ++ (lineFeed ∷ [])
 abbrev pub levelWord : List ℕ
 levelWord = 76 ∷ 69 ∷ 86 ∷ 69 ∷ 76 ∷ []
 
--- "quotient at 17 to 19", "remainder at 25 to 27", and the blanks before each: from column 8 and from column 20 on
+-- "quotient at 17 to 19 and its remainder at 25 to 27, right-aligned", and the blanks before each: from column 8 and from column 20 on
 abbrev pub quotientColumns : ℕ
 quotientColumns = 3
 
@@ -148,7 +148,8 @@ quotientAt level bytes = stepsAt level bytes / managersAt level bytes
 abbrev pub remainderAt : ℕ → List ℕ → ℕ
 remainderAt level bytes = stepsAt level bytes % managersAt level bytes
 
--- each "shown level that had managers, by level number". Every level of a session is below `maxLevels`
+-- each "shown level that had managers, by level number". Every level of a session is below `maxLevels`: a record that names another is in the
+-- total alone
 unfoldable pub levelsIn : List ℕ → List ℕ
 levelsIn bytes = select (λ level. ltb 0 (managersAt level bytes)) (tab maxLevels (λ level. level))
 

@@ -1,7 +1,6 @@
 -- The steps and managers of each level, one record more; and the line of a level, by whether it had managers. Assumes nothing.
-use Prim.Native.Nat.{ℕ, _+_, _*_, _-_, _/_, _%_, _^_, _≤_, _<_}
+use Prim.Native.Nat.{ℕ, _+_, _*_, _-_, _/_, _^_, _≤_, _<_}
 use mathlib.Core.Path.{_≡_, refl, sym, _∙_, ap}
-use mathlib.Core.Bool.{Bool, true, false, _&&_}
 use mathlib.Core.List.{List, []}
 use native.Mathlib.Decide.{ℕ-discrete}
 use native.Mathlib.Nat.{mod-eq-sub-div-mul}
@@ -10,11 +9,10 @@ use borrow.Author.Tests.{eq-eqb, ne-eqb, lt-ltb, le-ltb}
 use lib.ListN.{length, getD, set, replicate, length-set, getD-replicate}
 use lib.Seq.{getD-set-same, getD-set-other}
 use Rattle.session.specs.Limits.{maxLevels}
-use Rattle.session.specs.Lists.{tab}
 use Rattle.session.specs.Record.{Record, recordAt, kindOf}
 use Rattle.session.proofs.Laws.Lists.{holds, fails, truth}
 use Rattle.model.specs.Result.{levelIn, stepsIn}
-use Rattle.page.specs.Text.{averageLine, sumOf}
+use Rattle.page.specs.Text.{averageLine}
 use Rattle.page.specs.Shown.{isHistory, stepsAdded, managersAdded, Tallied, shownAverage}
 use Rattle.page.proofs.Laws.Shown.{sum-none, sum-more}
 

@@ -1,5 +1,5 @@
 -- `page::text::put_averages` meets its contract. The invariant: the lines of the levels passed are placed. Assumes nothing.
-use Prim.Native.Nat.{_+_, _-_, _≤_, _<_}
+use Prim.Native.Nat.{_-_, _≤_, _<_}
 use mathlib.Core.Path.{_≡_}
 use native.Mathlib.Omega.{arith}
 use lib.ListN.{length}

@@ -2,7 +2,6 @@
 -- counted. Assumes nothing.
 use Prim.Native.Nat.{_*_, _-_, _^_, _≤_, _<_}
 use mathlib.Core.Path.{_≡_, sym, _∙_, ap}
-use mathlib.Core.List.{List}
 use native.Mathlib.Omega.{arith}
 use lib.ListN.{length}
 use Rattle.session.specs.Limits.{maxLevels}
@@ -11,7 +10,7 @@ use Rattle.session.specs.Record.{recordCount}
 use Rattle.records.specs.Writing.{Placed}
 use Rattle.records.proofs.Laws.Placed.{placed-length, placed-then, placed-written, groups-none, groups-more}
 use Rattle.page.specs.Text.{totalLine, sumOf}
-use Rattle.page.specs.Shown.{Tallied, averageIn}
+use Rattle.page.specs.Shown.{Tallied}
 use Rattle.page.proofs.Laws.Lengths.{total-length}
 use Rattle.page.proofs.Laws.Shown.{recordLine, recordSteps, levelLine, levels-tallied, aboveLevels, page-is, sum-none, sum-more, page-room, levels-room}
 use Rattle.page.proofs.Laws.Levels.{tallied-none}
