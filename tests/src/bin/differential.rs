@@ -26,7 +26,7 @@ use std::{env, fs, thread, time::Instant};
 const ENOUGH: u64 = 20_000;
 
 /// So many vectors are recorded.
-const VECTORS: usize = 4_919;
+const VECTORS: usize = 5_602;
 
 fn main() -> ExitCode {
     match run() {
