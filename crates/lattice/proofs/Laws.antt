@@ -2,4 +2,5 @@
 pub mod Range
 pub mod Order
 pub mod Join
+pub mod Meet
 pub mod Table

@@ -1,5 +1,5 @@
-// Level tables: which level dominates which, whether a table is an order with least upper bounds
-// (document 01, questions 4 and 5), and the join of two levels.
+// Level tables: which level dominates which, whether a table is an order with least upper and greatest
+// lower bounds (questions 4 and 5 of document 01, 17 of document 02), and the join of two levels.
 //
 // A table is a lent slice with one mask for each level: bit k of mask i is set when level i
 // dominates level k. A mask of 16 bits has room for sixteen levels.
@@ -11,19 +11,22 @@ ghost use lib.ListN.{length};
 ghost use Rattle.lattice.specs.Range.{implies, first};
 ghost use Rattle.lattice.specs.Order.{reflexive, antisymmetric, transitive};
 ghost use Rattle.lattice.specs.Join.{isUpper, isLeast};
-ghost use Rattle.lattice.specs.Table.{bit, dominates, namesPresent, isOrdered, joinOf, isJoined, verdictOf};
+ghost use Rattle.lattice.specs.Meet.{isLowest};
+ghost use Rattle.lattice.specs.Table.{bit, dominates, namesPresent, isOrdered, joinOf, isJoined, isMet, verdictOf};
 
 // The levels that one mask has room for.
 const WIDTH: usize = 16;
 
 // What the questions about a level table say of it.
 pub enum Verdict {
-    // Questions 4 and 5 both say yes.
+    // Questions 4, 5 and 17 all say yes.
     Passed,
     // Question 4 says no: the masks are no order of the levels.
     NotOrdered,
     // Question 5 says no: some pair of levels has no least upper bound.
     NoJoin,
+    // Question 17 says no: some pair of levels has no greatest lower bound.
+    NoMeet,
 }
 
 // Whether bit `k` of `mask` is set. No bit from 16 on is.
@@ -238,16 +241,46 @@ fn has_joins(masks: &[u16]) -> bool
     true
 }
 
-// What questions 4 and 5 say of a table, of any length and content.
+// Whether all levels dominate level `l`.
+fn is_lowest(masks: &[u16], l: usize) -> bool
+    ensures { λ r. ⌜ r ≡ isLowest (length (now (masks .entry))) (dominates (now (masks .entry))) l ⌝ }
+{
+    for i in 0..masks.len() {
+        if !dominates(masks, i, l) {
+            return false;
+        }
+    }
+    true
+}
+
+// Question 17, of a table that passed questions 4 and 5: where there is a level, each pair has a greatest lower
+// bound exactly where some level is dominated by all.
+fn has_meets(masks: &[u16]) -> bool
+    requires { ⌜ (isOrdered (now masks) ≡ true) × (isJoined (now masks) ≡ true) ⌝ }
+    ensures { λ r. ⌜ r ≡ isMet (now (masks .entry)) ⌝ }
+{
+    let n = masks.len();
+    for l in 0..n {
+        if is_lowest(masks, l) {
+            return true;
+        }
+    }
+    n == 0
+}
+
+// What questions 4, 5 and 17, in this order, say of a table, of any length and content.
 pub fn check(masks: &[u16]) -> Verdict
     ensures { λ r. ⌜ r ≡ verdictOf (now (masks .entry)) ⌝ }
 {
     if !is_ordered(masks) {
         return Verdict::NotOrdered;
     }
-    if has_joins(masks) {
+    if !has_joins(masks) {
+        return Verdict::NoJoin;
+    }
+    if has_meets(masks) {
         Verdict::Passed
     } else {
-        Verdict::NoJoin
+        Verdict::NoMeet
     }
 }

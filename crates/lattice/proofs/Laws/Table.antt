@@ -12,11 +12,14 @@ use lib.Pow.{pow-pos, pow-mono}
 use lib.ListN.{length, getD, List·getD-eq-default}
 use Rattle.lattice.specs.Order.{reflexive, antisymmetric, transitive, isOrder, PartialOrder}
 use Rattle.lattice.specs.Join.{JoinSemilattice}
-use Rattle.lattice.specs.Table.{bit, dominates, namesPresent, isOrdered, isJoined, verdictOf}
-use Rattle.lattice.specs.declared.Verdict.the-variants.{Passed, NotOrdered, NoJoin}
+use Rattle.lattice.specs.Meet.{isLowest, hasLowest, Lattice}
+use Rattle.lattice.specs.Table.{bit, dominates, namesPresent, isOrdered, isJoined, isMet, verdictOf}
+use Rattle.lattice.specs.declared.Verdict.{Verdict}
+use Rattle.lattice.specs.declared.Verdict.the-variants.{Passed, NotOrdered, NoJoin, NoMeet}
 use Rattle.lattice.proofs.Laws.Range.{and-left, and-right, not-both, all-each}
 use Rattle.lattice.proofs.Laws.Order.{order}
 use Rattle.lattice.proofs.Laws.Join.{semilattice}
+use Rattle.lattice.proofs.Laws.Meet.{meets-by-lowest, lowest-found, lowest-none, met-none, lattice}
 
 -- no bit is set from the mask's width on
 pub bit-beyond : (mask k : ℕ) → mask < 2 ^ k → bit mask k ≡ false
@@ -84,6 +87,21 @@ module _ (masks : List ℕ) (o : isOrdered masks ≡ true) where
           let le : length masks ≤ k = omega arith in
           absurd (not-both (bit (getD masks i 0) k) e (bit-beyond (getD masks i 0) k (le-trans small (pow-mono le))))
 
+-- question 17 of a table that passed 4 and 5: a level that all dominate answers yes; where there is none, it is yes of no levels alone
+module _ (masks : List ℕ) (o : isOrdered masks ≡ true) (j : isJoined masks ≡ true) where
+  by-lowest : 0 < length masks → isMet masks ≡ hasLowest (length masks) (dominates masks)
+  by-lowest h = meets-by-lowest (length masks) (dominates masks) (semilattice (length masks) (dominates masks) (is-order masks o) j) h
+
+  pub lowest-met : (l : ℕ) → l < length masks → isLowest (length masks) (dominates masks) l ≡ true → isMet masks ≡ true
+  lowest-met l h e = by-lowest (omega arith) ∙ lowest-found (length masks) (dominates masks) l h e
+
+  pub none-met : ((l : ℕ) → l < length masks → isLowest (length masks) (dominates masks) l ≡ false) → isMet masks ≡ eqb (length masks) 0
+  none-met f = go (decLt 0 (length masks))
+    where
+      go : Dec (0 < length masks) → isMet masks ≡ eqb (length masks) 0
+      go (yes h) = by-lowest h ∙ lowest-none (length masks) (dominates masks) f ∙ sym (ne-eqb (length masks) 0 (omega arith))
+      go (no h) = let z : length masks ≡ 0 = omega arith in rw z (met-none (dominates masks))
+
 -- the verdict, from the questions and back
 pub not-ordered : (masks : List ℕ) → isOrdered masks ≡ false → verdictOf masks ≡ NotOrdered
 unfolding verdictOf
@@ -93,47 +111,46 @@ pub no-join : (masks : List ℕ) → isOrdered masks ≡ true → isJoined masks
 unfolding verdictOf
 no-join masks o j = rw (o, j)
 
-pub both-pass : (masks : List ℕ) → isOrdered masks ≡ true → isJoined masks ≡ true → verdictOf masks ≡ Passed
+pub no-meet : (masks : List ℕ) → isOrdered masks ≡ true → isJoined masks ≡ true → isMet masks ≡ false → verdictOf masks ≡ NoMeet
 unfolding verdictOf
-both-pass masks o j = rw (o, j)
+no-meet masks o j m = rw (o, j, m)
+
+pub all-pass : (masks : List ℕ) → isOrdered masks ≡ true → isJoined masks ≡ true → isMet masks ≡ true → verdictOf masks ≡ Passed
+unfolding verdictOf
+all-pass masks o j m = rw (o, j, m)
+
+-- what each verdict tells of the questions
+abbrev pub Told : Verdict → Bool → Bool → Bool → Type 0
+Told Passed o j m = (o ≡ true) × (j ≡ true) × (m ≡ true)
+Told NotOrdered o j m = o ≡ false
+Told NoJoin o j m = (o ≡ true) × (j ≡ false)
+Told NoMeet o j m = (o ≡ true) × (j ≡ true) × (m ≡ false)
+
+told-by : (o j m : Bool) → Told (cond o (cond j (cond m Passed NoMeet) NoJoin) NotOrdered) o j m
+told-by true true true = (refl, refl, refl)
+told-by true true false = (refl, refl, refl)
+told-by true false m = (refl, refl)
+told-by false j m = refl
+
+pub told : (masks : List ℕ) (v : Verdict) → verdictOf masks ≡ v → Told v (isOrdered masks) (isJoined masks) (isMet masks)
+unfolding verdictOf
+told masks v e = rw e at (told-by (isOrdered masks) (isJoined masks) (isMet masks))
 
 module _ (masks : List ℕ) where
   pub passed-ordered : verdictOf masks ≡ Passed → isOrdered masks ≡ true
-  unfolding verdictOf
-  passed-ordered e = go (isOrdered masks) (isJoined masks) e
-    where
-      go : (a b : Bool) → cond a (cond b Passed NoJoin) NotOrdered ≡ Passed → a ≡ true
-      go true b t = refl
-      go false b t = cc
+  passed-ordered e = told masks Passed e .0
 
   pub passed-joined : verdictOf masks ≡ Passed → isJoined masks ≡ true
-  unfolding verdictOf
-  passed-joined e = go (isOrdered masks) (isJoined masks) e
-    where
-      go : (a b : Bool) → cond a (cond b Passed NoJoin) NotOrdered ≡ Passed → b ≡ true
-      go true true t = refl
-      go true false t = cc
-      go false b t = cc
+  passed-joined e = told masks Passed e .1
 
-  pub refused-ordered : verdictOf masks ≡ NotOrdered → isOrdered masks ≡ false
-  unfolding verdictOf
-  refused-ordered e = go (isOrdered masks) (isJoined masks) e
-    where
-      go : (a b : Bool) → cond a (cond b Passed NoJoin) NotOrdered ≡ NotOrdered → a ≡ false
-      go true true t = cc
-      go true false t = cc
-      go false b t = refl
+  pub passed-met : verdictOf masks ≡ Passed → isMet masks ≡ true
+  passed-met e = told masks Passed e .2
 
-  pub refused-joined : verdictOf masks ≡ NoJoin → (isOrdered masks ≡ true) × (isJoined masks ≡ false)
-  unfolding verdictOf
-  refused-joined e = go (isOrdered masks) (isJoined masks) e
-    where
-      go : (a b : Bool) → cond a (cond b Passed NoJoin) NotOrdered ≡ NoJoin → (a ≡ true) × (b ≡ false)
-      go true true t = (cc, cc)
-      go true false t = (refl, refl)
-      go false b t = (cc, cc)
-
--- the levels of a table that passed are a join semilattice
+-- the levels of a table that passed are a join semilattice, and a lattice
 pub passed : (masks : List ℕ) → verdictOf masks ≡ Passed → JoinSemilattice (length masks) (dominates masks)
 passed masks e =
     semilattice (length masks) (dominates masks) (is-order masks (passed-ordered masks e)) (passed-joined masks e)
+
+pub passed-lattice : (masks : List ℕ) → verdictOf masks ≡ Passed → Lattice (length masks) (dominates masks)
+passed-lattice masks e =
+    lattice (length masks) (dominates masks) (is-order masks (passed-ordered masks e)) (passed-joined masks e) (passed-met masks e)
