@@ -1,6 +1,7 @@
 -- Least upper bounds of levels 0 to n − 1 under a dominance test. Any n, any test. Assumes nothing.
 -- A greatest lower bound is a least upper bound of the reversed test.
--- Laws (`proofs/Laws/Join`): `hasJoins` says yes exactly where each pair has a least upper bound (`joined`, `all-joined`); what passes
+-- Laws (`proofs/Laws/Join`): `hasJoins` says yes exactly where each pair has a least upper bound (`joined`, `all-joined`), and no where some pair has
+-- none (`unjoined`); what passes
 -- questions 4 and 5 is a join semilattice (`semilattice`). A least upper bound is unique (`unique`, `join-is`), and the join commutes
 -- (`join-comm`). The join of m and l is m exactly where m dominates l (`join-same`), and else lies strictly above m (`join-strict`). A
 -- level dominates a join exactly where it dominates both levels (`join-below`).
@@ -33,6 +34,14 @@ pub record LeastUpper (n : ℕ) (dom : Dominance) (a b u : ℕ) : Type 0 where
   pub above-left : dom u a ≡ true
   pub above-right : dom u b ≡ true
   pub least : (v : ℕ) → v < n → dom v a ≡ true → dom v b ≡ true → dom v u ≡ true
+
+-- a pair of levels that has no least upper bound
+pub record Unjoined (n : ℕ) (dom : Dominance) : Type 0 where
+  pub left : ℕ
+  pub right : ℕ
+  pub left-present : left < n
+  pub right-present : right < n
+  pub none : (u : ℕ) → LeastUpper n dom left right u → ⊥
 
 -- what questions 4 and 5 together say: the levels are a join semilattice, and `join` is its join
 pub record JoinSemilattice (n : ℕ) (dom : Dominance) : Type 0 where

@@ -7,7 +7,7 @@ use mathlib.Core.Bool.{Bool}
 use lib.Dec.{ltb}
 use Rattle.lattice.specs.Range.{all, first}
 use Rattle.lattice.specs.Order.{Dominance}
-use Rattle.lattice.specs.Join.{join, hasJoins, LeastUpper, JoinSemilattice}
+use Rattle.lattice.specs.Join.{join, hasJoins, LeastUpper, Unjoined, JoinSemilattice}
 
 -- the reversed test: a level is above those that dominate it
 abbrev pub reversed : Dominance → Dominance
@@ -24,6 +24,10 @@ hasMeets n dom = hasJoins n (reversed dom)
 -- u is the greatest lower bound of a and b
 abbrev pub GreatestLower : ℕ → Dominance → ℕ → ℕ → ℕ → Type 0
 GreatestLower n dom = LeastUpper n (reversed dom)
+
+-- a pair of levels that has no greatest lower bound
+abbrev pub Unmet : ℕ → Dominance → Type 0
+Unmet n dom = Unjoined n (reversed dom)
 
 -- all levels dominate level l, and some level is such
 unfoldable pub isLowest : ℕ → Dominance → ℕ → Bool

@@ -4,7 +4,7 @@
 use Prim.Native.Nat.{ℕ, _+_, _*_}
 use mathlib.Core.Path.{_≡_, refl}
 use mathlib.Core.List.{List, [], _∷_, _++_}
-use lib.ListN.{length, take, drop, set}
+use lib.ListN.{length, take, drop, set, replicate}
 use Rattle.lattice.specs.Range.{all, first}
 use Rattle.lattice.specs.Order.{reflexive, antisymmetric, transitive, isOrder}
 use Rattle.lattice.specs.Join.{isLeast, join, hasJoins}
@@ -19,13 +19,22 @@ use Rattle.session.specs.SessionW.{sessionW}
 use Rattle.session.specs.declared.Value.the-variants.{Nil, Number}
 use Rattle.session.specs.declared.Step.the-variants.{Set, Read, Write, Send, Quit}
 
--- document 01's number for a list of bytes
+-- the documents' number for a list of bytes
 abbrev number : List ℕ → ℕ
 number s = numberOfVerdict (verdictOf s)
 
 -- W with byte k of record r changed
 abbrev with : ℕ → ℕ → ℕ → List ℕ
 with r k v = set sessionW (16 * r + k) v
+
+-- masks 01, 02, 07, one object at level 0, and the root message to it
+abbrev unmet : List ℕ
+unmet =
+    1 ∷ 0 ∷ 1 ∷ replicate 13 0
+    ++ 1 ∷ 1 ∷ 2 ∷ replicate 13 0
+    ++ 1 ∷ 2 ∷ 7 ∷ replicate 13 0
+    ++ 2 ∷ replicate 15 0
+    ++ 4 ∷ replicate 15 0
 
 -- level 3 over 1 and 2, and these over 0. Objects 0 to 3 at levels 2, 0, 3 and 1 hold values and have scripts; object 1 sends to
 -- object 0, which the root message goes to, with the number 6
@@ -83,6 +92,11 @@ pub record Examples : Type 0 where
   level-padding : number (with 1 15 1) ≡ 3
   own-bit-missing : number (with 1 2 0x01) ≡ 4
   no-bound : number (with 1 2 0x02) ≡ 5
+  -- 17 is put after 5 and before 6, whatever its number
+  no-lower-bound : number unmet ≡ 17
+  seventeen-before-6 : number (set unmet (16 * 3 + 2) 9) ≡ 17
+  five-before-17 : number (set unmet (16 * 2 + 2) 0x04) ≡ 5
+  six-else : number (set (set unmet (16 * 1 + 2) 0x03) (16 * 3 + 2) 9) ≡ 6
   level-absent : number (with 2 2 2) ≡ 6
   mask-8 : number (with 3 3 8) ≡ 6
   nil-not-0 : number (with 3 7 1) ≡ 6
@@ -125,6 +139,10 @@ examples =
       level-padding = refl;
       own-bit-missing = refl;
       no-bound = refl;
+      no-lower-bound = refl;
+      seventeen-before-6 = refl;
+      five-before-17 = refl;
+      six-else = refl;
       level-absent = refl;
       mask-8 = refl;
       nil-not-0 = refl;

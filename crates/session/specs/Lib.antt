@@ -5,6 +5,7 @@ pub mod Record
 pub mod Words
 pub mod Parts
 pub mod Questions
+pub mod Fewer
 pub mod Meaning
 pub mod Emptied
 pub mod Reading

@@ -1,12 +1,13 @@
--- Questions 1 to 8 of document 01, in its order and words, and the verdict on a list of bytes. Assumes nothing.
--- Laws (`proofs/Laws/Verdict`): a session is accepted exactly where all eight questions say yes (`accepted`, `all-yes`).
+-- Questions 1 to 8 of document 01 and 17 of document 02, in their order and words, and the verdict on a list of bytes. A question's number is
+-- not its position: 17 is put between 5 and 6. Assumes nothing.
+-- Laws (`proofs/Laws/Verdict`): a session is accepted exactly where all nine questions say yes (`accepted`, `all-yes`).
 use Prim.Native.Nat.{ℕ, _+_, _*_, _%_, _^_}
 use mathlib.Core.Bool.{Bool, false, cond, _&&_, _||_}
 use mathlib.Core.List.{List, [], _∷_}
 use lib.Dec.{eqb, leb, ltb}
 use lib.ListN.{length}
 use Rattle.lattice.specs.Range.{all}
-use Rattle.lattice.specs.Table.{isOrdered, isJoined}
+use Rattle.lattice.specs.Table.{isOrdered, isJoined, isMet}
 use Rattle.session.specs.Limits.{recordBytes, maxRecords, maxLevels, maxObjects, maxSteps, maxMethod, names, registers, fields}
 use Rattle.session.specs.Lists.{every, risingFrom, countsFrom}
 use Rattle.session.specs.Record.{Record, recordCount, recordsOf, zeroAt, from, between, kindOf, numberOf, objectOf, levelByte, fieldMask, holds, nameOf, stepOf, tagOf}
@@ -14,7 +15,7 @@ use Rattle.session.specs.Parts.{levelRecords, objectRecords, stepRecords
 use Rattle.session.specs.declared.Step.{Step}
 use Rattle.session.specs.declared.Step.the-variants.{End, Set, Add, Jump, Read, Write, Send, Quit}
 use Rattle.session.specs.declared.Verdict.{Verdict}
-use Rattle.session.specs.declared.Verdict.the-variants.{Accepted, Length, Kinds, Numbering, NotOrdered, NoJoin, Object, Script, Root}
+use Rattle.session.specs.declared.Verdict.the-variants.{Accepted, Length, Kinds, Numbering, NotOrdered, NoJoin, NoMeet, Object, Script, Root}
 
 -- 1. Is the length 1 to 297 whole records?
 unfoldable pub question1 : List ℕ → Bool
@@ -47,6 +48,10 @@ question4 s = isOrdered (masksOf s)
 -- 5. Has every pair of levels a least upper bound?
 abbrev pub question5 : List ℕ → Bool
 question5 s = isJoined (masksOf s)
+
+-- 17, "put straight after question 5": has each pair of levels a greatest lower bound?
+abbrev pub question17 : List ℕ → Bool
+question17 s = isMet (masksOf s)
 
 -- field k holds a number, or is NIL and 0
 abbrev pub fieldValid : Record → ℕ → Bool
@@ -141,6 +146,7 @@ asked s =
     ∷ record { says = question3 s; refusal = Numbering }
     ∷ record { says = question4 s; refusal = NotOrdered }
     ∷ record { says = question5 s; refusal = NoJoin }
+    ∷ record { says = question17 s; refusal = NoMeet }
     ∷ record { says = question6 s; refusal = Object }
     ∷ record { says = question7 s; refusal = Script }
     ∷ record { says = question8 s; refusal = Root }
@@ -150,7 +156,7 @@ asked s =
 unfoldable pub verdictOf : List ℕ → Verdict
 verdictOf s = firstNo (asked s)
 
--- document 01's number of a verdict
+-- the documents' number of a verdict
 abbrev pub numberOfVerdict : Verdict → ℕ
 numberOfVerdict Accepted = 0
 numberOfVerdict Length = 1
@@ -158,6 +164,7 @@ numberOfVerdict Kinds = 2
 numberOfVerdict Numbering = 3
 numberOfVerdict NotOrdered = 4
 numberOfVerdict NoJoin = 5
+numberOfVerdict NoMeet = 17
 numberOfVerdict Object = 6
 numberOfVerdict Script = 7
 numberOfVerdict Root = 8

@@ -65,8 +65,8 @@ pub struct Layout {
     pub steps: usize,
 }
 
-// What the questions that document 01's Check uses say of a session: that all say yes, or the
-// lowest that says no.
+// What the questions that Check uses say of a session: that all say yes, or the first that says no, in
+// the order in which they are put.
 pub enum Verdict {
     Accepted,
     // Question 1: not 1 to 297 whole records.
@@ -79,6 +79,8 @@ pub enum Verdict {
     NotOrdered,
     // Question 5: two levels have no least upper bound.
     NoJoin,
+    // Question 17, put straight after question 5: two levels have no greatest lower bound.
+    NoMeet,
     // Question 6: an object.
     Object,
     // Question 7: a script step.
@@ -98,7 +100,7 @@ pub struct Checked {
 fn check_contents(session: &[u8], levels: usize, objects: usize, steps: usize) -> Verdict
     requires { ⌜ question2 (now session) ≡ true ⌝ }
     requires { ⌜ Counted (now session) levels objects steps ⌝ }
-    ensures { λ x. ⌜ x ≡ firstNo (drop 5 (asked (now (session .entry)))) ⌝ }
+    ensures { λ x. ⌜ x ≡ firstNo (drop 6 (asked (now (session .entry)))) ⌝ }
 {
     let first = levels + objects;
     let root = first + steps;
@@ -115,7 +117,7 @@ fn check_contents(session: &[u8], levels: usize, objects: usize, steps: usize) -
     }
 }
 
-// Questions 4 to 8, of a session of which questions 2 and 3 said yes. The masks of its levels are
+// Questions 4, 5, 17 and 6 to 8, of a session of which questions 2 and 3 said yes. The masks of its levels are
 // written to the front of `masks`.
 fn check_levels(
     session: &[u8],
@@ -135,6 +137,7 @@ fn check_levels(
         lattice::Verdict::Passed => check_contents(session, levels, objects, steps),
         lattice::Verdict::NotOrdered => Verdict::NotOrdered,
         lattice::Verdict::NoJoin => Verdict::NoJoin,
+        lattice::Verdict::NoMeet => Verdict::NoMeet,
     }
 }
 
@@ -159,8 +162,8 @@ fn untabled(verdict: Verdict) -> Checked
     Checked { verdict, levels: 0 }
 }
 
-// Checks a session: what questions 1 to 8 say of any bytes, of any length and content. Where 1 to 3
-// say yes the level table stands at the front of `masks` afterwards. Nothing else in `masks` changes.
+// Checks a session: what questions 1 to 8 and 17 say of any bytes, of any length and content. Where 1
+// to 3 say yes the level table stands at the front of `masks` afterwards. Nothing else in `masks` changes.
 pub fn check_into(session: &[u8], masks: &mut [u16]) -> Checked
     requires { ⌜ maxLevels ≤ length (now masks) ⌝ }
     ensures { λ r. ⌜ Checks (now (session .entry)) (now (masks .entry)) (now (masks .exit)) r ⌝ }
@@ -185,8 +188,8 @@ pub fn check_into(session: &[u8], masks: &mut [u16]) -> Checked
     Checked { verdict, levels }
 }
 
-// Checks a session, for a caller that needs no level table: what questions 1 to 8 say of any bytes, of
-// any length and content.
+// Checks a session, for a caller that needs no level table: what questions 1 to 8 and 17 say of any
+// bytes, of any length and content.
 pub fn check(session: &[u8]) -> Verdict
     ensures { λ x. ⌜ x ≡ verdictOf (now (session .entry)) ⌝ }
 {
@@ -195,7 +198,7 @@ pub fn check(session: &[u8]) -> Verdict
     checked.verdict
 }
 
-// Document 01's number of a verdict.
+// The documents' number of a verdict.
 pub fn number_of(verdict: Verdict) -> u32
     ensures { λ r. ⌜ r ≡ numberOfVerdict verdict ⌝ }
 {
@@ -206,6 +209,7 @@ pub fn number_of(verdict: Verdict) -> u32
         Verdict::Numbering => 3,
         Verdict::NotOrdered => 4,
         Verdict::NoJoin => 5,
+        Verdict::NoMeet => 17,
         Verdict::Object => 6,
         Verdict::Script => 7,
         Verdict::Root => 8,

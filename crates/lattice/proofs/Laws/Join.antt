@@ -9,8 +9,8 @@ use borrow.Author.Tests.{ltb-true, lt-ltb, le-ltb, ne-eqb}
 use lib.Dec.{eqb, ltb}
 use Rattle.lattice.specs.Range.{implies, all, first}
 use Rattle.lattice.specs.Order.{Dominance, strictly, isOrder, PartialOrder}
-use Rattle.lattice.specs.Join.{isUpper, isLeast, join, hasJoins, LeastUpper, JoinSemilattice}
-use Rattle.lattice.proofs.Laws.Range.{and-left, and-right, and-both, and-fails-left, and-fails-right, implies-then, implies-when, all-each, all-every, all-fails, first-le, first-passes, first-found}
+use Rattle.lattice.specs.Join.{isUpper, isLeast, join, hasJoins, LeastUpper, Unjoined, JoinSemilattice}
+use Rattle.lattice.proofs.Laws.Range.{and-left, and-right, and-both, and-fails-left, and-fails-right, implies-then, implies-when, not-both, all-each, all-every, all-fails, all-refuted, first-le, first-passes, first-found}
 use Rattle.lattice.proofs.Laws.Order.{order}
 
 module _ (n : ℕ) (dom : Dominance) where
@@ -83,6 +83,19 @@ module _ (n : ℕ) (dom : Dominance) where
   all-joined f =
       all-every n _ λ a ha. all-every n _ λ b hb.
       let (u, lu) = f a b ha hb in lt-ltb (join n dom a b) n (join-found a b u lu)
+
+  pub unjoined : hasJoins n dom ≡ false → Unjoined n dom
+  unfolding hasJoins
+  unjoined e =
+      let a = all-refuted n (λ a. all n (λ b. ltb (join n dom a b) n)) e in
+      let b = all-refuted n (λ b. ltb (join n dom (a .at) b) n) (a .refuted-at) in
+      record {
+        left = a .at;
+        right = b .at;
+        left-present = a .below;
+        right-present = b .below;
+        none = λ u lu. not-both _ (lt-ltb (join n dom (a .at) (b .at)) n (join-found (a .at) (b .at) u lu)) (b .refuted-at);
+      }
 
   pub not-joined : (a b : ℕ) → a < n → b < n → join n dom a b ≡ n → hasJoins n dom ≡ false
   unfolding hasJoins

@@ -88,6 +88,21 @@ all-fails n p i h q = go (all n p) refl
     go true e = absurd (not-both (p i) (all-each n p e i h) q)
     go false e = refl
 
+-- where not all pass, some number does not
+pub record Refuted (n : ℕ) (p : ℕ → Bool) : Type 0 where
+  pub at : ℕ
+  pub below : at < n
+  pub refuted-at : p at ≡ false
+
+pub all-refuted : (n : ℕ) (p : ℕ → Bool) → all n p ≡ false → Refuted n p
+unfolding all
+all-refuted zero p e = absurd (true≢false e)
+all-refuted (suc n) p e = go (all n p) (p n) refl refl e (all-refuted n p)
+  where
+    go : (a b : Bool) → all n p ≡ a → p n ≡ b → (a && b) ≡ false → (all n p ≡ false → Refuted n p) → Refuted (suc n) p
+    go true b ea eb f r = record { at = n; below = omega arith; refuted-at = eb ∙ f }
+    go false b ea eb f r = let q = r ea in record { at = q .at; below = omega (arith, q .below); refuted-at = q .refuted-at }
+
 -- a loop that tests the numbers below n in turn and ends at the first that fails: i of them have passed
 abbrev pub Tested : ℕ → (ℕ → Bool) → ℕ → Type 0
 Tested n p i = (i ≤ n) × (all i p ≡ true)

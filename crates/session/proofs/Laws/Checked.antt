@@ -7,7 +7,7 @@ use lib.ListN.{length, take, drop, length-map}
 use lib.Seq.{take-at}
 use Rattle.lattice.specs.Table as table
 use Rattle.lattice.specs.declared.Verdict.the-variants as answer
-use Rattle.lattice.proofs.Laws.Table.{passed-ordered, passed-joined, refused-ordered, refused-joined}
+use Rattle.lattice.proofs.Laws.Table.{told}
 use Rattle.session.specs.Lists.{tab}
 use Rattle.session.specs.Record.{recordAt, maskOf}
 use Rattle.session.specs.Parts.{levelRecords, levelCount, masksOf}
@@ -15,7 +15,7 @@ use Rattle.session.specs.Questions.{kindsRise, question1, question2, que
 use Rattle.session.specs.Reading.{tableMade, Checks}
 use Rattle.session.specs.declared.Checked.{Checked}
 use Rattle.session.specs.declared.Verdict.{Verdict}
-use Rattle.session.specs.declared.Verdict.the-variants.{Accepted, Length, Kinds, Numbering, NotOrdered, NoJoin}
+use Rattle.session.specs.declared.Verdict.the-variants.{Accepted, Length, Kinds, Numbering, NotOrdered, NoJoin, NoMeet}
 use Rattle.session.proofs.Laws.Numbering.{masks-are}
 use Rattle.session.proofs.Laws.Verdict.{accepted}
 
@@ -34,21 +34,26 @@ module _ (s before after : List ℕ) (levels : ℕ) (k : kindsRise s ≡ true) (
   of-table =
       ap table.verdictOf (sym (ap (take levels) filled ∙ take-at (masksOf s) (drop (levelCount s) before) levels (masks-count s ∙ sym n)))
 
-  -- questions 4 and 5, put of that front
-  pub table-passed : table.verdictOf (take levels after) ≡ answer.Passed → (v : Verdict) → v ≡ firstNo (drop 5 (asked s))
+  -- questions 4, 5 and 17, put of that front
+  pub table-passed : table.verdictOf (take levels after) ≡ answer.Passed → (v : Verdict) → v ≡ firstNo (drop 6 (asked s))
       → (v ≡ firstNo (drop 3 (asked s))) × (after ≡ masksOf s ++ drop (levelCount s) before)
   unfolding firstNo
-  table-passed e v i = (rw (passed-ordered (masksOf s) (of-table ∙ e), passed-joined (masksOf s) (of-table ∙ e)) i, filled)
+  table-passed e v i = let (o, j, m) = told (masksOf s) answer.Passed (of-table ∙ e) in (rw (o, j, m) i, filled)
 
   pub table-unordered : table.verdictOf (take levels after) ≡ answer.NotOrdered
       → (NotOrdered ≡ firstNo (drop 3 (asked s))) × (after ≡ masksOf s ++ drop (levelCount s) before)
   unfolding firstNo
-  table-unordered e = (rw (refused-ordered (masksOf s) (of-table ∙ e)), filled)
+  table-unordered e = (rw (told (masksOf s) answer.NotOrdered (of-table ∙ e)), filled)
 
   pub table-unjoined : table.verdictOf (take levels after) ≡ answer.NoJoin
       → (NoJoin ≡ firstNo (drop 3 (asked s))) × (after ≡ masksOf s ++ drop (levelCount s) before)
   unfolding firstNo
-  table-unjoined e = let (o, j) = refused-joined (masksOf s) (of-table ∙ e) in (rw (o, j), filled)
+  table-unjoined e = let (o, j) = told (masksOf s) answer.NoJoin (of-table ∙ e) in (rw (o, j), filled)
+
+  pub table-unmet : table.verdictOf (take levels after) ≡ answer.NoMeet
+      → (NoMeet ≡ firstNo (drop 3 (asked s))) × (after ≡ masksOf s ++ drop (levelCount s) before)
+  unfolding firstNo
+  table-unmet e = let (o, j, m) = told (masksOf s) answer.NoMeet (of-table ∙ e) in (rw (o, j, m), filled)
 
 -- no table is made where one of questions 1 to 3 says no, which is then the verdict
 module _ (s masks : List ℕ) (r : Checked) where

@@ -13,7 +13,7 @@ use Rattle.session.specs.Lists.{every, select, risingFrom, countsFrom}
 use Rattle.session.specs.Record.{Record, recordsOf, byteOf, zeroAt, between, kindOf, numberOf, levelByte, nameOf}
 use Rattle.session.specs.Record
 use Rattle.session.specs.Parts.{ofKind, objectRecords, stepRecords, rootRecords, levelCount, objectCount, stepCount, masksOf, keyOf, methodRecords}
-use Rattle.session.specs.Questions.{fieldValid, question1, kindsRise, question2, question3, question4, question5, question6, question7, question8, objectValid, scriptValid, scriptsValid, verdictOf}
+use Rattle.session.specs.Questions.{fieldValid, question1, kindsRise, question2, question3, question4, question5, question17, question6, question7, question8, objectValid, scriptValid, scriptsValid, verdictOf}
 use Rattle.session.specs.Emptied.{stays, blanked, emptied}
 use Rattle.session.specs.Meaning.{levelOf, methodOf}
 use Rattle.lattice.specs.Table.{dominates}
@@ -113,12 +113,15 @@ module _ (s : List ℕ) (c : ℕ) (y : AllYes s) where
   question3-emptied =
       rw (steps-fit, objects-numbered, emptied-levels s c, emptied-count s c) (search (and-both, and-left, and-right, y .three))
 
-  -- 4 and 5. the level table is the same
+  -- 4, 5 and 17. the level table is the same
   question4-emptied : question4 (emptied c s) ≡ true
   question4-emptied = rw (emptied-masks s c) (y .four)
 
   question5-emptied : question5 (emptied c s) ≡ true
   question5-emptied = rw (emptied-masks s c) (y .five)
+
+  question17-emptied : question17 (emptied c s) ≡ true
+  question17-emptied = rw (emptied-masks s c) (y .seventeen)
 
   -- 6. a blanked object has no field that holds a number, and its level is kept
   object-blanked : (levels : ℕ) (rec : Record) → objectValid levels rec ≡ true → objectValid levels (blanked s c rec) ≡ true
@@ -167,6 +170,7 @@ module _ (s : List ℕ) (c : ℕ) (y : AllYes s) where
     three = question3-emptied;
     four = question4-emptied;
     five = question5-emptied;
+    seventeen = question17-emptied;
     six = question6-emptied;
     seven = question7-emptied;
     eight = question8-emptied;

@@ -1,4 +1,4 @@
--- `session::check_levels` meets its contract: the level table, questions 4 and 5, then those of the contents. Assumes nothing.
+-- `session::check_levels` meets its contract: the level table, questions 4, 5 and 17, then those of the contents. Assumes nothing.
 use Prim.Native.Nat.{_≤_}
 use mathlib.Core.Path.{sym, _∙_}
 use native.Mathlib.Omega.{arith}
@@ -6,7 +6,7 @@ use lib.ListN.{length}
 use lib.Seq.{length-take-le}
 use Rattle.session.proofs.Laws.Parts.{kinds-rise, below-5}
 use Rattle.session.proofs.Laws.Numbering.{few-levels}
-use Rattle.session.proofs.Laws.Checked.{table-passed, table-unordered, table-unjoined}
+use Rattle.session.proofs.Laws.Checked.{table-passed, table-unordered, table-unjoined, table-unmet}
 use borrow.Author.Needs.{needs}
 use Rattle.session.proofs.check_levels.Statement.{statement}
 use Rattle.session.proofs.check_levels.Tie as tie
@@ -46,6 +46,9 @@ enum-told-2 c = search needs
 enum-told-3 : tie.Need-enum-told-3
 enum-told-3 c = search needs
 
+enum-told-4 : tie.Need-enum-told-4
+enum-told-4 c = search needs
+
 same-length : tie.Need-same-length
 same-length c = search needs
 
@@ -79,6 +82,17 @@ returns-3 c =
     let t = s .args .session .now in
     table-unjoined t (s .args .masks .now) _ (s .args .levels) (kinds-rise t (s .pre .0 .0)) (s .pre .1 .0 .levels-are) (f .fill-masks .ensures) (sym (k .check .ensures) ∙ c .enum-told3 .given .1)
 
+same-length-4 : tie.Need-same-length-4
+same-length-4 c = search needs
+
+returns-4 : tie.Need-returns-4
+returns-4 c =
+    let k = c .before .before in
+    let f = k .before .before .before .before in
+    let s = f .before .before .before .before in
+    let t = s .args .session .now in
+    table-unmet t (s .args .masks .now) _ (s .args .levels) (kinds-rise t (s .pre .0 .0)) (s .pre .1 .0 .levels-are) (f .fill-masks .ensures) (sym (k .check .ensures) ∙ c .enum-told4 .given .1)
+
 pub check-levels-spec : {M : Type 1} → statement M
 check-levels-spec =
     tie.close
@@ -91,9 +105,12 @@ check-levels-spec =
     check-contents-requires
     enum-told-2
     enum-told-3
+    enum-told-4
     same-length
     returns
     same-length-2
     returns-2
     same-length-3
-    returns-3)
+    returns-3
+    same-length-4
+    returns-4)
