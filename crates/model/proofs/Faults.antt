@@ -9,10 +9,10 @@ use lib.Dec.{eqb}
 use lib.ListN.{length}
 use Rattle.lattice.proofs.Laws.Range.{and-left, and-right, and-both}
 use Rattle.session.specs.Lists.{every}
-use Rattle.session.specs.Questions.{question1, question2, question3, question4, question5, question6, question7, question8, verdictOf, numberOfVerdict}
+use Rattle.session.specs.Questions.{question1, question2, question3, question4, question5, question17, question6, question7, question8, verdictOf, numberOfVerdict}
 use Rattle.session.specs.Meaning.{rootOf}
 use Rattle.session.specs.Program.{Program, programOf}
-use Rattle.session.specs.declared.Verdict.the-variants.{Accepted, Length, Kinds, Numbering, NotOrdered, NoJoin, Object, Script, Root}
+use Rattle.session.specs.declared.Verdict.the-variants.{Accepted, Length, Kinds, Numbering, NotOrdered, NoJoin, NoMeet, Object, Script, Root}
 use Rattle.session.proofs.Laws.Lists.{Truth, holds, fails, truth}
 use Rattle.session.proofs.Laws.Verdict.{verdict-chain}
 use Rattle.model.specs.Step.{State, stepAt}
@@ -82,24 +82,25 @@ put-of (x ∷ xs) = by (truth (x .says)) (put-of xs)
     by (fails h) r =
         ends (x .number) (record { before = []; behind = xs; place = ap (λ b. asks (x .number) b ∷ xs) h; passed = unfold every in refl })
 
--- the verdict's number is that of the first of questions 1 to 8 that says no
-chain : (a b c d e f g h : Bool) (xs : List Question) →
-    lowestOf (asks 1 a ∷ asks 2 b ∷ asks 3 c ∷ asks 4 d ∷ asks 5 e ∷ asks 6 f ∷ asks 7 g ∷ asks 8 h ∷ xs)
-    ≡ past (numberOfVerdict (cond a (cond b (cond c (cond d (cond e (cond f (cond g (cond h Accepted Root) Script) Object) NoJoin) NotOrdered) Numbering) Kinds) Length)) (lowestOf xs)
+-- the verdict's number is that of the first of Check's questions that says no
+chain : (a b c d e m f g h : Bool) (xs : List Question) →
+    lowestOf (asks 1 a ∷ asks 2 b ∷ asks 3 c ∷ asks 4 d ∷ asks 5 e ∷ asks 17 m ∷ asks 6 f ∷ asks 7 g ∷ asks 8 h ∷ xs)
+    ≡ past (numberOfVerdict (cond a (cond b (cond c (cond d (cond e (cond m (cond f (cond g (cond h Accepted Root) Script) Object) NoMeet) NoJoin) NotOrdered) Numbering) Kinds) Length)) (lowestOf xs)
 unfolding lowestOf
-chain false b c d e f g h xs = refl
-chain true false c d e f g h xs = refl
-chain true true false d e f g h xs = refl
-chain true true true false e f g h xs = refl
-chain true true true true false f g h xs = refl
-chain true true true true true false g h xs = refl
-chain true true true true true true false h xs = refl
-chain true true true true true true true false xs = refl
-chain true true true true true true true true xs = refl
+chain false b c d e m f g h xs = refl
+chain true false c d e m f g h xs = refl
+chain true true false d e m f g h xs = refl
+chain true true true false e m f g h xs = refl
+chain true true true true false m f g h xs = refl
+chain true true true true true false f g h xs = refl
+chain true true true true true true false g h xs = refl
+chain true true true true true true true false h xs = refl
+chain true true true true true true true true false xs = refl
+chain true true true true true true true true true xs = refl
 
 pub checked : (s : List ℕ) (xs : List Question) → lowestOf (checkAsks s ++ xs) ≡ past (numberOfVerdict (verdictOf s)) (lowestOf xs)
 checked s xs =
-    chain (question1 s) (question2 s) (question3 s) (question4 s) (question5 s) (question6 s) (question7 s) (question8 s) xs
+    chain (question1 s) (question2 s) (question3 s) (question4 s) (question5 s) (question17 s) (question6 s) (question7 s) (question8 s) xs
     ∙ ap (λ v. past (numberOfVerdict v) (lowestOf xs)) (sym (verdict-chain s))
 
 run-lowest : (q : Request) → entryRefusal (question10 q) q ≡ lowestOf (runAsks q)

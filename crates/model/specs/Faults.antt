@@ -7,7 +7,7 @@ use mathlib.Core.Bool.{Bool, true, false}
 use mathlib.Core.List.{List, [], _∷_, _++_}
 use lib.ListN.{length, drop}
 use Rattle.session.specs.Lists.{every}
-use Rattle.session.specs.Questions.{question1, question2, question3, question4, question5, question6, question7, question8, verdictOf}
+use Rattle.session.specs.Questions.{question1, question2, question3, question4, question5, question17, question6, question7, question8, verdictOf}
 use Rattle.session.specs.Questions as session
 use Rattle.session.specs.Meaning.{rootOf}
 use Rattle.session.specs.Program.{Program, programOf}
@@ -25,7 +25,7 @@ pub record Question : Type 0 where
 abbrev pub asks : ℕ → Bool → Question
 asks k b = record { number = k; says = b }
 
--- "Check uses 1 to 8"
+-- "Check uses 1 to 8", with 17 "put straight after question 5"
 abbrev pub checkAsks : List ℕ → List Question
 checkAsks s =
     asks 1 (question1 s)
@@ -33,6 +33,7 @@ checkAsks s =
     ∷ asks 3 (question3 s)
     ∷ asks 4 (question4 s)
     ∷ asks 5 (question5 s)
+    ∷ asks 17 (question17 s)
     ∷ asks 6 (question6 s)
     ∷ asks 7 (question7 s)
     ∷ asks 8 (question8 s)

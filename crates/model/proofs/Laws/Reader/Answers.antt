@@ -11,7 +11,7 @@ use Rattle.session.specs.Questions.{verdictOf, numberOfVerdict}
 use Rattle.session.specs.Meaning.{rootOf}
 use Rattle.session.specs.Program.{Program, programOf}
 use Rattle.session.specs.declared.Verdict.{Verdict}
-use Rattle.session.specs.declared.Verdict.the-variants.{Accepted, Length, Kinds, Numbering, NotOrdered, NoJoin, Object, Script, Root}
+use Rattle.session.specs.declared.Verdict.the-variants.{Accepted, Length, Kinds, Numbering, NotOrdered, NoJoin, NoMeet, Object, Script, Root}
 use Rattle.session.proofs.Laws.Lists.{holds, fails, truth}
 use Rattle.model.specs.Step.{State, stepAt}
 use Rattle.model.specs.Schedule.{question15, stepRefusal, Outcome, finished, refused, runUnder, runFrom, runOf}
@@ -28,6 +28,7 @@ number-accepted Kinds e = absurd (omega (arith, e))
 number-accepted Numbering e = absurd (omega (arith, e))
 number-accepted NotOrdered e = absurd (omega (arith, e))
 number-accepted NoJoin e = absurd (omega (arith, e))
+number-accepted NoMeet e = absurd (omega (arith, e))
 number-accepted Object e = absurd (omega (arith, e))
 number-accepted Script e = absurd (omega (arith, e))
 number-accepted Root e = absurd (omega (arith, e))
