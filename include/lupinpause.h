@@ -4,10 +4,12 @@
  * Link libexports.a, which `rt staticlib exports` makes in target/staticlib/.
  *
  * Every function takes any bytes, of any length and content: no input makes it
- * trap or run for ever. It returns a number: 0, or the first question that is
- * answered by no (docs/FORMAT.md has them in full):
+ * trap or run for ever. It returns a number: 0, or that of the first question that
+ * is answered by no, in the order in which they are put (docs/FORMAT.md has them in
+ * full). A question's number is not its position: 17 is put between 5 and 6.
  *
  *    1 to 8   the session
+ *   17        a pair of its levels has no greatest lower bound; put after 5
  *    9        the clearance is no present level
  *   10        the work slice has fewer than 8,192 numbers
  *   11        the result buffer has fewer than 4,624 bytes
@@ -25,6 +27,7 @@
  *   number    work                            result
  *   0         its first 8,192 numbers are 0   the records, `count` bytes at its start
  *   1 to 11   as it was                       as it was
+ *   17        as it was                       as it was
  *   12 to 15  its first 8,192 numbers are 0   as it was
  *   16        none is lent                    as it was
  *
@@ -69,7 +72,7 @@
 extern "C" {
 #endif
 
-/* Questions 1 to 8 of a session. */
+/* Questions 1 to 8 and 17 of a session. */
 uint32_t lupinpause_check(const uint8_t *session, size_t session_length);
 
 /* The timetabled run: one scheduler step for each byte of the timetable. It

@@ -93,7 +93,7 @@ pub fn run(session: &[u8], masks: &[u16], clearance: usize, result: &mut [u8]) -
     )
 }
 
-// Runs a session depth first and writes what a clearance is shown of it: questions 1 to 9 and 11 of any
+// Runs a session depth first and writes what a clearance is shown of it: Check's questions, 9 and 11 of any
 // bytes, of any length and content, and then the run.
 pub fn run_depth_first(session: &[u8], clearance: usize, result: &mut [u8]) -> Answer
     ensures { λ r. ⌜ Answers (deep (record { session = now (session .entry); clearance = clearance; work = []; buffer = now (result .entry) })) (r .number) (r .place) (r .count) [] (now (result .exit)) ⌝ }

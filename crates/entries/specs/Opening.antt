@@ -20,14 +20,14 @@ Refused number place r = (r .number ≡ number) × (r .place ≡ place) × (r .c
 abbrev pub Finished : ℕ → Answer → Type 0
 Finished count r = (r .number ≡ 0) × (r .place ≡ 0) × (r .count ≡ count)
 
--- "Check uses 1 to 8": its number, and the table that the check makes, of so many levels, in front of what was there. Law
+-- Check's questions: their number, and the table that the check makes, of so many levels, in front of what was there. Law
 -- (`proofs/Laws/Opening`): where the number is 0 it is the session's level table (`opened`)
 pub record Opens (s before after : List ℕ) (r : Opened) : Type 0 where
   pub number : r .number ≡ numberOfVerdict (verdictOf s)
   pub levels : r .levels ≡ length (tableMade s)
   pub table : after ≡ tableMade s ++ drop (length (tableMade s)) before
 
--- the lowest of questions 1 to 11 that says no, or 0, of any request of an accepted session with so many levels, this clearance and a result
+-- the first of Check's questions and 9 to 11 that says no, or 0, of any request of an accepted session with so many levels, this clearance and a result
 -- buffer of so many bytes; `ten` is what question 10 says, or yes
 abbrev pub LentRefusal : ℕ → ℕ → Bool → ℕ → ℕ → Type 0
 LentRefusal levels clearance ten bytes r =

@@ -17,7 +17,7 @@ pub struct Answer {
     pub count: u32,
 }
 
-// What questions 1 to 8 say of a session: the lowest that says no, or 0; and how many levels its level table has, 0 where
+// What Check's questions say of a session: the first that says no, or 0; and how many levels its level table has, 0 where
 // the table is not made.
 pub struct Opened {
     pub number: u32,
@@ -47,7 +47,7 @@ pub fn finished(count: usize) -> Answer
     }
 }
 
-// Puts questions 1 to 8 of any bytes. Where all say yes the session's level table stands at the front of `masks`.
+// Puts Check's questions of any bytes. Where all say yes the session's level table stands at the front of `masks`.
 pub fn open(session: &[u8], masks: &mut [u16]) -> Opened
     requires { ⌜ maxLevels ≤ length (now masks) ⌝ }
     ensures { λ r. ⌜ Opens (now (session .entry)) (now (masks .entry)) (now (masks .exit)) r ⌝ }
@@ -66,7 +66,7 @@ pub fn is_work(numbers: usize) -> bool
     numbers >= WORK_NUMBERS
 }
 
-// The lowest of questions 9 to 11 that says no, or 0, of a session with so many levels and a result buffer of so many
+// The first of questions 9 to 11 that says no, or 0, of a session with so many levels and a result buffer of so many
 // bytes. `ten` is what question 10 says, or yes where it is not put.
 pub fn lent_refusal(levels: usize, clearance: usize, ten: bool, bytes: usize) -> u32
     ensures { λ r. ⌜ LentRefusal levels clearance ten bytes r ⌝ }

@@ -35,11 +35,11 @@ OneEnd = (s : List ℕ) → IsAccepted s → (ls ks : List ℕ) (t w : State) �
 abbrev pub EmptiedAccepted : Type 0
 EmptiedAccepted = (s : List ℕ) → IsAccepted s → (c : ℕ) → IsAccepted (emptied c s)
 
--- The plain run is finished wherever questions 1 to 11 say yes
+-- The plain run is finished wherever Check's questions and 9 to 11 say yes
 abbrev pub PlainFinishes : Type 0
 PlainFinishes = (q : Request) → entryRefusal (question10 q) q ≡ 0 → Finished (plain q)
 
--- The depth-first run is finished wherever questions 1 to 9 and 11 say yes
+-- The depth-first run is finished wherever Check's questions, 9 and 11 say yes
 abbrev pub DeepFinishes : Type 0
 DeepFinishes = (q : Request) → entryRefusal true q ≡ 0 → Finished (deep q)
 

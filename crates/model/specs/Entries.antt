@@ -43,7 +43,7 @@ question10 q = leb workNumbers (length (q .work))
 abbrev pub question11 : Request → Bool
 question11 q = leb resultBytes (length (q .buffer))
 
--- the lowest of questions 1 to 11 that says no, or 0. "depth-first 1 to 9 and 11": `ten` is question 10's answer, or yes
+-- the first of Check's questions and 9 to 11 that says no, or 0. "depth-first 1 to 9 and 11": `ten` is question 10's answer, or yes
 unfoldable pub entryRefusal : Bool → Request → ℕ
 entryRefusal ten q =
     let number = numberOfVerdict (verdictOf (q .session)) in

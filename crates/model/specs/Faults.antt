@@ -56,7 +56,7 @@ stepAsks p st l = asks 12 (question12 p l) ∷ asks 13 (question13 st l) ∷ ask
 abbrev pub AllYes : List Question → Type 0
 AllYes qs = every (λ x. x .says) qs ≡ true
 
--- question k says no, and each one before it yes: it is the lowest that says no
+-- question k says no, and each one before it yes: it is the first that says no, in the order in which they are put
 pub record LowestNo (qs : List Question) (k : ℕ) : Type 0 where
   pub before : List Question
   pub behind : List Question
@@ -80,7 +80,7 @@ unfoldable pub Made : Program → State → List ℕ → State → Type 0
 Made p a [] b = a ≡ b
 Made p a (l ∷ ls) b = AllYes (stepAsks p a l) × Made p (stepAt p l a) ls b
 
--- question k is the lowest of 12 to 14 that says no of the byte at position i, and the steps before it are made
+-- question k is the first of 12 to 14 that says no of the byte at position i, and the steps before it are made
 pub record StopsAt (s ls : List ℕ) (k i : ℕ) : Type 0 where
   pub before : List ℕ
   pub byte : ℕ
@@ -110,7 +110,7 @@ answerWith q work bytes =
 
 -- The timetabled run, for any bytes, clearance, timetable and slices
 pub record Demand1Timetabled : Type 0 where
-  -- 1 to 11: "otherwise 0", "Up to 11, both buffers stay untouched"
+  -- Check's questions and 9 to 11: "otherwise 0", "Up to 11, both buffers stay untouched"
   pub refused : (q : Request) (ls : List ℕ) (k : ℕ) → LowestNo (runAsks q) k →
       timetabled q ls ≡ record { number = k; place = 0; count = 0; work = q .work; buffer = q .buffer }
   -- 12 to 14: "for 12 to 14 the timetable position from 0", "After 12 to 15 the result buffer is untouched; then .. the work slice's first

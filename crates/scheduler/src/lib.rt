@@ -186,7 +186,8 @@ fn run_opened(
     run_accepted(session, timetable, listed, masks, clearance, work, result)
 }
 
-// Runs a session, by a timetable or plainly, and writes what a clearance is shown of it: questions 1 to 15.
+// Runs a session, by a timetable or plainly, and writes what a clearance is shown of it: Check's questions and
+// 9 to 15.
 fn run_session(
     session: &[u8],
     timetable: &[u8],
@@ -214,7 +215,7 @@ fn run_session(
     )
 }
 
-// Runs a session by a timetable and writes what a clearance is shown of it: questions 1 to 15 of any
+// Runs a session by a timetable and writes what a clearance is shown of it: Check's questions and 9 to 15 of any
 // bytes, of any length and content, whatever the work slice holds.
 pub fn run_timetable(
     session: &[u8],
@@ -228,7 +229,7 @@ pub fn run_timetable(
     run_session(session, timetable, true, clearance, work, result)
 }
 
-// Runs a session plainly and writes what a clearance is shown of it: questions 1 to 11 of any bytes, of
+// Runs a session plainly and writes what a clearance is shown of it: Check's questions and 9 to 11 of any bytes, of
 // any length and content, whatever the work slice holds.
 pub fn run_plain(session: &[u8], clearance: usize, work: &mut [u32], result: &mut [u8]) -> Answer
     ensures { λ r. ⌜ Answers (plainly (record { session = now (session .entry); clearance = clearance; work = now (work .entry); buffer = now (result .entry) })) (r .number) (r .place) (r .count) (now (work .exit)) (now (result .exit)) ⌝ }

@@ -1,5 +1,5 @@
 // Question 3: how many records there are of each kind, and their numbers. And the level table, of
-// which questions 4 and 5 are put.
+// which questions 4, 5 and 17 are put.
 use crate::limits::MAX_LEVELS;
 use crate::limits::MAX_OBJECTS;
 use crate::limits::MAX_STEPS;

@@ -1,4 +1,4 @@
-// Sessions: the 16-byte records of document 01, its questions 1 to 8, and what an accepted session says.
+// Sessions: the 16-byte records of document 01, the questions that Check uses, and what an accepted session says.
 pub mod contents;
 mod kinds;
 mod levels;
