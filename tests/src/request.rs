@@ -288,8 +288,8 @@ fn look_at_buffers(run: &Run, lent: &Lent, answer: &Answer) -> Result<(), String
             &format!("bytes not of the {name} changed"),
         )?;
     }
-    // Up to question 11 the work slice is not touched.
-    let has_run = answer.number == 0 || answer.number > 11;
+    // Only questions 12 to 15 are put after the work slice is first touched.
+    let has_run = answer.number == 0 || (12..=15).contains(&answer.number);
     let is_cleared = run.has_work() && has_run;
     let cleared = if is_cleared { WORK_LENGTH } else { 0 };
     let work = &lent.work;

@@ -1,4 +1,4 @@
-//! Questions 1 to 8, each put of the whole session before the next.
+//! Questions 1 to 5, 17, 6, 7 and 8, each put of the whole session before the next.
 
 use super::lattice::Lattice;
 use crate::limits::*;
@@ -27,6 +27,9 @@ pub fn check(session: &[u8]) -> u32 {
     }
     if !lattice.has_joins() {
         return 5;
+    }
+    if !lattice.has_meets() {
+        return 17;
     }
     if !objects.iter().all(|o| object_fits(o, levels.len())) {
         return 6;

@@ -61,9 +61,31 @@ impl Lattice {
         })
     }
 
+    /// Question 17: has each pair of levels a greatest lower bound?
+    pub fn has_meets(&self) -> bool {
+        self.levels()
+            .all(|a| self.levels().all(|b| self.meet(a, b).is_some()))
+    }
+
+    /// The greatest lower bound: the lower bound that dominates every lower bound.
+    pub fn meet(&self, a: usize, b: usize) -> Option<usize> {
+        let is_lower = |&l: &usize| self.dominates(a, l) && self.dominates(b, l);
+        self.levels().filter(is_lower).find(|&l| {
+            self.levels()
+                .filter(is_lower)
+                .all(|other| self.dominates(l, other))
+        })
+    }
+
     /// The level that dominates all, if there is one.
     pub fn top(&self) -> Option<usize> {
         self.levels()
             .find(|&u| self.levels().all(|l| self.dominates(u, l)))
+    }
+
+    /// The level that all dominate, if there is one.
+    pub fn bottom(&self) -> Option<usize> {
+        self.levels()
+            .find(|&l| self.levels().all(|u| self.dominates(u, l)))
     }
 }

@@ -49,7 +49,8 @@ pub fn depth_first(session: &Session, tally: &mut Tally) -> Outcome {
     DepthFirst::run(session, tally)
 }
 
-/// Questions 1 to 11, of which 10 is put only where there is a work slice.
+/// The check and questions 9 to 11, of which 10 is put only where there is a work
+/// slice.
 fn accept(
     session: &[u8],
     clearance: usize,

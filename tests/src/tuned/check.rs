@@ -26,6 +26,9 @@ pub fn parts(session: &[u8]) -> Result<Parts<'_>, u32> {
     if !has_least_upper_bounds(masks) {
         return Err(5);
     }
+    if !has_lowest_level(masks) {
+        return Err(17);
+    }
     if !objects_fit(parts.objects, masks.len()) {
         return Err(6);
     }
@@ -126,6 +129,14 @@ fn has_least_upper_bounds(masks: &[u8]) -> bool {
             .iter()
             .all(|y| is_above_some_level[usize::from(x & y)])
     })
+}
+
+/// Question 17: every pair of levels has a greatest lower bound. The masks, at least
+/// one, have passed questions 4 and 5.
+fn has_lowest_level(masks: &[u8]) -> bool {
+    // If all dominate one level, each pair has lower bounds, and their join is the
+    // greatest. If not, there are two lowest levels, without a common lower bound.
+    masks.iter().fold(u8::MAX, |common, mask| common & mask) != 0
 }
 
 /// Question 6: each object's level present, its mask below 8, each NIL field 0.

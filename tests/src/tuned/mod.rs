@@ -17,7 +17,8 @@ use tables::Tables;
 
 pub struct Tuned;
 
-/// Questions 1 to 11, of which 10 is put only where there is a work slice.
+/// The check and questions 9 to 11, of which 10 is put only where there is a work
+/// slice.
 fn accept(
     session: &[u8],
     clearance: usize,
