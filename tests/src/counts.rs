@@ -1,8 +1,9 @@
-//! How often each answer, each length of a lent buffer, each clearance, each
-//! broken rule and each limit occurred.
+//! How often each answer, each length of a lent buffer, each number of a lowest level,
+//! each clearance, each broken rule and each limit occurred.
 
 use crate::clearances;
 use crate::limits::*;
+use crate::record::{records, LEVEL};
 use crate::request::{Lengths, Outcome, Request, Run};
 use crate::sessions::rules::Rule;
 use crate::tally::{Totals, PAGES};
@@ -30,6 +31,17 @@ const OFTEN: [&str; 5] = [
     PAGE_NUMBERS,
     PAGE_BOTH_SHORT,
 ];
+
+/// Question 17 is put by every entry.
+const ENTRIES: [&str; 5] = [CHECK, DEPTH_FIRST, PLAIN, TIMETABLED, PAGE];
+const LOWEST: &str = "lowest level of an accepted session, its number";
+const SEVERAL: &str = "lowest levels of a session that question 17 refuses";
+
+/// How often question 17 must be answered no, and each level be the lowest.
+const MEETS: u64 = 200;
+
+/// How many sessions must break each rule, and have each number of lowest levels.
+const BROKEN: u64 = 20;
 
 pub struct Counts {
     /// Calls by a number of theirs.
@@ -72,7 +84,10 @@ impl Counts {
                 .into_iter()
                 .map(move |number| ((name, number), times))
         });
-        let least: BTreeMap<_, u64> = least.collect();
+        let mut least: BTreeMap<_, u64> = least.collect();
+        least.extend(ENTRIES.map(|entry| ((entry, 17), MEETS)));
+        least.extend((0..LEVELS_MAX).map(|level| ((LOWEST, level), MEETS)));
+        least.extend((2..LEVELS_MAX).map(|levels| ((SEVERAL, levels), BROKEN)));
         let absent = clearances::absent(0, 0);
         let rules = rules.iter();
         Counts {
@@ -117,6 +132,19 @@ impl Counts {
         *self.calls.entry((name, number)).or_default() += 1;
     }
 
+    /// The levels of a session to which the check answers with this number.
+    pub fn add_levels(&mut self, session: &[u8], number: u32) {
+        let records = records(session);
+        let levels = records.iter().take_while(|record| record[0] == LEVEL);
+        let lowest = levels.filter(|level| level[2].count_ones() == 1);
+        let lowest: Vec<usize> = lowest.map(|level| usize::from(level[1])).collect();
+        match (number, &lowest[..]) {
+            (0, &[level]) => self.add_call(LOWEST, level),
+            (17, several) => self.add_call(SEVERAL, several.len()),
+            _ => {}
+        }
+    }
+
     /// A call with a clearance that is no present level.
     pub fn add_clearance(&mut self, name: &'static str) {
         *self.clearances.entry(name).or_default() += 1;
@@ -156,7 +184,7 @@ impl Counts {
         for (name, count) in &self.clearances {
             report += &format!("{count:>8}  {name}\n");
         }
-        report += "sessions with one rule broken, question, rule\n";
+        report += "sessions with a rule broken, question, rule\n";
         for (question, name, count) in &self.rules {
             report += &format!("{count:>8} {question:>10}  {name}\n");
         }
@@ -171,7 +199,7 @@ impl Counts {
             .iter()
             .filter(|(call, least)| self.calls[call] < **least);
         let clearances = self.clearances.iter().filter(|(_, &count)| count == 0);
-        let rules = self.rules.iter().filter(|(.., count)| *count == 0);
+        let rules = self.rules.iter().filter(|(.., count)| *count < BROKEN);
         let limits = self.limits.missing();
         calls
             .map(|((name, number), _)| format!("{name} {number}"))

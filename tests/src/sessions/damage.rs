@@ -36,6 +36,7 @@ pub fn damaged(random: &mut Random) -> Vec<u8> {
                 .collect();
             sized(random, masks, 3, 10, 4).bytes()
         }
+        11..=17 => near_lattice(random).concat(),
         _ => {
             let mut records = valid_draft(random).records();
             for _ in 0..random.size(1, 3) {
@@ -63,9 +64,21 @@ fn truncated(random: &mut Random) -> Vec<u8> {
     session
 }
 
+/// Valid but for a pair of levels without a greatest lower bound; half of the time
+/// damaged once more.
+fn near_lattice(random: &mut Random) -> Vec<Record> {
+    let levels = random.size(3, LEVELS_MAX);
+    let masks = lattices::without_meets(random, levels);
+    let mut records = sized(random, masks, 3, 10, 4).records();
+    if random.one_in(2) {
+        damage(random, &mut records);
+    }
+    records
+}
+
 /// 8 levels, 32 objects, 256 steps and the root: 297 records.
 fn full(random: &mut Random) -> Draft {
-    let masks = lattices::joined(random, LEVELS_MAX);
+    let masks = lattices::bounded(random, LEVELS_MAX);
     let longest = random.size(1, METHOD_STEPS_MAX);
     sized(random, masks, OBJECTS_MAX, STEP_RECORDS_MAX, longest)
 }
@@ -73,11 +86,11 @@ fn full(random: &mut Random) -> Draft {
 /// Valid but for one count, which is above its limit.
 fn over_a_limit(random: &mut Random) -> Vec<Record> {
     let levels = random.size(1, LEVELS_MAX - 1);
-    let masks = lattices::joined(random, levels);
+    let masks = lattices::bounded(random, levels);
     let steps = random.below(200);
     match random.below(3) {
         0 => {
-            let masks = lattices::joined(random, LEVELS_MAX);
+            let masks = lattices::bounded(random, LEVELS_MAX);
             let mut records = sized(random, masks, 4, steps, METHOD_STEPS_MAX).records();
             records.insert(LEVELS_MAX, level(LEVELS_MAX as u8, u8::MAX));
             records

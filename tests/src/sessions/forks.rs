@@ -75,8 +75,7 @@ pub fn crowd(random: &mut Random) -> Draft {
     let between = scene.object_where(|lattice, level| {
         lattice.strictly_dominates(level, low) && lattice.strictly_dominates(top, level)
     });
-    // There is none between where only the top dominates the lowest level.
-    let middle = between.unwrap_or_else(|| scene.object_at(top));
+    let middle = between.expect("a third level is between the lowest and the top");
     let middle_level = scene.level_of(middle);
     let high = scene.object_above(middle_level).unwrap_or(middle);
     let total = scene.random.pick(&[31, 32, 32, 33, 33, 34, 45, 100]);

@@ -73,18 +73,10 @@ impl<'r> Scene<'r> {
         self.object_where(|lattice, other| lattice.strictly_dominates(level, other))
     }
 
-    /// A level that dominates no other.
-    pub fn lowest_level(&mut self) -> usize {
-        let lattice = &self.lattice;
-        let lowest: Vec<usize> = lattice
-            .levels()
-            .filter(|&level| {
-                !lattice
-                    .levels()
-                    .any(|l| lattice.strictly_dominates(level, l))
-            })
-            .collect();
-        self.random.pick(&lowest)
+    /// The level that all others dominate.
+    pub fn lowest_level(&self) -> usize {
+        let bottom = self.lattice.bottom();
+        bottom.expect("levels with meets have a bottom")
     }
 
     /// The level that dominates all others.

@@ -154,7 +154,7 @@ pub fn largest(random: &mut Random) -> Draft {
     let masks = match random.below(4) {
         0 => lattices::chain(random, LEVELS_MAX),
         1 => lattices::two_chains(random, LEVELS_MAX),
-        _ => lattices::joined(random, LEVELS_MAX),
+        _ => lattices::bounded(random, LEVELS_MAX),
     };
     let mut scene = Scene::new(random, masks);
     while scene.draft.objects.len() < OBJECTS_MAX {

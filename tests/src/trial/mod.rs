@@ -80,6 +80,7 @@ impl<'a> Trial<'a> {
         expected: Option<u32>,
     ) -> Result<(), String> {
         let number = reference::check(session);
+        self.counts.add_levels(session, number);
         let tried = if expected.is_some_and(|expected| expected != number) {
             Err(format!("the reference's check answers {number}"))
         } else if number == 0 {

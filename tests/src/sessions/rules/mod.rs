@@ -1,5 +1,8 @@
-//! The rules of questions 2 to 8, each broken alone in a session that is valid
-//! otherwise, so that the check must answer with that rule's question.
+//! The rules of questions 2 to 8 and 17, each broken alone in a session that is valid
+//! otherwise, so that the check must answer with that rule's question; and rules of
+//! two questions broken together, of which the check puts one first.
+
+mod bounds;
 
 use super::valid_draft;
 use crate::limits::*;
@@ -14,7 +17,7 @@ type Break = Box<dyn Fn(&mut Random, &mut Vec<Record>) -> bool>;
 
 pub struct Rule {
     pub name: String,
-    /// The question that asks for it.
+    /// The question that asks for it; of two rules, the question put first.
     pub question: u32,
     breaks: Break,
 }
@@ -32,7 +35,7 @@ impl Rule {
         }
     }
 
-    /// A session in which this rule alone is broken.
+    /// A session in which this rule is broken and all others hold.
     pub fn broken(&self, random: &mut Random) -> Vec<u8> {
         loop {
             let mut records = valid_draft(random).records();
@@ -47,6 +50,7 @@ pub fn all() -> Vec<Rule> {
     let mut rules = Vec::new();
     rules.extend(kinds());
     rules.extend(levels());
+    rules.extend(bounds::rules());
     rules.extend(objects());
     rules.extend(methods());
     for (operation, name) in (SET..=QUIT).zip(OPERATIONS) {
