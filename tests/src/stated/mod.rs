@@ -1,5 +1,8 @@
 //! The cases M1 to M12 that document 01 states with their answers, M5's as
-//! document 02 changes it, two with more than 65,536 bytes, and pages.
+//! document 02 changes it, two with more than 65,536 bytes, tables with and without
+//! greatest lower bounds, and pages.
+
+mod bounds;
 
 use crate::library::Answer;
 use crate::limits::*;
@@ -73,6 +76,7 @@ const NO_HISTORY: &str = "TOTAL                     0\n";
 
 pub fn cases() -> Vec<(&'static str, Vector)> {
     let mut cases = stated_cases();
+    cases.extend(bounds::cases());
     cases.extend(pages());
     cases
 }
