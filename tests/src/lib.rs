@@ -14,6 +14,7 @@ pub mod reference;
 pub mod request;
 pub mod sessions;
 pub mod stated;
+pub mod tables;
 pub mod tally;
 pub mod timetables;
 pub mod trial;

@@ -1,6 +1,6 @@
 //! Compares the library with the reference: on the recorded vectors, on the stated
-//! cases, on fixed sessions, on small ones with one byte or two changed, and on
-//! generated ones, valid and damaged, with all runs. Ends with a report of how often
+//! cases, on all small tables of levels, on fixed sessions, on small ones with one byte
+//! or two changed, and on generated ones, valid and damaged, with all runs. Ends with a report of how often
 //! each answer, each length, each clearance, each broken rule and each limit
 //! occurred; if one occurred too rarely, that is a failure, unless fewer sessions
 //! were asked for than by default.
@@ -15,7 +15,7 @@ use lupinpause_tests::request::{perform, Fill};
 use lupinpause_tests::trial::Trial;
 use lupinpause_tests::tuned::Tuned;
 use lupinpause_tests::vectors::Vector;
-use lupinpause_tests::{padding, sessions, stated, vectors};
+use lupinpause_tests::{padding, sessions, stated, tables, vectors};
 use std::fmt::Display;
 use std::panic::{catch_unwind, AssertUnwindSafe};
 use std::process::ExitCode;
@@ -51,6 +51,10 @@ fn run() -> Result<(), String> {
     }
     known("vector", &numbered(recorded))?;
     known("stated case", &stated::cases())?;
+    println!(
+        "tables: all {} of up to 4 levels agree",
+        tables::all(&Compiled)?
+    );
     fixed(seed)?;
     padded()?;
     let start = Instant::now();
