@@ -231,6 +231,31 @@ static void put_fan(void)
     put_record(4, 1, 0, 0, 0);
 }
 
+/* Masks 01, 02, 07: levels 0 and 1 have no greatest lower bound. Every entry says so
+ * and leaves the buffers as they were. */
+static void expect_no_lower_bound(void)
+{
+    static const uint8_t masks[] = {0x01, 0x02, 0x07};
+    length = 0;
+    for (int i = 0; i < 3; i++)
+        put_record(1, i, masks[i], 0, 0);
+    put_record(2, 0, 0, 0, 0);
+    put_record(4, 0, 0, 0, 0);
+    memset(work, 0xa5, sizeof work);
+    memset(result, 0xa5, sizeof result);
+    memset(page, 0xa5, sizeof page);
+    expect("check, no lower bound", lupinpause_check(SESSION), 17);
+    expect_run("timetabled, no lower bound", lupinpause_run_timetable(SESSION, TIMETABLE, 0,
+        WORK, RESULT, ANSWER), 17, 0, 0);
+    expect_run("plain, no lower bound", lupinpause_run_plain(SESSION, 0,
+        WORK, RESULT, ANSWER), 17, 0, 0);
+    expect_run("depth-first, no lower bound", lupinpause_run_depth_first(SESSION, 0,
+        RESULT, ANSWER), 17, 0, 0);
+    expect_no_page("page, no lower bound", lupinpause_run_page(SESSION, 0, RESULT,
+        PAGE, PAGE_ANSWER), 17);
+    expect_kept("work, no lower bound", (const uint8_t *)work, 0, sizeof work);
+}
+
 static uint32_t number;
 
 static void check(void)
@@ -321,5 +346,6 @@ int main(int count, char **arguments)
     expect_refusals();
     expect_empty();
     expect_pages();
+    expect_no_lower_bound();
     return failures != 0;
 }
