@@ -19,15 +19,15 @@ use Rattle.model.specs.Step.{State, stepAt}
 use Rattle.model.specs.Schedule.{initialState, question15, refusalUnder, stepRefusal, Outcome, finished, refused, runFrom, runOf, plainOrder}
 use Rattle.model.specs.Entries.{Request, question9, question10, question11, entryRefusal, answerOf, timetabled, plain, deep}
 use Rattle.model.specs.Faults as faults
-use Rattle.model.specs.Faults.{Question, asks, checkAsks, runAsks, deepAsks, stepAsks, AllYes, LowestNo, Put, ends, Demand1Check, Made, StopsAt, ListMade, Listed, stops, unended, ended, Demand1Timetabled, Demand1Plain, Demand1DepthFirst}
+use Rattle.model.specs.Faults.{Question, asks, checkAsks, runAsks, deepAsks, stepAsks, AllYes, FirstNo, Put, ends, Demand1Check, Made, StopsAt, ListMade, Listed, stops, unended, ended, Demand1Timetabled, Demand1Plain, Demand1DepthFirst}
 use Rattle.model.proofs.Laws.Order.PlainRun.{accepted-plain}
 use Rattle.model.proofs.Laws.Reader.Answers.{passes, timetabled-is, deep-is}
 use Rattle.model.proofs.Laws.Code.Progress.{run-made, run-stops, run-ends, run-unended}
 
 -- the number of the first question that says no, or 0
-unfoldable pub lowestOf : List Question → ℕ
-lowestOf [] = 0
-lowestOf (x ∷ xs) = cond (x .says) (lowestOf xs) (x .number)
+unfoldable pub firstOf : List Question → ℕ
+firstOf [] = 0
+firstOf (x ∷ xs) = cond (x .says) (firstOf xs) (x .number)
 
 -- a number, or where it is 0 the rest
 abbrev pub past : ℕ → ℕ → ℕ
@@ -37,15 +37,15 @@ past number rest = cond (eqb number 0) rest number
 abbrev pub Numbered : List Question → Type 0
 Numbered qs = every (λ x. not (eqb (x .number) 0)) qs ≡ true
 
-pub all-zero : (qs : List Question) → AllYes qs → lowestOf qs ≡ 0
-unfolding lowestOf every
+pub all-zero : (qs : List Question) → AllYes qs → firstOf qs ≡ 0
+unfolding firstOf every
 all-zero [] y = refl
 all-zero (x ∷ xs) y = rw (and-left (x .says) _ y) (all-zero xs (and-right (x .says) _ y))
 
--- the lowest that says no is the first, and its number is not 0
+-- the number of the first that says no, and that it is not 0
 module _ (k : ℕ) (behind : List Question) where
-  first-no : (before : List Question) → AllYes before → lowestOf (before ++ asks k false ∷ behind) ≡ k
-  unfolding lowestOf every
+  first-no : (before : List Question) → AllYes before → firstOf (before ++ asks k false ∷ behind) ≡ k
+  unfolding firstOf every
   first-no [] y = refl
   first-no (x ∷ xs) y = rw (and-left (x .says) _ y) (first-no xs (and-right (x .says) _ y))
 
@@ -54,12 +54,12 @@ module _ (k : ℕ) (behind : List Question) where
   first-numbered [] n = and-left (not (eqb k 0)) _ n
   first-numbered (x ∷ xs) n = first-numbered xs (and-right (not (eqb (x .number) 0)) _ n)
 
-module _ (qs : List Question) (k : ℕ) (w : LowestNo qs k) where
-  pub lowest-is : lowestOf qs ≡ k
-  lowest-is = rw (w .place) (first-no k (w .behind) (w .before) (w .passed))
+module _ (qs : List Question) (k : ℕ) (w : FirstNo qs k) where
+  pub first-is : firstOf qs ≡ k
+  first-is = rw (w .place) (first-no k (w .behind) (w .before) (w .passed))
 
-  pub lowest-not : Numbered qs → k ≡ 0 → ⊥
-  lowest-not n = eqb-false k 0 (not-true (eqb k 0) (first-numbered k (w .behind) (w .before) (rw (w .place) at n)))
+  pub first-not : Numbered qs → k ≡ 0 → ⊥
+  first-not n = eqb-false k 0 (not-true (eqb k 0) (first-numbered k (w .behind) (w .before) (rw (w .place) at n)))
 
 -- one question ends the call, or all say yes
 pub put-of : (qs : List Question) → Put qs
@@ -67,7 +67,7 @@ unfolding every
 put-of [] = faults.passes refl
 put-of (x ∷ xs) = by (truth (x .says)) (put-of xs)
   where
-    further : (k : ℕ) → x .says ≡ true → LowestNo xs k → LowestNo (x ∷ xs) k
+    further : (k : ℕ) → x .says ≡ true → FirstNo xs k → FirstNo (x ∷ xs) k
     further k h w =
         record {
           before = x ∷ w .before;
@@ -84,9 +84,9 @@ put-of (x ∷ xs) = by (truth (x .says)) (put-of xs)
 
 -- the verdict's number is that of the first of Check's questions that says no
 chain : (a b c d e m f g h : Bool) (xs : List Question) →
-    lowestOf (asks 1 a ∷ asks 2 b ∷ asks 3 c ∷ asks 4 d ∷ asks 5 e ∷ asks 17 m ∷ asks 6 f ∷ asks 7 g ∷ asks 8 h ∷ xs)
-    ≡ past (numberOfVerdict (cond a (cond b (cond c (cond d (cond e (cond m (cond f (cond g (cond h Accepted Root) Script) Object) NoMeet) NoJoin) NotOrdered) Numbering) Kinds) Length)) (lowestOf xs)
-unfolding lowestOf
+    firstOf (asks 1 a ∷ asks 2 b ∷ asks 3 c ∷ asks 4 d ∷ asks 5 e ∷ asks 17 m ∷ asks 6 f ∷ asks 7 g ∷ asks 8 h ∷ xs)
+    ≡ past (numberOfVerdict (cond a (cond b (cond c (cond d (cond e (cond m (cond f (cond g (cond h Accepted Root) Script) Object) NoMeet) NoJoin) NotOrdered) Numbering) Kinds) Length)) (firstOf xs)
+unfolding firstOf
 chain false b c d e m f g h xs = refl
 chain true false c d e m f g h xs = refl
 chain true true false d e m f g h xs = refl
@@ -98,23 +98,23 @@ chain true true true true true true true false h xs = refl
 chain true true true true true true true true false xs = refl
 chain true true true true true true true true true xs = refl
 
-pub checked : (s : List ℕ) (xs : List Question) → lowestOf (checkAsks s ++ xs) ≡ past (numberOfVerdict (verdictOf s)) (lowestOf xs)
+pub checked : (s : List ℕ) (xs : List Question) → firstOf (checkAsks s ++ xs) ≡ past (numberOfVerdict (verdictOf s)) (firstOf xs)
 checked s xs =
     chain (question1 s) (question2 s) (question3 s) (question4 s) (question5 s) (question17 s) (question6 s) (question7 s) (question8 s) xs
-    ∙ ap (λ v. past (numberOfVerdict v) (lowestOf xs)) (sym (verdict-chain s))
+    ∙ ap (λ v. past (numberOfVerdict v) (firstOf xs)) (sym (verdict-chain s))
 
-run-lowest : (q : Request) → entryRefusal (question10 q) q ≡ lowestOf (runAsks q)
-unfolding entryRefusal lowestOf
-run-lowest q =
+run-first : (q : Request) → entryRefusal (question10 q) q ≡ firstOf (runAsks q)
+unfolding entryRefusal firstOf
+run-first q =
     sym (checked (q .session) (asks 9 (question9 q) ∷ asks 10 (question10 q) ∷ asks 11 (question11 q) ∷ []))
 
-deep-lowest : (q : Request) → entryRefusal true q ≡ lowestOf (deepAsks q)
-unfolding entryRefusal lowestOf
-deep-lowest q = sym (checked (q .session) (asks 9 (question9 q) ∷ asks 11 (question11 q) ∷ []))
+deep-first : (q : Request) → entryRefusal true q ≡ firstOf (deepAsks q)
+unfolding entryRefusal firstOf
+deep-first q = sym (checked (q .session) (asks 9 (question9 q) ∷ asks 11 (question11 q) ∷ []))
 
-check-lowest : (s : List ℕ) → numberOfVerdict (verdictOf s) ≡ lowestOf (checkAsks s)
-unfolding lowestOf
-check-lowest s = past-zero (numberOfVerdict (verdictOf s)) ∙ sym (checked s [])
+check-first : (s : List ℕ) → numberOfVerdict (verdictOf s) ≡ firstOf (checkAsks s)
+unfolding firstOf
+check-first s = past-zero (numberOfVerdict (verdictOf s)) ∙ sym (checked s [])
   where
     past-zero : (n : ℕ) → n ≡ past n 0
     past-zero n = elim (truth (eqb n 0)) [
@@ -124,20 +124,20 @@ check-lowest s = past-zero (numberOfVerdict (verdictOf s)) ∙ sym (checked s []
 
 -- the number of an entry's answer, by its questions
 module _ (q : Request) where
-  run-no : (k : ℕ) → LowestNo (runAsks q) k → entryRefusal (question10 q) q ≡ k
-  run-no k w = run-lowest q ∙ lowest-is (runAsks q) k w
+  run-no : (k : ℕ) → FirstNo (runAsks q) k → entryRefusal (question10 q) q ≡ k
+  run-no k w = run-first q ∙ first-is (runAsks q) k w
 
   run-yes : AllYes (runAsks q) → entryRefusal (question10 q) q ≡ 0
-  run-yes y = run-lowest q ∙ all-zero (runAsks q) y
+  run-yes y = run-first q ∙ all-zero (runAsks q) y
 
   run-numbered : Numbered (runAsks q)
   run-numbered = unfold every in refl
 
-  deep-no : (k : ℕ) → LowestNo (deepAsks q) k → entryRefusal true q ≡ k
-  deep-no k w = deep-lowest q ∙ lowest-is (deepAsks q) k w
+  deep-no : (k : ℕ) → FirstNo (deepAsks q) k → entryRefusal true q ≡ k
+  deep-no k w = deep-first q ∙ first-is (deepAsks q) k w
 
   deep-yes : AllYes (deepAsks q) → entryRefusal true q ≡ 0
-  deep-yes y = deep-lowest q ∙ all-zero (deepAsks q) y
+  deep-yes y = deep-first q ∙ all-zero (deepAsks q) y
 
   deep-numbered : Numbered (deepAsks q)
   deep-numbered = unfold every in refl
@@ -145,22 +145,22 @@ module _ (q : Request) where
 pub demand-1-check : Demand1Check
 demand-1-check =
     record {
-      refused = λ s k w. ap (λ n. record { number = n; place = 0 }) (check-lowest s ∙ lowest-is (checkAsks s) k w);
-      accepted = λ s y. ap (λ n. record { number = n; place = 0 }) (check-lowest s ∙ all-zero (checkAsks s) y);
+      refused = λ s k w. ap (λ n. record { number = n; place = 0 }) (check-first s ∙ first-is (checkAsks s) k w);
+      accepted = λ s y. ap (λ n. record { number = n; place = 0 }) (check-first s ∙ all-zero (checkAsks s) y);
       put = λ s. put-of (checkAsks s);
     }
 
 -- questions 12 to 14 of a byte
-step-lowest : (p : Program) (st : State) (l : ℕ) → stepRefusal p st l ≡ lowestOf (stepAsks p st l)
-unfolding refusalUnder lowestOf
-step-lowest p st l = refl
+step-first : (p : Program) (st : State) (l : ℕ) → stepRefusal p st l ≡ firstOf (stepAsks p st l)
+unfolding refusalUnder firstOf
+step-first p st l = refl
 
 -- steps that are made bring a run to the rest of its list
 made-run : (i : ℕ) (p : Program) (st : State) (ls : List ℕ) (t : State) (rest : List ℕ) → Made p st ls t → runFrom i p (ls ++ rest) st ≡ runFrom (length ls + i) p rest t
 unfolding Made
 made-run i p st [] t rest m = ap (runFrom i p rest) m ∙ ap (λ n. runFrom n p rest t) (omega arith)
 made-run i p st (l ∷ ls) t rest m =
-    run-made i p l (ls ++ rest) st (step-lowest p st l ∙ all-zero (stepAsks p st l) (m .0))
+    run-made i p l (ls ++ rest) st (step-first p st l ∙ all-zero (stepAsks p st l) (m .0))
     ∙ made-run (suc i) p (stepAt p l st) ls t rest (m .1)
     ∙ ap (λ n. runFrom n p rest t) (omega arith)
 
@@ -174,7 +174,7 @@ module _ (s ls : List ℕ) where
   stops-is k i x =
       ap (λ ks. runFrom 0 (programOf s) ks (initialState s)) (x .place)
       ∙ made-run 0 (programOf s) (initialState s) (x .before) (x .state) (x .byte ∷ x .behind) (x .made)
-      ∙ run-stops (length (x .before) + 0) (programOf s) (x .byte) (x .behind) (x .state) k (step-lowest (programOf s) (x .state) (x .byte) ∙ lowest-is _ k (x .refusal)) (lowest-not (stepAsks (programOf s) (x .state) (x .byte)) k (x .refusal) (unfold every in refl))
+      ∙ run-stops (length (x .before) + 0) (programOf s) (x .byte) (x .behind) (x .state) k (step-first (programOf s) (x .state) (x .byte) ∙ first-is _ k (x .refusal)) (first-not (stepAsks (programOf s) (x .state) (x .byte)) k (x .refusal) (unfold every in refl))
       ∙ ap (refused k) (omega (arith, x .position))
 
   unended-is : (t : State) → ListMade s ls t false → runOf (programOf s) (rootOf s) ls ≡ refused 15 0
@@ -191,7 +191,7 @@ module _ (s ls : List ℕ) where
 
 -- a list from any state: a byte stops it, or it is made whole
 data Ran (p : Program) (st : State) (ls : List ℕ) : Type 0 where
-  stopped : (k : ℕ) (before : List ℕ) (byte : ℕ) (behind : List ℕ) (t : State) → ls ≡ before ++ byte ∷ behind → Made p st before t → LowestNo (stepAsks p t byte) k → Ran p st ls
+  stopped : (k : ℕ) (before : List ℕ) (byte : ℕ) (behind : List ℕ) (t : State) → ls ≡ before ++ byte ∷ behind → Made p st before t → FirstNo (stepAsks p t byte) k → Ran p st ls
   whole : (t : State) → Made p st ls t → Ran p st ls
 
 ran-of : (p : Program) (st : State) (ls : List ℕ) → Ran p st ls
@@ -233,10 +233,10 @@ finished-made s ls t e = by (listed-of s ls)
     by (ended u x) = rw (ap stateIn (sym (ended-is s ls u x) ∙ e)) at x
 
 -- a call that questions 1 to 11 end
-run-refused : (q : Request) (ls : List ℕ) (k : ℕ) → LowestNo (runAsks q) k → timetabled q ls ≡ record { number = k; place = 0; count = 0; work = q .work; buffer = q .buffer }
+run-refused : (q : Request) (ls : List ℕ) (k : ℕ) → FirstNo (runAsks q) k → timetabled q ls ≡ record { number = k; place = 0; count = 0; work = q .work; buffer = q .buffer }
 unfolding timetabled
 run-refused q ls k w =
-    rw (run-no q k w, ne-eqb k 0 (lowest-not (runAsks q) k w (run-numbered q))) refl
+    rw (run-no q k w, ne-eqb k 0 (first-not (runAsks q) k w (run-numbered q))) refl
 
 pub demand-1-timetabled : Demand1Timetabled
 unfolding answerOf
@@ -267,7 +267,7 @@ pub demand-1-depth-first : Demand1DepthFirst
 unfolding deep
 demand-1-depth-first =
     record {
-      refused = λ q k w. rw (deep-no q k w, ne-eqb k 0 (lowest-not (deepAsks q) k w (deep-numbered q))) refl;
+      refused = λ q k w. rw (deep-no q k w, ne-eqb k 0 (first-not (deepAsks q) k w (deep-numbered q))) refl;
       ended = λ q y. deep-is q (deep-yes q y);
       put = λ q. put-of (deepAsks q);
     }

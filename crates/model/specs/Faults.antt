@@ -57,7 +57,7 @@ abbrev pub AllYes : List Question → Type 0
 AllYes qs = every (λ x. x .says) qs ≡ true
 
 -- question k says no, and each one before it yes: it is the first that says no, in the order in which they are put
-pub record LowestNo (qs : List Question) (k : ℕ) : Type 0 where
+pub record FirstNo (qs : List Question) (k : ℕ) : Type 0 where
   pub before : List Question
   pub behind : List Question
   pub place : qs ≡ before ++ asks k false ∷ behind
@@ -65,12 +65,12 @@ pub record LowestNo (qs : List Question) (k : ℕ) : Type 0 where
 
 -- questions that are put one after the other: one ends the call, or all say yes
 pub data Put (qs : List Question) : Type 0 where
-  ends : (k : ℕ) → LowestNo qs k → Put qs
+  ends : (k : ℕ) → FirstNo qs k → Put qs
   passes : AllYes qs → Put qs
 
 -- Check, for any bytes
 pub record Demand1Check : Type 0 where
-  pub refused : (s : List ℕ) (k : ℕ) → LowestNo (checkAsks s) k → session.answerOf (verdictOf s) ≡ record { number = k; place = 0 }
+  pub refused : (s : List ℕ) (k : ℕ) → FirstNo (checkAsks s) k → session.answerOf (verdictOf s) ≡ record { number = k; place = 0 }
   pub accepted : (s : List ℕ) → AllYes (checkAsks s) → session.answerOf (verdictOf s) ≡ record { number = 0; place = 0 }
   pub put : (s : List ℕ) → Put (checkAsks s)
 
@@ -89,7 +89,7 @@ pub record StopsAt (s ls : List ℕ) (k i : ℕ) : Type 0 where
   pub position : length before ≡ i
   pub state : State
   pub made : Made (programOf s) (initialState s) before state
-  pub refusal : LowestNo (stepAsks (programOf s) state byte) k
+  pub refusal : FirstNo (stepAsks (programOf s) state byte) k
 
 -- the whole list is made, and this is what question 15 says at its end
 pub record ListMade (s ls : List ℕ) (state : State) (fifteen : Bool) : Type 0 where
@@ -111,7 +111,7 @@ answerWith q work bytes =
 -- The timetabled run, for any bytes, clearance, timetable and slices
 pub record Demand1Timetabled : Type 0 where
   -- Check's questions and 9 to 11: "otherwise 0", "Up to 11, both buffers stay untouched"
-  pub refused : (q : Request) (ls : List ℕ) (k : ℕ) → LowestNo (runAsks q) k →
+  pub refused : (q : Request) (ls : List ℕ) (k : ℕ) → FirstNo (runAsks q) k →
       timetabled q ls ≡ record { number = k; place = 0; count = 0; work = q .work; buffer = q .buffer }
   -- 12 to 14: "for 12 to 14 the timetable position from 0", "After 12 to 15 the result buffer is untouched; then .. the work slice's first
   -- 8,192 numbers are 0"
@@ -127,7 +127,7 @@ pub record Demand1Timetabled : Type 0 where
 
 -- The plain run, for any bytes, clearance and slices: past question 11 nothing refuses it
 pub record Demand1Plain : Type 0 where
-  pub refused : (q : Request) (k : ℕ) → LowestNo (runAsks q) k →
+  pub refused : (q : Request) (k : ℕ) → FirstNo (runAsks q) k →
       plain q ≡ record { number = k; place = 0; count = 0; work = q .work; buffer = q .buffer }
   pub ended : (q : Request) → AllYes (runAsks q) →
       (t : State)
@@ -137,7 +137,7 @@ pub record Demand1Plain : Type 0 where
 
 -- The depth-first run, for any bytes, clearance and buffer. It has no work slice
 pub record Demand1DepthFirst : Type 0 where
-  pub refused : (q : Request) (k : ℕ) → LowestNo (deepAsks q) k →
+  pub refused : (q : Request) (k : ℕ) → FirstNo (deepAsks q) k →
       deep q ≡ record { number = k; place = 0; count = 0; work = q .work; buffer = q .buffer }
   pub ended : (q : Request) → AllYes (deepAsks q) →
       deep q

@@ -30,7 +30,7 @@ use Rattle.model.specs.Entries.{Request, Answer, question9, question11, entryRe
 use Rattle.model.specs.Reader.{bytesWritten, historiesAt}
 use Rattle.model.specs.Demands.{DepthFirstRun}
 use Rattle.model.specs.Faults.{asks}
-use Rattle.model.proofs.Faults.{lowestOf, past, checked, lowest-is, lowest-not, all-zero, put-of}
+use Rattle.model.proofs.Faults.{firstOf, past, checked, first-is, first-not, all-zero, put-of}
 use Rattle.model.proofs.Demands.{deep-emptied, histories-limited}
 use Rattle.model.proofs.Laws.Reader.Answers.{passes, deep-is, deep-finished, deep-passes, deep-bytes}
 use Rattle.model.proofs.Laws.Reader.Bytes.{chosen-groups, histories-found, histories-of-level, histories-of-none, histories-by-level, written-bytes}
@@ -230,10 +230,10 @@ module _ (q : Request) (page : List ℕ) where
   unfolding paged
   page-is f = rw (eq-eqb (pageRefusal q page) 0 f) refl
 
-  -- the lowest of its questions that says no
-  page-lowest : pageRefusal q page ≡ lowestOf (pageAsks q page)
-  unfolding pageRefusal entryRefusal lowestOf
-  page-lowest =
+  -- the first of its questions that says no
+  page-first : pageRefusal q page ≡ firstOf (pageAsks q page)
+  unfolding pageRefusal entryRefusal firstOf
+  page-first =
       by (numberOfVerdict (verdictOf (q .session))) (question9 q) (question11 q) (question16 page)
       ∙ sym (checked (q .session) (asks 9 (question9 q) ∷ asks 11 (question11 q) ∷ asks 16 (question16 page) ∷ []))
     where
@@ -275,9 +275,9 @@ unfolding paged
 demand-1-page =
     record {
       refused = λ q page k w.
-          rw (page-lowest q page ∙ lowest-is (pageAsks q page) k w, ne-eqb k 0 (lowest-not (pageAsks q page) k w (unfold every in refl))) refl;
+          rw (page-first q page ∙ first-is (pageAsks q page) k w, ne-eqb k 0 (first-not (pageAsks q page) k w (unfold every in refl))) refl;
       ended = λ q page y.
-          let yes = page-lowest q page ∙ all-zero (pageAsks q page) y in
+          let yes = page-first q page ∙ all-zero (pageAsks q page) y in
           let ran = deep-is q (page-deep q page yes) in
           let bytes = deep-bytes q (page-deep q page yes) in
           page-is q page yes ∙ rw (bytes, ran) refl;

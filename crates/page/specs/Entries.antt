@@ -16,7 +16,7 @@ use Rattle.page.specs.declared.PageAnswer.{PageAnswer}
 abbrev pub question16 : List ℕ → Bool
 question16 page = leb pageBytes (length page)
 
--- the lowest of questions 1 to 9, 11 and 16 that says no, or 0: "16 .. put after question 11"
+-- the first of Check's questions, 9, 11 and 16 that says no, or 0: "16 .. put after question 11"
 unfoldable pub pageRefusal : Request → List ℕ → ℕ
 pageRefusal q page =
     let number = entryRefusal true q in

@@ -12,7 +12,7 @@ use Rattle.session.specs.Emptied.{emptied}
 use Rattle.model.specs.DepthFirst.{depthFirst}
 use Rattle.model.specs.Result.{Result, resultOfDepthFirst, historyRecord, levelIn, endingIn, writesIn, stampIn, firstIn, lastIn, stepsIn}
 use Rattle.model.specs.Entries.{Request, Answer, question9, question11, bytesFor, writtenOver}
-use Rattle.model.specs.Faults.{Question, asks, checkAsks, AllYes, LowestNo, Put}
+use Rattle.model.specs.Faults.{Question, asks, checkAsks, AllYes, FirstNo, Put}
 use Rattle.model.specs.Reader.{bytesWritten, EqualToReader, historiesAt}
 use Rattle.model.specs.Demands.{DepthFirstRun}
 use Rattle.page.specs.declared.PageAnswer.{PageAnswer}
@@ -134,7 +134,7 @@ bytesRun q = bytesFor q (leftBy (q .session))
 
 -- Demand 1 of the page entry, for any bytes, clearance and buffers
 pub record Demand1Page : Type 0 where
-  pub refused : (q : Request) (page : List ℕ) (k : ℕ) → LowestNo (pageAsks q page) k →
+  pub refused : (q : Request) (page : List ℕ) (k : ℕ) → FirstNo (pageAsks q page) k →
       paged q page ≡ record { number = k; place = 0; count = 0; pageCount = 0; buffer = q .buffer; page = page }
   pub ended : (q : Request) (page : List ℕ) → AllYes (pageAsks q page) →
       paged q page

@@ -40,7 +40,7 @@ fn finished(count: usize, characters: usize) -> PageAnswer
     }
 }
 
-// Runs a session depth first, writes what a clearance is shown of it and the page of that: questions 1 to 9, 11 and
+// Runs a session depth first, writes what a clearance is shown of it and the page of that: Check's questions, 9, 11 and
 // 16 of any bytes, of any length and content, and then the run.
 pub fn run_page(session: &[u8], clearance: usize, result: &mut [u8], page: &mut [u8]) -> PageAnswer
     ensures { λ r. ⌜ PageAnswers (paged (record { session = now (session .entry); clearance = clearance; work = []; buffer = now (result .entry) }) (now (page .entry))) r (now (result .exit)) (now (page .exit)) ⌝ }
