@@ -18,8 +18,10 @@ pub fn cases() -> Vec<(&'static str, Vector)> {
 
 /// Tables that question 17 accepts and refuses, and one that question 5 refuses first.
 fn tables() -> Vec<(&'static str, Vector)> {
-    let tables: [(&str, &[u8], u32); 9] = [
+    let tables: [(&str, &[u8], u32); 12] = [
         ("01 02 07", &[0x01, 0x02, 0x07], 17),
+        ("01 07 04", &[0x01, 0x07, 0x04], 17),
+        ("07 02 04", &[0x07, 0x02, 0x04], 17),
         ("M9, both bounds", &[0x01, 0x03, 0x05, 0x0f], 0),
         ("03 02, over level 1", &[0x03, 0x02], 0),
         ("one level", &[0x01], 0),
@@ -32,6 +34,11 @@ fn tables() -> Vec<(&'static str, Vector)> {
         (
             "a chain over levels 0 and 1",
             &[0x01, 0x02, 0x07, 0x0f, 0x1f, 0x3f, 0x7f, 0xff],
+            17,
+        ),
+        (
+            "a chain over levels 6 and 7",
+            &[0xff, 0xfe, 0xfc, 0xf8, 0xf0, 0xe0, 0x40, 0x80],
             17,
         ),
         // Levels 0, 1 and 2 have lower bounds among each other, but none with level 3.
