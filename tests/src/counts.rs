@@ -54,40 +54,46 @@ pub struct Counts {
     pub limits: Totals,
 }
 
+/// How often each number of a call ought to occur.
+fn least() -> BTreeMap<(&'static str, usize), u64> {
+    let numbers = [
+        (CHECK, (0..=8).collect()),
+        // The depth-first run never asks question 10.
+        (DEPTH_FIRST, (0..=9).chain(11..=11).collect()),
+        (PLAIN, (0..=11).collect()),
+        (TIMETABLED, (0..=15).collect::<Vec<usize>>()),
+        (WORK, (WORK_LENGTH - 1..=WORK_LENGTH + 1).collect()),
+        (RESULT, (RESULT_LENGTH - 1..=RESULT_LENGTH + 1).collect()),
+        (PLACE_AND_COUNT, (0..=PLACE_AND_COUNT_LENGTH + 1).collect()),
+        (PAGE, (0..=9).chain([11, 16]).collect()),
+        (
+            PAGE_BUFFER,
+            vec![0, PAGE_LENGTH - 1, PAGE_LENGTH, PAGE_LENGTH + 1],
+        ),
+        (
+            PAGE_RESULT,
+            (RESULT_LENGTH - 1..=RESULT_LENGTH + 1).collect(),
+        ),
+        (PAGE_NUMBERS, (0..=PLACE_AND_COUNTS_LENGTH + 1).collect()),
+        (PAGE_BOTH_SHORT, vec![11]),
+    ];
+    let least = numbers.into_iter().flat_map(|(name, numbers)| {
+        let times = if OFTEN.contains(&name) { PAGES } else { 1 };
+        numbers
+            .into_iter()
+            .map(move |number| ((name, number), times))
+    });
+    let mut least: BTreeMap<_, u64> = least.collect();
+    least.extend(ENTRIES.map(|entry| ((entry, 17), MEETS)));
+    least.extend((0..LEVELS_MAX).map(|level| ((LOWEST, level), MEETS)));
+    least.extend((2..LEVELS_MAX).map(|levels| ((SEVERAL, levels), BROKEN)));
+    least
+}
+
 impl Counts {
     /// With a 0 for everything that ought to occur.
     pub fn new(rules: &[Rule]) -> Self {
-        let numbers = [
-            (CHECK, (0..=8).collect()),
-            // The depth-first run never asks question 10.
-            (DEPTH_FIRST, (0..=9).chain(11..=11).collect()),
-            (PLAIN, (0..=11).collect()),
-            (TIMETABLED, (0..=15).collect::<Vec<usize>>()),
-            (WORK, (WORK_LENGTH - 1..=WORK_LENGTH + 1).collect()),
-            (RESULT, (RESULT_LENGTH - 1..=RESULT_LENGTH + 1).collect()),
-            (PLACE_AND_COUNT, (0..=PLACE_AND_COUNT_LENGTH + 1).collect()),
-            (PAGE, (0..=9).chain([11, 16]).collect()),
-            (
-                PAGE_BUFFER,
-                vec![0, PAGE_LENGTH - 1, PAGE_LENGTH, PAGE_LENGTH + 1],
-            ),
-            (
-                PAGE_RESULT,
-                (RESULT_LENGTH - 1..=RESULT_LENGTH + 1).collect(),
-            ),
-            (PAGE_NUMBERS, (0..=PLACE_AND_COUNTS_LENGTH + 1).collect()),
-            (PAGE_BOTH_SHORT, vec![11]),
-        ];
-        let least = numbers.into_iter().flat_map(|(name, numbers)| {
-            let times = if OFTEN.contains(&name) { PAGES } else { 1 };
-            numbers
-                .into_iter()
-                .map(move |number| ((name, number), times))
-        });
-        let mut least: BTreeMap<_, u64> = least.collect();
-        least.extend(ENTRIES.map(|entry| ((entry, 17), MEETS)));
-        least.extend((0..LEVELS_MAX).map(|level| ((LOWEST, level), MEETS)));
-        least.extend((2..LEVELS_MAX).map(|levels| ((SEVERAL, levels), BROKEN)));
+        let least = least();
         let absent = clearances::absent(0, 0);
         let rules = rules.iter();
         Counts {

@@ -3,11 +3,40 @@
 
 use super::{depth_first, draft, empty, finished, history, levels, plain, refused, send};
 use super::{shown, timetable, vector};
-use crate::library::Answer;
 use crate::limits::FIELDS;
 use crate::record;
-use crate::request::{Lengths, Outcome, Request, Run};
+use crate::request::{Lengths, Request, Run};
 use crate::vectors::Vector;
+
+/// Tables by name, with the check's number: 0 where it accepts them.
+const TABLES: [(&str, &[u8], u32); 12] = [
+    ("01 02 07", &[0x01, 0x02, 0x07], 17),
+    ("01 07 04", &[0x01, 0x07, 0x04], 17),
+    ("07 02 04", &[0x07, 0x02, 0x04], 17),
+    ("M9, both bounds", &[0x01, 0x03, 0x05, 0x0f], 0),
+    ("03 02, over level 1", &[0x03, 0x02], 0),
+    ("one level", &[0x01], 0),
+    ("a diamond over level 2", &[0x0f, 0x06, 0x04, 0x0c], 0),
+    (
+        "a chain over level 7",
+        &[0xff, 0xfe, 0xfc, 0xf8, 0xf0, 0xe0, 0xc0, 0x80],
+        0,
+    ),
+    (
+        "a chain over levels 0 and 1",
+        &[0x01, 0x02, 0x07, 0x0f, 0x1f, 0x3f, 0x7f, 0xff],
+        17,
+    ),
+    (
+        "a chain over levels 6 and 7",
+        &[0xff, 0xfe, 0xfc, 0xf8, 0xf0, 0xe0, 0x40, 0x80],
+        17,
+    ),
+    // Levels 0, 1 and 2 have lower bounds among each other, but none with level 3.
+    ("01 03 05 08 1f", &[0x01, 0x03, 0x05, 0x08, 0x1f], 17),
+    // Neither bound: question 5 is put first.
+    ("01 02 04", &[0x01, 0x02, 0x04], 5),
+];
 
 pub fn cases() -> Vec<(&'static str, Vector)> {
     let mut cases = tables();
@@ -16,39 +45,10 @@ pub fn cases() -> Vec<(&'static str, Vector)> {
     cases
 }
 
-/// Tables that question 17 accepts and refuses, and one that question 5 refuses first.
 fn tables() -> Vec<(&'static str, Vector)> {
-    let tables: [(&str, &[u8], u32); 12] = [
-        ("01 02 07", &[0x01, 0x02, 0x07], 17),
-        ("01 07 04", &[0x01, 0x07, 0x04], 17),
-        ("07 02 04", &[0x07, 0x02, 0x04], 17),
-        ("M9, both bounds", &[0x01, 0x03, 0x05, 0x0f], 0),
-        ("03 02, over level 1", &[0x03, 0x02], 0),
-        ("one level", &[0x01], 0),
-        ("a diamond over level 2", &[0x0f, 0x06, 0x04, 0x0c], 0),
-        (
-            "a chain over level 7",
-            &[0xff, 0xfe, 0xfc, 0xf8, 0xf0, 0xe0, 0xc0, 0x80],
-            0,
-        ),
-        (
-            "a chain over levels 0 and 1",
-            &[0x01, 0x02, 0x07, 0x0f, 0x1f, 0x3f, 0x7f, 0xff],
-            17,
-        ),
-        (
-            "a chain over levels 6 and 7",
-            &[0xff, 0xfe, 0xfc, 0xf8, 0xf0, 0xe0, 0x40, 0x80],
-            17,
-        ),
-        // Levels 0, 1 and 2 have lower bounds among each other, but none with level 3.
-        ("01 03 05 08 1f", &[0x01, 0x03, 0x05, 0x08, 0x1f], 17),
-        ("01 02 04", &[0x01, 0x02, 0x04], 5),
-    ];
-    let checked = |number| Outcome::refused(Answer::refused(number, 0));
-    let cases = tables.map(|(name, masks, number)| {
-        let session = levels(masks);
-        (name, vector(session, Request::Check, checked(number)))
+    let cases = TABLES.map(|(name, masks, number)| {
+        let expected = refused(number, 0);
+        (name, vector(levels(masks), Request::Check, expected))
     });
     cases.into()
 }
