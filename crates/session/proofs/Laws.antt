@@ -9,6 +9,7 @@ pub mod Choice
 pub mod Emptied
 pub mod EmptiedAccepted
 pub mod Scripts
+pub mod Steps
 pub mod Fill
 pub mod Numbering
 pub mod Checked

@@ -2,18 +2,18 @@
 -- Laws (`proofs/Laws/Accepted`): the steps of a method of which it is known where they stand are within the session and at most 16
 -- (`method-ends`, `method-few`); which step is there (`step-there`), and that the script's end is behind them (`step-over`).
 -- `proofs/Laws/Checked`: the table that the check of an accepted session makes is its level table (`accepted-table`).
-use Prim.Native.Nat.{ℕ, suc, _+_, _-_, _/_, _%_}
+use Prim.Native.Nat.{ℕ, suc, _+_, _-_, _/_, _%_, _<_}
 use mathlib.Core.Path.{_≡_}
-use mathlib.Core.Bool.{cond, _&&_, not}
+use mathlib.Core.Bool.{Bool, cond, _&&_, not}
 use mathlib.Core.List.{List, [], _++_}
 use lib.Dec.{eqb, ltb}
 use lib.ListN.{length, drop}
 use Rattle.lattice.specs.Range.{first}
 use Rattle.session.specs.Limits.{names, maxMethods}
 use Rattle.session.specs.Lists.{select, tab}
-use Rattle.session.specs.Record.{Record, recordAt}
+use Rattle.session.specs.Record.{Record, recordAt, zeroAt, objectOf, nameOf, stepOf}
 use Rattle.session.specs.Parts.{stepRecords, levelCount, objectCount, stepCount, masksOf, key, keyOf}
-use Rattle.session.specs.Questions.{question1, question2, question3, verdictOf}
+use Rattle.session.specs.Questions.{question1, question2, question3, operandsFit, unusedBytes, verdictOf}
 use Rattle.session.specs.Meaning.{methodOf}
 use Rattle.session.specs.declared.Checked.{Checked}
 
@@ -45,6 +45,20 @@ recordsFrom s start count = tab count (λ i. recordAt s (start + i))
 unfoldable pub methodEnd : List ℕ → ℕ → ℕ → ℕ
 methodEnd s r e =
     suc r + first (e - suc r) (λ i. not (eqb (keyOf (recordAt s (suc r + i))) (keyOf (recordAt s r))))
+
+-- question 7 of a step, in two parts: what it shares with the steps of its method, and the rest
+abbrev pub isNamed : ℕ → Record → Bool
+isNamed objects rec = ltb (objectOf rec) objects && ltb (nameOf rec) names
+
+unfoldable pub isFit : ℕ → ℕ → Record → Bool
+isFit objects count rec =
+    let step = stepOf rec in
+    operandsFit objects count step && zeroAt (unusedBytes step) rec
+
+-- so many records from one on are some steps of one method
+pub record OneMethod (s : List ℕ) (start count : ℕ) : Type 0 where
+  pub some : 0 < count
+  pub same : (i : ℕ) → i < count → keyOf (recordAt s (start + i)) ≡ keyOf (recordAt s start)
 
 -- the record at which the steps of a method start: those of the methods before it stand before them
 unfoldable pub methodStart : List ℕ → ℕ → ℕ

@@ -17,7 +17,7 @@ ghost use Rattle.session.specs.Limits.{registers, names, maxSteps, maxMe
 ghost use Rattle.session.specs.Record.{recordAt, recordCount, zeroAt, between, from};
 ghost use Rattle.session.specs.Parts.{keyOf};
 ghost use Rattle.session.specs.Questions.{operandsFit, unusedBytes, stepValid, scriptsValid};
-ghost use Rattle.session.specs.Reading.{methodEnd, recordsFrom};
+ghost use Rattle.session.specs.Reading.{methodEnd, recordsFrom, isNamed, isFit, OneMethod};
 
 // What bounds an operand that is a register.
 const REGISTER_LIMIT: usize = REGISTERS as usize;
@@ -92,17 +92,22 @@ fn are_operands_valid(session: &[u8], r: usize, objects: usize, count: usize, st
     }
 }
 
-// Whether the step in record `r` is valid among so many objects and in a method of `count` steps.
-fn is_valid(session: &[u8], r: usize, objects: usize, count: usize) -> bool
-    requires { ⌜ (r < recordCount (now session)) × (count ≤ maxSteps) ⌝ }
-    ensures { λ x. ⌜ x ≡ stepValid objects count (recordAt (now (session .entry)) r) ⌝ }
+// Whether the object of the step in record `r` is one of so many, and its name at most 15.
+fn is_named(session: &[u8], r: usize, objects: usize) -> bool
+    requires { ⌜ r < recordCount (now session) ⌝ }
+    ensures { λ x. ⌜ x ≡ isNamed objects (recordAt (now (session .entry)) r) ⌝ }
 {
     if objects <= record::byte_at(session, r, places::OBJECT) as usize {
         return false;
     }
-    if NAME_COUNT <= record::byte_at(session, r, places::NAME) {
-        return false;
-    }
+    record::byte_at(session, r, places::NAME) < NAME_COUNT
+}
+
+// Whether the rest of the step in record `r` is valid among so many objects and in a method of `count` steps.
+fn is_fit(session: &[u8], r: usize, objects: usize, count: usize) -> bool
+    requires { ⌜ (r < recordCount (now session)) × (count ≤ maxSteps) ⌝ }
+    ensures { λ x. ⌜ x ≡ isFit objects count (recordAt (now (session .entry)) r) ⌝ }
+{
     are_operands_valid(session, r, objects, count, record::step_in(session, r))
 }
 
@@ -120,13 +125,18 @@ fn method_end(session: &[u8], r: usize, end: usize) -> usize
     end
 }
 
-// Whether the steps of one method, `count` records from `first` on, are valid among so many objects.
+// Whether the steps of one method, `count` records from `first` on, are valid among so many objects. They have one
+// object and one name, which are looked at once.
 fn is_method_valid(session: &[u8], first: usize, count: usize, objects: usize) -> bool
     requires { ⌜ (first + count ≤ recordCount (now session)) × (count ≤ maxMethod) ⌝ }
+    requires { ⌜ OneMethod (now session) first count ⌝ }
     ensures { λ x. ⌜ x ≡ all count (λ i. stepValid objects count (recordAt (now (session .entry)) (first + i))) ⌝ }
 {
+    if !is_named(session, first, objects) {
+        return false;
+    }
     for i in 0..count {
-        if !is_valid(session, first + i, objects, count) {
+        if !is_fit(session, first + i, objects, count) {
             return false;
         }
     }

@@ -1,9 +1,9 @@
 -- `session::methods::are_valid` meets its contract. The invariant: (object, name) has not fallen, and the steps passed are whole methods, and valid if it never falls. Assumes nothing.
-use Prim.Native.Nat.{_-_}
+use Prim.Native.Nat.{_+_, _-_}
 use mathlib.Core.Path.{sym, _∙_}
 use native.Mathlib.Omega.{arith}
 use borrow.Author.Tests.{not-true, not-false}
-use Rattle.session.proofs.Laws.Scripts.{Methods, methods-none, methods-all, methods-long, methods-wrong, methods-falls, methods-more, end-after, end-within}
+use Rattle.session.proofs.Laws.Scripts.{Methods, methods-none, methods-all, methods-long, methods-wrong, methods-falls, methods-more, end-after, end-within, end-same}
 use Rattle.session.proofs.methods.are_valid.Statement.{statement}
 use Rattle.session.proofs.methods.are_valid.Tie as tie
 
@@ -40,7 +40,13 @@ is-method-valid-requires c κs =
     let at = c .before .before .before .loop in
     let after = end-after (s .args .session .now) (at .at) (s .args .end) (c .before .before .loop-test .taken) in
     let within = end-within (s .args .session .now) (at .at) (s .args .end) (c .before .before .loop-test .taken) in
-    omega (arith, c .before .method-end .ensures)
+    let e = c .before .method-end .ensures in (
+      omega (arith, e),
+      record {
+        some = omega (arith, e);
+        same = λ i h. end-same (s .args .session .now) (at .at) (s .args .end) (c .before .before .loop-test .taken) (at .at + i) (omega arith) (omega (arith, e, h));
+      },
+    )
 
 returns-2 : tie.Need-returns-2 Inv-loop μ-loop
 returns-2 c =
