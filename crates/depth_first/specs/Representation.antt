@@ -21,9 +21,9 @@ use Rattle.scripts.specs.declared.Ended.{Ended}
 use Rattle.words.specs.Limits.{fieldWords}
 use Rattle.words.specs.Outside.{Outside}
 use Rattle.words.specs.Fields.{fieldPlace, fieldAt}
-use Rattle.managers.specs.Core.{effectOf, Present}
-use Rattle.managers.specs.declared.Effect.{Effect}
-use Rattle.managers.specs.declared.Effect.the-variants as effect
+use Rattle.operations.specs.Core.{effectOf, Present}
+use Rattle.operations.specs.declared.Effect.{Effect}
+use Rattle.operations.specs.declared.Effect.the-variants as effect
 use Rattle.model.specs.Limits.{maxManagers, stampDigits}
 use Rattle.model.specs.Lists.{inserted}
 use Rattle.model.specs.Fork as model

@@ -4,8 +4,8 @@
 // What a run keeps is lent: `current` holds the fields, as in `words`; `ended` the histories, as in `records`;
 // `tallies` how many managers of each level have ended and the write stamp of its next one, as in the crate
 // of that name.
-use managers::Effect;
 use managers::Manager;
+use operations::Effect;
 use scripts::Ended;
 use session::Message;
 use tallies::NEXT;

@@ -24,8 +24,8 @@ use Rattle.scripts.specs.Valid.{Indexed, Leveled, Startable}
 use Rattle.scripts.specs.declared.Ended.{Ended}
 use Rattle.words.specs.Limits.{fieldWords}
 use Rattle.words.specs.Fields.{FieldThere, FieldSet, Remembered}
-use Rattle.managers.specs.Core.{bare, effectOf}
-use Rattle.managers.specs.declared.Core.{Core}
+use Rattle.operations.specs.Core.{bare, effectOf}
+use Rattle.operations.specs.declared.Core.{Core}
 use Rattle.model.specs.Limits.{stampDigits}
 use Rattle.model.specs.Fork.{Fork, childStamp}
 use Rattle.model.specs.History.{endBefore}

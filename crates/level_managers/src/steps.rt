@@ -1,9 +1,9 @@
 // What a scheduler step at a level is made of, but for the script step itself: that is the manager's own. `cache`
 // keeps what the manager that runs there has read at other levels.
 use crate::reads;
-use managers::Core;
-use managers::Effect;
 use managers::Manager;
+use operations::Core;
+use operations::Effect;
 use session::Message;
 use session::Value;
 use tallies::NEXT;
@@ -14,7 +14,8 @@ use words::fields;
 ghost use Prim.Native.Nat.{_+_, _<_};
 ghost use Rattle.scripts.specs.Limits.{writeStamps};
 ghost use Rattle.scripts.specs.Valid.{Leveled};
-ghost use Rattle.managers.specs.Core.{managerOf, effectOf};
+ghost use Rattle.operations.specs.Core.{effectOf};
+ghost use Rattle.managers.specs.Manager.{managerOf};
 ghost use Rattle.managers.specs.Steps.{WellFormed};
 ghost use Rattle.level_managers.specs.Steps.{IsBusy, ReadReady, Answered, WriteReady, Wrote, ForkReady, Forked, PerformReady, Performed, SettleReady, CoreSettled, StepDone, StartReady, Started};
 

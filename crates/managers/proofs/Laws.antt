@@ -1,9 +1,6 @@
 -- Laws of the code's manager.
 pub mod Leads
-pub mod Frames
 pub mod Turns
 pub mod Advance
 pub mod Closing
 pub mod Done
-pub mod Makes
-pub mod Operations

@@ -1,5 +1,3 @@
 -- What the contracts of the code's manager cite.
-pub mod Frames
-pub mod Core
-pub mod Moves
+pub mod Manager
 pub mod Steps

@@ -19,16 +19,16 @@ use Rattle.scripts.specs.Effect as effect
 use Rattle.scripts.specs.State as defined
 use Rattle.scripts.specs.Manager.{nextStep, stepped}
 use Rattle.scripts.specs.Valid.{Indexed, Leveled}
-use Rattle.scripts.specs.declared.Ended.{Ended}
 use Rattle.scripts.specs.declared.Ending.the-variants.{Finished}
 use Rattle.words.specs.Limits.{fieldWords}
 use Rattle.words.specs.Reads.{isAvailable, Agrees}
-use Rattle.managers.specs.Frames.{frameOf, asideOf, noWaiting, topFrom, Placed, Waits}
-use Rattle.managers.specs.Core.{managerOf, steppedOf, isNothing, isAsking, isDone, Present}
-use Rattle.managers.specs.Moves.{Asks}
-use Rattle.managers.specs.declared.Core.{Core}
+use Rattle.frames.specs.Frames.{frameOf, asideOf, noWaiting, topFrom, Placed, Waits}
+use Rattle.operations.specs.Core.{isNothing, isAsking, isDone, Present}
+use Rattle.operations.specs.Moves.{Asks}
+use Rattle.operations.specs.declared.Core.{Core}
+use Rattle.operations.specs.declared.Effect.the-variants.{Nothing, End, Read}
+use Rattle.managers.specs.Manager.{managerOf, steppedOf}
 use Rattle.managers.specs.declared.Manager.{Manager}
-use Rattle.managers.specs.declared.Effect.the-variants.{Nothing, End, Read}
 
 -- so many script steps lead from one manager to another, and concern nobody else
 unfoldable pub InternalSteps : Program → (ℕ → ℕ → Value) → ℕ → defined.Manager → defined.Manager → Type 0
@@ -132,16 +132,3 @@ pub record Stepped (s current cache : List ℕ) (m r : Manager) : Type 0 where
   pub first-is : r .core .first ≡ m .core .first
   pub present : Present s (r .core .effect)
   pub done : isDone (r .core .effect) ≡ true
-
--- what is kept of a manager that has ended, with the stamp of its fork
-abbrev pub keptOf : Core → ℕ → Ended
-keptOf c stamp =
-    record {
-      ending = c .ending;
-      writes = c .writes;
-      stamp = stamp;
-      first = c .first;
-      last = c .first + c .forks;
-      steps = c .steps;
-      reply = c .reply;
-    }

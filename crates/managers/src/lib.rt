@@ -1,29 +1,21 @@
 // Message managers: a stack of frames that runs the methods of one message, by value.
-mod ends;
-pub mod frames;
-mod moves;
-mod operations;
-pub mod values;
-
 use frames::FIRST_ANSWER;
 use frames::Frame;
 use frames::Waiting;
-use scripts::Ended;
+use operations::Core;
+use operations::Effect;
 use scripts::Ending;
 use scripts::MAX_FRAMES;
 use session::Message;
 use session::Value;
-ghost use Prim.Native.Nat.{_+_, _≤_, _<_};
+ghost use Prim.Native.Nat.{_≤_, _<_};
 ghost use mathlib.Core.Path.{_≡_};
-ghost use mathlib.Core.Bool.{_&&_};
-ghost use lib.Dec.{ltb};
 ghost use Rattle.session.specs.Program.{programOf};
-ghost use Rattle.scripts.specs.Limits.{maxScriptSteps, writeStamps};
+ghost use Rattle.scripts.specs.Limits.{maxScriptSteps};
 ghost use Rattle.scripts.specs.Manager.{started};
 ghost use Rattle.scripts.specs.Valid.{Indexed, Startable};
-ghost use Rattle.managers.specs.Core.{managerOf, isNothing};
-ghost use Rattle.managers.specs.Moves.{causing};
-ghost use Rattle.managers.specs.Steps.{noManager, WellFormed, Advanceable, Advanced, Stepped, keptOf};
+ghost use Rattle.managers.specs.Manager.{managerOf};
+ghost use Rattle.managers.specs.Steps.{noManager, WellFormed, Advanceable, Advanced, Stepped};
 
 // How many frames of a manager wait below its top, at most.
 pub const MAX_WAITING: usize = MAX_FRAMES as usize - 1;
@@ -39,104 +31,6 @@ pub struct Manager {
     pub core: Core,
     // The frames that wait below the top, the first first.
     pub waiting: [Waiting; MAX_WAITING],
-}
-
-// A manager but for the frames that wait below its top.
-pub struct Core {
-    pub level: u8,
-    // The write stamp at its start. Each fork made adds 1 to it.
-    pub first: u16,
-    pub steps: u16,
-    pub writes: u8,
-    pub forks: u8,
-    // How many frames there are.
-    pub height: u8,
-    pub ending: Ending,
-    // What its first frame replied.
-    pub reply: Value,
-    // The frame on top.
-    pub top: Frame,
-    // What its last script step did outside it, or its next one asks.
-    pub effect: Effect,
-}
-
-// What a script step does outside its manager, asks before it is made, or leaves to do to the frames.
-pub enum Effect {
-    Nothing,
-    // The manager has ended.
-    End,
-    // A field of an object of the manager's level gets a value.
-    Write {
-        object: u8,
-        field: u8,
-        value: Value,
-    },
-    // The step is a READ of a field that is not at hand, and is not made.
-    Read {
-        object: u8,
-        field: u8,
-    },
-    // A manager is forked at a level, to run a message.
-    Fork {
-        level: u8,
-        object: u8,
-        name: u8,
-        parameter: Value,
-    },
-    // A frame is to be made above the top. Nobody outside sees this.
-    Call {
-        object: u8,
-        name: u8,
-        answer: u8,
-        parameter: Value,
-    },
-    // The top is to pop with a reply. Nobody outside sees this.
-    Pop(Value),
-}
-
-// Whether a step did nothing outside its manager, asks nothing, and leaves nothing to do.
-fn is_nothing(effect: Effect) -> bool
-    ensures { λ r. ⌜ r ≡ isNothing effect ⌝ }
-{
-    match effect {
-        Effect::Nothing => true,
-        _ => false,
-    }
-}
-
-impl Core {
-    // The core with another effect.
-    fn causing(self, effect: Effect) -> Core
-        ensures { λ r. ⌜ r ≡ causing self effect ⌝ }
-    {
-        Core { effect, ..self }
-    }
-
-    // Whether it makes its next script step by itself.
-    fn may_advance(self, limit: u16) -> bool
-        ensures { λ r. ⌜ r ≡ (isNothing (self .effect) && ltb (self .steps) limit) ⌝ }
-    {
-        let effect = self.effect;
-        is_nothing(effect) && self.steps < limit
-    }
-
-    // What is kept of it once it has ended, with the stamp of its fork.
-    pub fn ended(self, stamp: u32) -> Ended
-        requires { ⌜ self .first + self .forks < writeStamps ⌝ }
-        ensures { λ r. ⌜ r ≡ keptOf self stamp ⌝ }
-    {
-        let ending = self.ending;
-        let reply = self.reply;
-        Ended {
-            ending,
-            writes: self.writes,
-            stamp,
-            first: self.first,
-            last: self.first + self.forks as u16,
-            steps: self.steps,
-            reply,
-        }
-    }
 }
 
 impl Manager {

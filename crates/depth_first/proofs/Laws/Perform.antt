@@ -11,9 +11,9 @@ use Rattle.session.proofs.Laws.Verdict.{accepted}
 use Rattle.scripts.specs.Effect as effect
 use Rattle.scripts.specs.State.{Manager}
 use Rattle.words.specs.Fields.{FieldThere, FieldSet}
-use Rattle.managers.specs.Core.{effectOf, Present}
-use Rattle.managers.specs.declared.Effect.{Effect}
-use Rattle.managers.specs.declared.Effect.the-variants.{Write, Fork}
+use Rattle.operations.specs.Core.{effectOf, Present}
+use Rattle.operations.specs.declared.Effect.{Effect}
+use Rattle.operations.specs.declared.Effect.the-variants.{Write, Fork}
 use Rattle.model.specs.Fork as model
 use Rattle.model.specs.DepthFirst.{effected, runFork}
 use Rattle.model.proofs.Laws.Invariant.Stamps.{child-within}

@@ -26,9 +26,10 @@ use Rattle.scripts.specs.Valid.{Startable, Valid}
 use Rattle.scripts.specs.declared.Ended.{Ended}
 use Rattle.scripts.proofs.Laws.Counts.{started-counts}
 use Rattle.scripts.proofs.Laws.Valid.{started-valid}
-use Rattle.managers.specs.Frames.{frameOf}
-use Rattle.managers.specs.Core.{managerOf, steppedOf}
-use Rattle.managers.specs.Steps.{Leads, WellFormed, Advanceable, pausesOn, Advanced, keptOf}
+use Rattle.frames.specs.Frames.{frameOf}
+use Rattle.operations.specs.Core.{keptOf}
+use Rattle.managers.specs.Manager.{managerOf, steppedOf}
+use Rattle.managers.specs.Steps.{Leads, WellFormed, Advanceable, pausesOn, Advanced}
 use Rattle.managers.specs.declared.Manager.{Manager}
 use Rattle.managers.proofs.Laws.Leads.{none, some, leads-steps}
 use Rattle.model.specs.Limits.{maxManagers}

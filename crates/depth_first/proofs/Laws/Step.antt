@@ -19,10 +19,11 @@ use Rattle.scripts.specs.Valid.{Valid}
 use Rattle.scripts.proofs.Laws.Accepted.{program-sound}
 use Rattle.scripts.proofs.Laws.Counts.{counts, grown, oneMore, stepped-counts}
 use Rattle.scripts.proofs.Laws.Valid.{stepped-valid}
-use Rattle.managers.specs.Core.{managerOf, steppedOf, effectOf}
+use Rattle.operations.specs.Core.{effectOf}
+use Rattle.operations.specs.declared.Effect.{Effect}
+use Rattle.managers.specs.Manager.{managerOf, steppedOf}
 use Rattle.managers.specs.Steps.{InternalSteps, Leads, internal, last}
 use Rattle.managers.specs.declared.Manager as code
-use Rattle.managers.specs.declared.Effect.{Effect}
 use Rattle.managers.proofs.Laws.Leads.{step-counted, internal-alike}
 use Rattle.model.specs.Fork as model
 use Rattle.model.specs.DepthFirst.{Progress, tallyAt, fieldNow, effected, finish, runFork}

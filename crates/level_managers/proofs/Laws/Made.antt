@@ -23,9 +23,10 @@ use Rattle.scripts.specs.Manager.{started, stepped}
 use Rattle.scripts.specs.Valid.{Indexed, Startable}
 use Rattle.scripts.specs.declared.Ended.{Ended}
 use Rattle.scripts.proofs.Laws.Counts.{counts, grown, oneMore, stepped-counts}
-use Rattle.managers.specs.Core.{bare, managerOf, effectOf, steppedOf}
-use Rattle.managers.specs.Steps.{WellFormed, keptOf}
-use Rattle.managers.specs.declared.Core.{Core}
+use Rattle.operations.specs.Core.{bare, effectOf, keptOf}
+use Rattle.operations.specs.declared.Core.{Core}
+use Rattle.managers.specs.Manager.{managerOf, steppedOf}
+use Rattle.managers.specs.Steps.{WellFormed}
 use Rattle.managers.specs.declared.Manager as code
 use Rattle.model.specs.Fork.{Fork, childStamp}
 use Rattle.model.specs.Level.{idle, busy, hasManager}

@@ -26,14 +26,15 @@ use Rattle.scripts.specs.Valid.{Valid}
 use Rattle.words.specs.Limits.{fieldWords}
 use Rattle.words.specs.Fields.{knownAt, FieldThere, Forgotten}
 use Rattle.words.specs.Reads.{isAvailable, Agrees}
-use Rattle.managers.specs.Core.{managerOf, steppedOf, isAsking, Present}
-use Rattle.managers.specs.Moves.{Asks}
+use Rattle.operations.specs.Core.{isAsking, Present}
+use Rattle.operations.specs.Moves.{Asks}
+use Rattle.operations.specs.declared.Core.{Core}
+use Rattle.operations.specs.declared.Effect.{Effect}
+use Rattle.operations.specs.declared.Effect.the-variants as act
+use Rattle.managers.specs.Manager.{managerOf, steppedOf}
 use Rattle.managers.specs.Steps.{WellFormed, Advanceable}
 use Rattle.managers.specs.Steps as managers
-use Rattle.managers.specs.declared.Core.{Core}
 use Rattle.managers.specs.declared.Manager as code
-use Rattle.managers.specs.declared.Effect.{Effect}
-use Rattle.managers.specs.declared.Effect.the-variants as act
 use Rattle.model.specs.Fork.{Fork}
 use Rattle.model.specs.Step.{State, readAt}
 use Rattle.model.proofs.Laws.Code.Needs.{live-runs}

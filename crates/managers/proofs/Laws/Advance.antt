@@ -19,16 +19,17 @@ use Rattle.scripts.specs.Effect as effect
 use Rattle.scripts.specs.State as defined
 use Rattle.scripts.specs.Manager.{isEnd, nextStep}
 use Rattle.words.specs.Reads.{shownIn, Agrees}
-use Rattle.managers.specs.Frames.{frameOf, asideOf, noWaiting, asideFrom, below, Placed, Waits}
-use Rattle.managers.specs.Core.{bare, standing, stackOf, managerOf, effectOf, settledOf, comesTo, isOver, isAsking, isNothing, isDone, Tall, Present, Sits}
-use Rattle.managers.specs.Moves.{causing, endingAs, restacked, Operable, Asks, Operated, Pushed, Popped}
+use Rattle.frames.specs.Frames.{frameOf, asideOf, noWaiting, asideFrom, below, Placed, Waits}
+use Rattle.frames.specs.declared.Waiting.{Waiting}
+use Rattle.frames.proofs.Laws.Frames.{not-end}
+use Rattle.operations.specs.Core.{bare, standing, stackOf, effectOf, settledOf, comesTo, isOver, isAsking, isNothing, isDone, Tall, Present, Sits}
+use Rattle.operations.specs.Moves.{causing, endingAs, restacked, Operable, Asks, Operated, Pushed, Popped}
+use Rattle.operations.specs.declared.Core.{Core}
+use Rattle.operations.specs.declared.Effect.{Effect}
+use Rattle.operations.specs.declared.Effect.the-variants.{Nothing, End, Write, Read, Fork, Call, Pop}
+use Rattle.managers.specs.Manager.{managerOf}
 use Rattle.managers.specs.Steps.{Leads, internal, InternalSteps, waitingFrames, Advanceable, pausesOn, isPaused}
-use Rattle.managers.specs.declared.Core.{Core}
 use Rattle.managers.specs.declared.Manager.{Manager}
-use Rattle.managers.specs.declared.frames.Waiting.{Waiting}
-use Rattle.managers.specs.declared.Effect.{Effect}
-use Rattle.managers.specs.declared.Effect.the-variants.{Nothing, End, Write, Read, Fork, Call, Pop}
-use Rattle.managers.proofs.Laws.Frames.{not-end}
 use Rattle.managers.proofs.Laws.Leads.{leads-alike}
 use Rattle.managers.proofs.Laws.Turns.{below-length, below-pushed, below-popped, comes-alike, internal-comes, no-pops, push-comes, pop-comes, turn-leads}
 

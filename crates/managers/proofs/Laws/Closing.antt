@@ -22,16 +22,18 @@ use Rattle.scripts.specs.Valid.{Indexed}
 use Rattle.scripts.specs.declared.Ending.{Ending}
 use Rattle.scripts.specs.declared.Ending.the-variants.{Finished, OutOfSteps}
 use Rattle.scripts.proofs.Laws.Settle.{concluded-pop, concluded-last, concluded-out}
-use Rattle.managers.specs.Frames.{intoOf, returnsOf, frameOf, asideOf, noWaiting, below, Waits}
-use Rattle.managers.specs.Core.{bare, standing, stackOf, managerOf, effectOf, steppedOf, settledOf, comesTo, isOver, isAsking, isDone, Tall, Sits}
-use Rattle.managers.specs.Moves.{causing, restacked, Popped, stoodAs, closedAs}
+use Rattle.frames.specs.Frames.{intoOf, returnsOf, frameOf, asideOf, noWaiting, below, Waits}
+use Rattle.frames.specs.declared.Waiting.{Waiting}
+use Rattle.frames.proofs.Laws.Frames.{at-end, not-end, unfinished-there}
+use Rattle.operations.specs.Core.{bare, standing, stackOf, effectOf, settledOf, comesTo, isOver, isAsking, isDone, Tall, Sits}
+use Rattle.operations.specs.Moves.{causing, restacked, Popped, stoodAs, closedAs}
+use Rattle.operations.specs.declared.Core.{Core}
+use Rattle.operations.specs.declared.Effect.{Effect}
+use Rattle.operations.specs.declared.Effect.the-variants.{Nothing, End, Write, Read, Fork, Call, Pop}
+use Rattle.operations.proofs.Laws.Closed.{closed-over as over-closed, closed-last, closed-unfinished, closed-out}
+use Rattle.managers.specs.Manager.{managerOf, steppedOf}
 use Rattle.managers.specs.Steps.{waitingFrames, WellFormed}
-use Rattle.managers.specs.declared.Core.{Core}
 use Rattle.managers.specs.declared.Manager.{Manager}
-use Rattle.managers.specs.declared.frames.Waiting.{Waiting}
-use Rattle.managers.specs.declared.Effect.{Effect}
-use Rattle.managers.specs.declared.Effect.the-variants.{Nothing, End, Write, Read, Fork, Call, Pop}
-use Rattle.managers.proofs.Laws.Frames.{at-end, not-end, unfinished-there, closed-over as over-closed, closed-last, closed-unfinished, closed-out}
 use Rattle.managers.proofs.Laws.Turns.{below-popped, no-pops}
 use Rattle.managers.proofs.Laws.Advance.{Turning, stack-some}
 

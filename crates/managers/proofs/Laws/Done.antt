@@ -14,15 +14,16 @@ use Rattle.scripts.specs.Ending.{isRunning}
 use Rattle.scripts.specs.Effect as effect
 use Rattle.scripts.specs.Manager.{topOf, top, nextStep}
 use Rattle.words.specs.Reads.{isAvailable, shownIn}
-use Rattle.managers.specs.Frames.{frameOf, below}
-use Rattle.managers.specs.Core.{managerOf, effectOf, steppedOf, isOver, isAsking, isNothing, isDone, Present}
-use Rattle.managers.specs.Moves.{causing, Asks, closedAs}
+use Rattle.frames.specs.Frames.{frameOf, below}
+use Rattle.frames.specs.declared.Waiting.{Waiting}
+use Rattle.operations.specs.Core.{effectOf, isOver, isAsking, isNothing, isDone, Present}
+use Rattle.operations.specs.Moves.{causing, Asks, closedAs}
+use Rattle.operations.specs.declared.Core.{Core}
+use Rattle.operations.specs.declared.Effect.{Effect}
+use Rattle.operations.specs.declared.Effect.the-variants.{Nothing, End, Write, Read, Fork, Call, Pop}
+use Rattle.managers.specs.Manager.{managerOf, steppedOf}
 use Rattle.managers.specs.Steps.{Leads, WellFormed, Advanceable, Advanced, Stepped, isPaused}
-use Rattle.managers.specs.declared.Core.{Core}
 use Rattle.managers.specs.declared.Manager.{Manager}
-use Rattle.managers.specs.declared.frames.Waiting.{Waiting}
-use Rattle.managers.specs.declared.Effect.{Effect}
-use Rattle.managers.specs.declared.Effect.the-variants.{Nothing, End, Write, Read, Fork, Call, Pop}
 use Rattle.managers.proofs.Laws.Leads.{leads-one, Steps, none, some, leads-steps}
 use Rattle.managers.proofs.Laws.Advance.{Turning, stack-some, turning-level, turning-first}
 use Rattle.managers.proofs.Laws.Closing.{Lowering, left, closed-comes, closed-held, closed-asks, closed-over, asking-is}

@@ -20,14 +20,14 @@ use Rattle.scripts.specs.Manager.{isEnd, nextStep, popped, concluded}
 use Rattle.scripts.proofs.Laws.Counts.{concluded-counts, popped-counts}
 use Rattle.scripts.proofs.Laws.Settle.{popped-to, concluded-pop, concluded-last, concluded-not, running-is}
 use Rattle.words.specs.Reads.{Agrees}
-use Rattle.managers.specs.Frames.{intoOf, returnsOf, frameOf, asideOf, noWaiting, below}
-use Rattle.managers.specs.Core.{bare, standing, comesTo, settledOf, isOver, isAsking}
-use Rattle.managers.specs.Moves.{causing, endingAs, Operable, Operated, Pushed, Popped}
+use Rattle.frames.specs.Frames.{intoOf, returnsOf, frameOf, asideOf, noWaiting, below}
+use Rattle.frames.specs.declared.Waiting.{Waiting}
+use Rattle.operations.specs.Core.{bare, standing, comesTo, settledOf, isOver, isAsking}
+use Rattle.operations.specs.Moves.{causing, endingAs, Operable, Operated, Pushed, Popped}
+use Rattle.operations.specs.declared.Core.{Core}
+use Rattle.operations.specs.declared.Effect.{Effect}
+use Rattle.operations.specs.declared.Effect.the-variants.{Nothing, End, Write, Read, Fork, Call, Pop}
 use Rattle.managers.specs.Steps.{Leads}
-use Rattle.managers.specs.declared.Core.{Core}
-use Rattle.managers.specs.declared.frames.Waiting.{Waiting}
-use Rattle.managers.specs.declared.Effect.{Effect}
-use Rattle.managers.specs.declared.Effect.the-variants.{Nothing, End, Write, Read, Fork, Call, Pop}
 use Rattle.managers.proofs.Laws.Leads.{leads-step}
 
 -- the frames that wait: another put behind them, and the last one

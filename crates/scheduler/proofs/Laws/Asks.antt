@@ -5,10 +5,10 @@ use mathlib.Core.Bool.{false}
 use mathlib.Core.List.{[], _∷_}
 use types.Run.{OneOf, miss}
 use denote.Enum.Declared.{tagOf}
-use Rattle.managers.specs.Core.{isAsking}
-use Rattle.managers.specs.declared.Effect.{Effect}
-use Rattle.managers.specs.declared.Effect.the-variants.{Nothing, End, Write, Read, Fork, Call, Pop}
-use Rattle.managers.proofs.Effect as effect
+use Rattle.operations.specs.Core.{isAsking}
+use Rattle.operations.specs.declared.Effect.{Effect}
+use Rattle.operations.specs.declared.Effect.the-variants.{Nothing, End, Write, Read, Fork, Call, Pop}
+use Rattle.operations.proofs.Effect as effect
 
 -- is a READ asked for
 pub data Asking (e : Effect) : Type 0 where

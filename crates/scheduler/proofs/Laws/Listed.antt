@@ -24,10 +24,11 @@ use Rattle.scripts.specs.State.{Manager}
 use Rattle.scripts.specs.declared.Ending.the-variants.{Finished}
 use Rattle.words.specs.Limits.{fieldWords}
 use Rattle.words.specs.Fields.{fieldPlace, FieldThere, Forgotten}
-use Rattle.managers.specs.Core.{managerOf, effectOf, isAsking}
+use Rattle.operations.specs.Core.{effectOf, isAsking}
+use Rattle.operations.specs.declared.Effect.the-variants as act
+use Rattle.managers.specs.Manager.{managerOf}
 use Rattle.managers.specs.Steps.{WellFormed, Advanceable, Stepped}
 use Rattle.managers.specs.declared.Manager as code
-use Rattle.managers.specs.declared.Effect.the-variants as act
 use Rattle.model.specs.Limits.{maxSchedule}
 use Rattle.model.specs.Step.{State, stepAt}
 use Rattle.model.specs.Schedule.{initialState, finished, question14, stepRefusal, runFrom, runOf}

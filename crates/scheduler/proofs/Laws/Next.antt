@@ -20,9 +20,10 @@ use Rattle.scripts.specs.Ending.{isRunning}
 use Rattle.scripts.specs.State.{Manager}
 use Rattle.scripts.proofs.Laws.Counts.{started-counts}
 use Rattle.words.specs.Limits.{fieldWords}
-use Rattle.managers.specs.Core.{managerOf, effectOf, isAsking}
+use Rattle.operations.specs.Core.{effectOf, isAsking}
+use Rattle.operations.specs.declared.Effect.the-variants as outside
+use Rattle.managers.specs.Manager.{managerOf}
 use Rattle.managers.specs.Steps.{WellFormed, Advanced}
-use Rattle.managers.specs.declared.Effect.the-variants as outside
 use Rattle.managers.specs.declared.Manager as code
 use Rattle.model.specs.Limits.{maxManagers}
 use Rattle.model.specs.Level.{idle, hasManager}

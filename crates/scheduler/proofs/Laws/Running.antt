@@ -29,12 +29,13 @@ use Rattle.scripts.specs.Manager.{stepped}
 use Rattle.words.specs.Limits.{fieldWords}
 use Rattle.words.specs.Fields.{fieldAt}
 use Rattle.words.specs.Reads.{shownIn, Agrees}
-use Rattle.managers.specs.Core.{managerOf, steppedOf, effectOf, isAsking, isNothing, isDone, Present}
+use Rattle.operations.specs.Core.{effectOf, isAsking, isNothing, isDone, Present}
+use Rattle.operations.specs.declared.Core.{Core}
+use Rattle.operations.specs.declared.Effect.{Effect as Outside}
+use Rattle.operations.specs.declared.Effect.the-variants as outside
+use Rattle.managers.specs.Manager.{managerOf, steppedOf}
 use Rattle.managers.specs.Steps.{Leads, internal, last, WellFormed, Advanceable, isPaused, Advanced}
 use Rattle.managers.proofs.Laws.Leads.{Steps, none, some, leads-steps}
-use Rattle.managers.specs.declared.Core.{Core}
-use Rattle.managers.specs.declared.Effect.{Effect as Outside}
-use Rattle.managers.specs.declared.Effect.the-variants as outside
 use Rattle.managers.specs.declared.Manager as code
 use Rattle.model.specs.Fork.{Fork}
 use Rattle.model.specs.Step.{State, readAt}

@@ -9,10 +9,10 @@ use denote.Enum.Declared.{tagOf}
 use lib.ListN.{length}
 use Rattle.scripts.specs.Ending.{isRunning}
 use Rattle.scripts.specs.Effect as effect
-use Rattle.managers.specs.Core.{effectOf}
-use Rattle.managers.specs.declared.Effect.{Effect}
-use Rattle.managers.specs.declared.Effect.the-variants.{Nothing, End, Write, Read, Fork, Call, Pop}
-use Rattle.managers.proofs.Effect.{the-type}
+use Rattle.operations.specs.Core.{effectOf}
+use Rattle.operations.specs.declared.Effect.{Effect}
+use Rattle.operations.specs.declared.Effect.the-variants.{Nothing, End, Write, Read, Fork, Call, Pop}
+use Rattle.operations.proofs.Effect.{the-type}
 use Rattle.depth_first.specs.Representation.{Words}
 use Rattle.depth_first.proofs.Laws.Perform.{perform-nothing, write-there, perform-writes, fork-some, fork-stamps, fork-runs, perform-forks}
 use Rattle.depth_first.proofs.Laws.Run.{Looped, stepsLeft, level-small, next-there, next-fits, fork-kept, fork-dropped, run-none, last-fits, fork-starts, run-starts, run-preserves, run-able, run-performable, run-again, run-less, run-room, run-ends}
@@ -30,7 +30,7 @@ use Rattle.depth_first.proofs.forks.run_manager.Kinds as run-manager-ki
 use Rattle.depth_first.proofs.forks.+perform+run_kept+run_manager.Lts-run_manager as run-manager-lts
 use Rattle.tallies.proofs.close.Reads as close-reads
 use Rattle.tallies.proofs.has_room.Reads as has-room-reads
-use Rattle.managers.proofs.Core.ended.Reads as ended-reads
+use Rattle.operations.proofs.Core.ended.Reads as ended-reads
 use Rattle.managers.proofs.Manager.advance.Reads as advance-reads
 use Rattle.managers.proofs.Manager.start.Reads as start-reads
 use Rattle.queues.proofs.child_stamp.Reads as child-stamp-reads

@@ -3,7 +3,7 @@ use mathlib.Core.Path.{_∙_}
 use native.Mathlib.Omega.{arith}
 use lib.ListN.{length-set}
 use borrow.Author.Needs.{needs}
-use Rattle.managers.specs.Core.{managerOf}
+use Rattle.managers.specs.Manager.{managerOf}
 use Rattle.level_managers.proofs.Laws.Made.{start-asks, begun-settles, begun, settled-of, held-fits}
 use Rattle.level_managers.proofs.steps.start.Statement.{statement}
 use Rattle.level_managers.proofs.steps.start.Tie as tie

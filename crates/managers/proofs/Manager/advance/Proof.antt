@@ -14,14 +14,14 @@ use Rattle.session.specs.declared.Value.{Value}
 use Rattle.scripts.specs.Limits.{maxFrames}
 use Rattle.scripts.specs.Ending.{isRunning}
 use Rattle.scripts.specs.Manager.{nextStep}
-use Rattle.managers.specs.Frames.{frameOf}
-use Rattle.managers.specs.Core.{isOver, isDone, Tall, Present}
-use Rattle.managers.specs.Moves.{causing, Operable, Operated}
-use Rattle.managers.specs.declared.Core.{Core}
-use Rattle.managers.specs.declared.frames.Waiting.{Waiting}
-use Rattle.managers.specs.declared.Effect.{Effect}
-use Rattle.managers.specs.declared.Effect.the-variants.{Nothing, End, Write, Read, Fork, Call, Pop}
-use Rattle.managers.proofs.Effect as effect
+use Rattle.frames.specs.Frames.{frameOf}
+use Rattle.frames.specs.declared.Waiting.{Waiting}
+use Rattle.operations.specs.Core.{isOver, isDone, Tall, Present}
+use Rattle.operations.specs.Moves.{causing, Operable, Operated}
+use Rattle.operations.specs.declared.Core.{Core}
+use Rattle.operations.specs.declared.Effect.{Effect}
+use Rattle.operations.specs.declared.Effect.the-variants.{Nothing, End, Write, Read, Fork, Call, Pop}
+use Rattle.operations.proofs.Effect as effect
 use Rattle.managers.proofs.Laws.Advance.{Turning, turnsLeft, unfinished-internal, turning-start, turning-operable, turning-made, turning-less, turning-pushed, pushed-less, turning-popped, popped-less}
 use Rattle.managers.proofs.Laws.Closing.{Lowering, lowering-start, lowering-two, lowering-waits, lowering-on, lowering-less}
 use Rattle.managers.proofs.Laws.Done.{advance-done, advanced-self, self-able}

@@ -23,15 +23,16 @@ use Rattle.scripts.specs.Valid.{Startable}
 use Rattle.scripts.specs.declared.Ending.{Ending}
 use Rattle.scripts.specs.declared.Ending.the-variants.{Running, Finished}
 use Rattle.scripts.proofs.Laws.Settle.{concluded-last, concluded-not}
-use Rattle.managers.specs.Frames.{frameOf, below, Placed}
-use Rattle.managers.specs.Core.{managerOf}
-use Rattle.managers.specs.Moves.{stoodAs, closedAs}
+use Rattle.frames.specs.Frames.{frameOf, below, Placed}
+use Rattle.frames.specs.declared.Frame.{Frame}
+use Rattle.frames.specs.declared.Waiting.{Waiting}
+use Rattle.frames.proofs.Laws.Frames.{at-end, not-end}
+use Rattle.operations.specs.Moves.{stoodAs, closedAs}
+use Rattle.operations.specs.declared.Core.{Core}
+use Rattle.operations.specs.declared.Effect.the-variants.{Nothing}
+use Rattle.operations.proofs.Laws.Closed.{closed-last, closed-unfinished}
+use Rattle.managers.specs.Manager.{managerOf}
 use Rattle.managers.specs.Steps.{waitingFrames, WellFormed}
-use Rattle.managers.specs.declared.Core.{Core}
-use Rattle.managers.specs.declared.Effect.the-variants.{Nothing}
-use Rattle.managers.specs.declared.frames.Frame.{Frame}
-use Rattle.managers.specs.declared.frames.Waiting.{Waiting}
-use Rattle.managers.proofs.Laws.Frames.{at-end, not-end, closed-last, closed-unfinished}
 use Rattle.managers.proofs.Manager.start.Statement.{statement}
 use Rattle.managers.proofs.Manager.start.Tie as tie
 

@@ -1,0 +1,246 @@
+-- What an operation of the code does to a core. No meaning rests on these. Assumes nothing.
+-- Laws: each move of a core is an operation of the definitions, counted, with the pops of its step (`proofs/Laws/Makes`), and so are the
+-- operations (`proofs/Laws/Operations`).
+use Prim.Native.Nat.{ℕ, suc, _+_, _-_, _≤_, _<_}
+use mathlib.Core.Path.{_≡_}
+use mathlib.Core.Bool.{Bool, true, false, cond}
+use mathlib.Core.List.{List}
+use lib.Dec.{eqb, ltb, leb}
+use lib.ListN.{length}
+use Rattle.session.specs.Program.{Program, programOf}
+use Rattle.session.specs.declared.Value.{Value}
+use Rattle.session.specs.declared.Value.the-variants.{Nil}
+use Rattle.session.specs.declared.Step.{Step}
+use Rattle.session.specs.declared.Step.the-variants as op
+use Rattle.scripts.specs.Limits.{maxScriptSteps, maxWrites}
+use Rattle.scripts.specs.Ending.{isRunning}
+use Rattle.scripts.specs.Effect as effect
+use Rattle.scripts.specs.State as defined
+use Rattle.scripts.specs.Frame.{withRegister, atStep}
+use Rattle.scripts.specs.Manager.{withTop, withCounts, top, isEnd, nextStep, operated, counted, stepped}
+use Rattle.scripts.specs.Valid.{Leveled}
+use Rattle.scripts.specs.declared.Ending.{Ending}
+use Rattle.scripts.specs.declared.Ending.the-variants.{Finished, OutOfSteps, OutOfWrites}
+use Rattle.words.specs.Limits.{fieldWords}
+use Rattle.words.specs.Reads.{isAvailable, Agrees}
+use Rattle.frames.specs.Frames.{intoOf, returnsOf, frameOf, asideOf, waitingFor, topFrom, Becomes, Placed}
+use Rattle.frames.specs.declared.Frame.{Frame}
+use Rattle.frames.specs.declared.Waiting.{Waiting}
+use Rattle.operations.specs.Core.{standing, comesTo, isOver, isAsking, Present, Sits}
+use Rattle.operations.specs.declared.Core.{Core}
+use Rattle.operations.specs.declared.Effect.{Effect}
+use Rattle.operations.specs.declared.Effect.the-variants.{Nothing, End, Read, Pop}
+
+-- a core that makes a script step of its top
+pub record Able (c : Core) : Type 0 where
+  pub few : c .steps < maxScriptSteps
+  pub unfinished : c .top .next < c .top .count
+  pub internal : c .effect ≡ Nothing
+  pub runs : isRunning (c .ending) ≡ true
+
+-- the top past its step
+abbrev pub passed : defined.Manager → defined.Frame
+passed m = atStep (top m) (top m .next + 1)
+
+-- a WRITE of an object of the manager's level, by its top
+abbrev pub ownWritten : defined.Manager → ℕ → Value → defined.Stepped
+ownWritten m k v =
+    let n = withTop m (passed m) in
+    let made : defined.Stepped = record {
+      manager = withCounts n (n .steps) (n .writes + 1) (n .forks) (n .stamp) (n .ending);
+      effect = effect.Write (passed m .object) k v;
+    } in
+    let spent : defined.Stepped = record {
+      manager = withCounts n (n .steps) (n .writes) (n .forks) (n .stamp) OutOfWrites;
+      effect = effect.Nothing;
+    } in
+    cond (ltb (m .writes) maxWrites) made spent
+
+-- an operation counted, with the pops of its step
+abbrev pub counting : Program → defined.Stepped → defined.Stepped
+counting p d = record { manager = counted p (d .manager); effect = d .effect }
+
+-- the core with another top, one script step on
+abbrev pub nextTop : Core → Frame → Core
+nextTop c f =
+    record {
+      level = c .level;
+      first = c .first;
+      steps = c .steps + 1;
+      writes = c .writes;
+      forks = c .forks;
+      height = c .height;
+      ending = c .ending;
+      reply = c .reply;
+      top = f;
+      effect = c .effect;
+    }
+
+-- the top of a core past its step
+abbrev pub pastOf : Core → defined.Frame
+pastOf c = atStep (frameOf (c .top)) (c .top .next + 1)
+
+-- a script step that leaves another top of the same method, and nothing else
+pub record Moves (c r : Core) (f : defined.Frame) : Type 0 where
+  pub core-is : r ≡ nextTop c (r .top)
+  pub top-is : Becomes (c .top) (r .top) f
+  pub near : r .top .next ≤ r .top .count
+
+-- the code made an operation, as one script step. Of a session of which P holds, what the step concerns is there
+pub record Makes (P : List ℕ → Type 0) (c r : Core) (d : defined.Manager → defined.Stepped) : Type 0 where
+  pub is : (p : Program) (gs : List defined.Frame) → suc (length gs) ≡ c .height → comesTo p r gs ≡ counting p (d (standing c gs))
+  pub level-is : r .level ≡ c .level
+  pub first-is : r .first ≡ c .first
+  pub steps-are : r .steps ≡ c .steps + 1
+  pub tall : isOver (r .effect) ≡ false → r .height ≡ c .height
+  pub lower : r .height ≤ c .height
+  pub flat : (r .height ≡ 0 → ⊥) → r .height ≡ c .height
+  pub asks : isAsking (r .effect) ≡ false
+  pub sits : (s : List ℕ) → Sits s c → Sits s r
+  pub present : (s : List ℕ) → P s → Present s (r .effect)
+
+-- the core with another effect
+abbrev pub causing : Core → Effect → Core
+causing c e =
+    record {
+      level = c .level;
+      first = c .first;
+      steps = c .steps;
+      writes = c .writes;
+      forks = c .forks;
+      height = c .height;
+      ending = c .ending;
+      reply = c .reply;
+      top = c .top;
+      effect = e;
+    }
+
+-- a core that runs, with what its next step may need: an accepted session, its level table, words for its fields and for what was read
+pub record Operable (s masks current cache : List ℕ) (c : Core) : Type 0 where
+  pub leveled : Leveled s masks
+  pub fields-there : fieldWords ≤ length current
+  pub cache-there : fieldWords ≤ length cache
+  pub sits : Sits s c
+  pub internal : c .effect ≡ Nothing
+  pub few : c .steps < maxScriptSteps
+
+-- field k of object o is not at hand, and the next step of a core is a READ of it
+pub record Asks (s cache : List ℕ) (all : Bool) (c : Core) (o k : ℕ) : Type 0 where
+  pub register : ℕ
+  pub step : nextStep (programOf s) (frameOf (c .top)) ≡ op.Read register k
+  pub object : c .top .object ≡ o
+  pub shut : isAvailable s cache all (c .level) o k ≡ false
+
+-- the core with another number of frames, ending and reply
+abbrev pub stoodAs : Core → ℕ → Ending → Value → Core
+stoodAs c h e v =
+    record {
+      level = c .level;
+      first = c .first;
+      steps = c .steps;
+      writes = c .writes;
+      forks = c .forks;
+      height = h;
+      ending = e;
+      reply = v;
+      top = c .top;
+      effect = c .effect;
+    }
+
+-- a step has ended it
+abbrev pub endedAs : Core → ℕ → Ending → Value → Core
+endedAs c h e v = causing (stoodAs c h e v) End
+
+-- the first frame has popped with a reply
+abbrev pub finishedAs : Core → Value → Core
+finishedAs c v = endedAs c 0 Finished v
+
+-- the top, at its script's end, is to pop
+abbrev pub endingAs : Core → Core
+endingAs c = cond (eqb (c .height) 1) (finishedAs c Nil) (causing c (Pop Nil))
+
+-- the next script step of a core is made
+pub record StepMade (s current cache : List ℕ) (all : Bool) (c r : Core) : Type 0 where
+  pub is : (read : ℕ → ℕ → Value) → Agrees s current cache all (c .level) read → (gs : List defined.Frame) → suc (length gs) ≡ c .height → comesTo (programOf s) r gs ≡ stepped (programOf s) read (standing c gs)
+  pub steps-are : r .steps ≡ c .steps + 1
+
+-- or the step is a READ that is asked for, and is not made
+abbrev pub Asked : List ℕ → List ℕ → Bool → Core → Core → Type 0
+Asked s cache all c r = (o : ℕ) × ((k : ℕ) × ((r ≡ causing c (Read o k)) × Asks s cache all c o k))
+
+-- what the next step of a core makes of it
+pub record Operated (s current cache : List ℕ) (all : Bool) (c r : Core) : Type 0 where
+  pub steps : isEnd (nextStep (programOf s) (frameOf (c .top))) ≡ false → isAsking (r .effect) ≡ false → StepMade s current cache all c r
+  -- at its script's end the top is to pop: no script step is made
+  pub ends : isEnd (nextStep (programOf s) (frameOf (c .top))) ≡ true → r ≡ endingAs c
+  pub asks : isAsking (r .effect) ≡ true → Asked s cache all c r
+  pub level-is : r .level ≡ c .level
+  pub first-is : r .first ≡ c .first
+  pub tall : isOver (r .effect) ≡ false → r .height ≡ c .height
+  pub lower : r .height ≤ c .height
+  pub flat : (r .height ≡ 0 → ⊥) → r .height ≡ c .height
+  pub sits : Sits s r
+  pub present : Present s (r .effect)
+
+-- an operation of document 01's is made, as one script step
+pub record OperationMade (s : List ℕ) (i : Step) (c r : Core) : Type 0 where
+  pub is : (read : ℕ → ℕ → Value) (gs : List defined.Frame) → suc (length gs) ≡ c .height → comesTo (programOf s) r gs ≡ counting (programOf s) (operated (programOf s) read (standing c gs) (passed (standing c gs)) i)
+  pub level-is : r .level ≡ c .level
+  pub first-is : r .first ≡ c .first
+  pub steps-are : r .steps ≡ c .steps + 1
+  pub tall : isOver (r .effect) ≡ false → r .height ≡ c .height
+  pub lower : r .height ≤ c .height
+  pub flat : (r .height ≡ 0 → ⊥) → r .height ≡ c .height
+  pub asks : isAsking (r .effect) ≡ false
+  pub sits : Sits s r
+  pub present : Present s (r .effect)
+
+-- so is a READ, with what the words at hand say; or it is asked for
+pub record ReadMade (s current cache : List ℕ) (all : Bool) (a b : ℕ) (c r : Core) : Type 0 where
+  pub is : isAsking (r .effect) ≡ false → (read : ℕ → ℕ → Value) → Agrees s current cache all (c .level) read → (gs : List defined.Frame) → suc (length gs) ≡ c .height → comesTo (programOf s) r gs ≡ counting (programOf s) (operated (programOf s) read (standing c gs) (passed (standing c gs)) (op.Read a b))
+  pub level-is : r .level ≡ c .level
+  pub first-is : r .first ≡ c .first
+  pub steps-are : isAsking (r .effect) ≡ false → r .steps ≡ c .steps + 1
+  pub asks : isAsking (r .effect) ≡ true → (r ≡ causing c (Read (c .top .object) b)) × (isAvailable s cache all (c .level) (c .top .object) b ≡ false)
+  pub tall : r .height ≡ c .height
+  pub over : isOver (r .effect) ≡ false
+  pub sits : Sits s r
+  pub present : Present s (r .effect)
+
+-- the core with so many frames and another top, and nothing left to do
+abbrev pub restacked : Core → ℕ → Frame → Core
+restacked c h f =
+    record {
+      level = c .level;
+      first = c .first;
+      steps = c .steps;
+      writes = c .writes;
+      forks = c .forks;
+      height = h;
+      ending = c .ending;
+      reply = c .reply;
+      top = f;
+      effect = Nothing;
+    }
+
+-- a frame was made above the top
+pub record Pushed (s : List ℕ) (c : Core) (object name answer : ℕ) (parameter : Value) (r : Core) : Type 0 where
+  pub core-is : r ≡ restacked c (c .height + 1) (r .top)
+  pub top-is : r .top ≡ topFrom (waitingFor object name answer parameter) (r .top .start) (r .top .count)
+  pub top-placed : Placed s (r .top)
+
+-- the top has popped with a reply to the frame that waited below it
+pub record Popped (s : List ℕ) (c : Core) (below : Waiting) (v : Value) (r : Core) : Type 0 where
+  pub core-is : r ≡ restacked c (c .height - 1) (r .top)
+  pub top-is : frameOf (r .top) ≡ withRegister (asideOf below) (intoOf (c .top .answer)) (cond (returnsOf (c .top .answer)) v Nil)
+  pub answer-is : r .top .answer ≡ below .answer
+  pub top-placed : Placed s (r .top)
+
+-- how it stands once no frame above the first is at its script's end: a first frame at its end pops, replying NIL; "the 256th step left frames"
+abbrev pub closedAs : Core → Core
+closedAs c =
+    cond (isRunning (c .ending))
+    (cond (leb (c .top .count) (c .top .next))
+    (stoodAs c 0 Finished Nil)
+    (cond (ltb (c .steps) maxScriptSteps) c (stoodAs c (c .height) OutOfSteps (c .reply))))
+    c
