@@ -1,3 +1,4 @@
 -- What the contracts of this crate cite.
 pub mod Representation
 pub mod Steps
+pub mod Ends

@@ -1,3 +1,2 @@
 -- What the contracts of the scheduler's own functions cite.
 pub mod Runs
-pub mod Running

@@ -1,8 +1,6 @@
 // The timetabled run and the plain run.
-mod plain;
-mod timetable;
-
 use entries::Answer;
+use level_managers::RunEnd;
 use queues::QUEUE_WORDS;
 use records::limits::HISTORY_WORDS;
 use session::contents;
@@ -17,14 +15,8 @@ ghost use Rattle.model.specs.Entries.{timetabled, plain as plainly, Answers};
 ghost use Rattle.model.specs.Schedule.{initialState};
 ghost use Rattle.records.specs.Writing.{Ready};
 ghost use Rattle.level_managers.specs.Steps.{Tables};
-ghost use Rattle.scheduler.specs.Runs.{listOf, Quiescent, Fresh, InitialWords, Ends, SameRest, Shows, RunReady, ListDone};
-
-// How the scheduler steps of a run end.
-pub enum RunEnd {
-    Finished,
-    // By a question, 12 to 15, and its place.
-    Refused { number: u32, place: u32 },
-}
+ghost use Rattle.level_managers.specs.Ends.{Quiescent, Ends, SameRest};
+ghost use Rattle.scheduler.specs.Runs.{listOf, Fresh, InitialWords, Shows, RunReady, ListDone};
 
 // Fills the words of a run with the session as read in: the method index, the first fields, and the
 // root's fork, which waits. Returns the root's level.
@@ -95,7 +87,7 @@ fn make_steps(
     ensures { λ r. ⌜ Ends (now (session .entry)) (listOf (now (session .entry)) (now (timetable .entry)) listed) (record { current = now (current .exit); ended = now (ended .exit); tallies = now (tallies .exit); queue = now (queue .exit); work = now (work .exit) }) r × SameRest (now (work .entry)) (now (work .exit)) ⌝ }
 {
     if listed {
-        return timetable::run(
+        return timetables::run(
             session,
             timetable,
             masks,
@@ -107,7 +99,7 @@ fn make_steps(
             work,
         );
     }
-    plain::run(session, masks, index, current, ended, tallies, queue, work);
+    plain_runs::run(session, masks, index, current, ended, tallies, queue, work);
     RunEnd::Finished
 }
 

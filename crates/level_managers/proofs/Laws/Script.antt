@@ -4,11 +4,11 @@ use Prim.Native.Nat.{ℕ, _≤_, _<_}
 use mathlib.Core.Path.{_≡_, refl, sym, _∙_}
 use mathlib.Core.Bool.{true, false, or-true}
 use mathlib.Core.List.{List}
-use native.Mathlib.Decide.{ℕ-discrete}
+use native.Mathlib.Decide.{ℕ-discrete, decLt}
 use native.Mathlib.Omega.{arith}
 use borrow.Author.Tests.{eqb-true}
 use lib.Dec.{eqb}
-use lib.ListN.{length}
+use lib.ListN.{length, getD, replicate, length-replicate, getD-replicate, List·getD-eq-default}
 use Rattle.lattice.proofs.Laws.Range.{not-both}
 use Rattle.session.specs.Limits.{fields}
 use Rattle.session.specs.Parts.{objectCount}
@@ -24,7 +24,7 @@ use Rattle.scripts.specs.State.{Manager}
 use Rattle.scripts.specs.Manager.{stepped}
 use Rattle.scripts.specs.Valid.{Valid}
 use Rattle.words.specs.Limits.{fieldWords}
-use Rattle.words.specs.Fields.{knownAt, FieldThere, Forgotten}
+use Rattle.words.specs.Fields.{fieldPlace, knownAt, FieldThere, Forgotten}
 use Rattle.words.specs.Reads.{isAvailable, Agrees}
 use Rattle.operations.specs.Core.{isAsking, Present}
 use Rattle.operations.specs.Moves.{Asks}
@@ -46,6 +46,17 @@ use Rattle.level_managers.proofs.Laws.Reads.{read-here}
 -- nothing is kept of what managers have read
 abbrev pub Blank : List ℕ → Type 0
 Blank cache = (o k : ℕ) → k < fields → knownAt cache o k ≡ false
+
+-- words that hold 0 say 0 at every place
+zeros : (n i : ℕ) → getD {A = ℕ} (replicate n 0) i 0 ≡ 0
+zeros n i = elim (decLt i n) [
+  | yes h ↦ getD-replicate n i 0 0 h
+  | no h ↦ List·getD-eq-default (replicate n 0) 0 (rw (length-replicate {A = ℕ} n 0) (omega (arith, h)))
+]
+
+-- so nothing is kept in them of what was read
+pub blank-zeros : (n : ℕ) → Blank (replicate n 0)
+blank-zeros n o k h = rw (zeros n (fieldPlace o k)) refl
 
 -- a manager of the code's, if it runs, is as start and its steps leave it; and nothing is kept of what managers have read
 pub record Fresh (s cache : List ℕ) (m : code.Manager) : Type 0 where

@@ -46,6 +46,10 @@ represents-held s w ms ms' st e t =
       level = λ k hk. rw (e k) (t .level k hk);
     }
 
+pub invariant-held : (s : List ℕ) (w : Words) (ms ms' : ℕ → Manager) (st : State) → ((k : ℕ) → ms' k ≡ ms k) → RunInvariant s w ms st → RunInvariant s w ms' st
+invariant-held s w ms ms' st e y =
+    record { represents = represents-held s w ms ms' st e (y .represents); reached = y .reached }
+
 -- a state that the words say is one that a run reaches
 pub invariant-live : (s : List ℕ) → verdictOf s ≡ Accepted → (w : Words) (ms : ℕ → Manager) (st : State) → RunInvariant s w ms st → ReachedState s st
 invariant-live s a w ms st y = leads-live s a (y .reached .0) st (y .reached .1)

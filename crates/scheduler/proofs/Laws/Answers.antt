@@ -32,9 +32,11 @@ use Rattle.entries.specs.declared.Answer.{Answer}
 use Rattle.entries.specs.Opening.{Refused, LentRefusal}
 use Rattle.versions.proofs.Laws.Cleared.{cleared-rest}
 use Rattle.level_managers.specs.Representation.{Words, Represents}
-use Rattle.scheduler.specs.Runs.{SameRest, Ends, Done, Shows, RunReady, ListDone}
-use Rattle.scheduler.specs.declared.RunEnd as code
-use Rattle.scheduler.specs.declared.RunEnd.the-variants as runEnd
+use Rattle.level_managers.specs.Ends.{SameRest, Ends}
+use Rattle.plain_runs.specs.Levels.{Done}
+use Rattle.scheduler.specs.Runs.{Shows, RunReady, ListDone}
+use Rattle.level_managers.specs.declared.RunEnd as code
+use Rattle.level_managers.specs.declared.RunEnd.the-variants as runEnd
 
 module _ (s : List ℕ) (a : verdictOf s ≡ Accepted) where
   root-level : levelOf s (rootObject s) < levelCount s

@@ -32,7 +32,8 @@ use Rattle.versions.specs.Log.{logStart}
 use Rattle.versions.proofs.Laws.Log.{log-none}
 use Rattle.tallies.specs.Places.{nextPlace, waitingPlace, versionsPlace, busyPlace, startTallies}
 use Rattle.level_managers.specs.Representation.{Words, LevelRepresents, Roomy, Represents}
-use Rattle.scheduler.specs.Runs.{Quiescent, Fresh, InitialWords}
+use Rattle.level_managers.specs.Ends.{Quiescent}
+use Rattle.scheduler.specs.Runs.{Fresh, InitialWords}
 use Rattle.tallies.proofs.Laws.First.{first-ended, first-next, first-waiting, first-versions, first-busy}
 use Rattle.level_managers.proofs.Laws.Representation.{Limited}
 use Rattle.level_managers.proofs.Laws.Arrive.{represents-arrive}

@@ -1,0 +1,6 @@
+-- Laws of the plain run: what the proofs of this crate cite.
+pub mod Level
+pub mod Unsettled
+pub mod Running
+pub mod Next
+pub mod Plain

@@ -1,0 +1,2 @@
+-- Laws of the run by a timetable: what the proofs of this crate cite.
+pub mod Listed
