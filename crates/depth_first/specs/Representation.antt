@@ -12,7 +12,7 @@ use Rattle.session.specs.Limits.{maxLevels, names, fields}
 use Rattle.session.specs.Parts.{levelCount, objectCount, masksOf}
 use Rattle.session.specs.Questions.{verdictOf}
 use Rattle.session.specs.Program.{programOf}
-use Rattle.session.specs.Reading.{indexOf}
+use Rattle.contents.specs.Reading.{indexOf}
 use Rattle.session.specs.declared.Value.{Value}
 use Rattle.session.specs.declared.Verdict.the-variants.{Accepted}
 use Rattle.scripts.specs.Limits.{maxForks}

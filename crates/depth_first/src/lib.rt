@@ -4,7 +4,6 @@ mod forks;
 use entries::Answer;
 use forks::Fork;
 use records::limits::HISTORY_WORDS;
-use session::contents;
 use session::limits::MAX_LEVELS;
 use session::limits::MAX_METHODS;
 use words::fields;

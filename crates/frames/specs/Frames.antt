@@ -9,7 +9,7 @@ use lib.ListN.{length, getD}
 use Rattle.session.specs.Limits.{names, registers}
 use Rattle.session.specs.Parts.{objectCount}
 use Rattle.session.specs.Meaning.{methodOf}
-use Rattle.session.specs.Reading.{MethodAt}
+use Rattle.contents.specs.Reading.{MethodAt}
 use Rattle.session.specs.declared.Value.{Value}
 use Rattle.session.specs.declared.Value.the-variants.{Nil}
 use Rattle.scripts.specs.State as defined

@@ -3,7 +3,6 @@ pub mod values;
 
 use session::Step;
 use session::Value;
-use session::contents;
 use session::limits::REGISTERS;
 ghost use Prim.Native.Nat.{_+_, _<_};
 ghost use mathlib.Core.Path.{_≡_};

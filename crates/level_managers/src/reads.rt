@@ -1,7 +1,6 @@
 // What a manager reads.
 use records::histories;
 use session::Value;
-use session::contents;
 use tallies::VERSIONS;
 use words::fields;
 ghost use Prim.Native.Nat.{ℕ, _<_};

@@ -1,7 +1,8 @@
 -- The core of the code's manager, as the definitions have it. No meaning rests on these. Assumes nothing.
--- In the loop of `managers` `advance` a core stands above the frames that wait. Its effect may leave a frame to make or to pop, and pops of frames at
--- their script's end are made late. So the definitions' manager is not the one that stands there but what it comes to (`comesTo`). A frame
--- made, a pop, and a script's end that is met leave that as it was; an operation makes `stepped` of it (`managers` `proofs/Laws/Turns`).
+-- In the loop of `Manager::advance` a core stands above the frames that wait. Its effect may leave a frame to make or to pop, and pops of
+-- frames at their script's end are made late. So the definitions' manager is not the one that stands there but what it comes to
+-- (`comesTo`). A frame made, a pop, and a script's end that is met leave that as it was; an operation makes `stepped` of it (`managers`
+-- `proofs/Laws/Turns`).
 use Prim.Native.Nat.{ℕ, zero, suc, _+_, _≤_, _<_}
 use mathlib.Core.Path.{_≡_}
 use mathlib.Core.Bool.{Bool, true, false}

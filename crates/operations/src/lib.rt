@@ -1,4 +1,5 @@
-// Operations: what a script step makes of a message manager but for the frames that wait below its top, by value.
+// Operations: what a script step makes of a message manager but for the frames that wait below its top,
+// by value.
 mod ends;
 mod moves;
 mod operations;

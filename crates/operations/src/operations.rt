@@ -5,7 +5,6 @@ use filter::Fate;
 use frames::values;
 use session::Step;
 use session::Value;
-use session::contents;
 use words::fields;
 ghost use Prim.Native.Nat.{_<_};
 ghost use mathlib.Core.Path.{_≡_};

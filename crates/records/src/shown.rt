@@ -3,7 +3,6 @@
 use crate::bytes;
 use crate::places;
 use session::Value;
-use session::contents;
 use session::limits::RECORD_BYTES;
 use words::values;
 ghost use mathlib.Core.Path.{_≡_};

@@ -8,7 +8,7 @@ use lib.ListN.{length}
 use Rattle.session.specs.Limits.{maxMethods}
 use Rattle.session.specs.Meaning.{levelOf, rootObject, rootOf}
 use Rattle.session.specs.Program.{programOf}
-use Rattle.session.specs.Reading.{indexOf}
+use Rattle.contents.specs.Reading.{indexOf}
 use Rattle.scripts.specs.Valid.{Leveled}
 use Rattle.model.specs.Limits.{workNumbers, resultBytes}
 use Rattle.model.specs.Schedule.{initialState, runOf, plainOrder}

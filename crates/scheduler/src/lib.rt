@@ -3,7 +3,6 @@ use entries::Answer;
 use level_managers::RunEnd;
 use queues::QUEUE_WORDS;
 use records::limits::HISTORY_WORDS;
-use session::contents;
 use session::limits::MAX_LEVELS;
 use session::limits::MAX_METHODS;
 use tallies::WAITING;

@@ -9,7 +9,7 @@ use lib.ListN.{length}
 use Rattle.session.specs.Limits.{maxMethod, names}
 use Rattle.session.specs.Parts.{levelCount, objectCount, masksOf}
 use Rattle.session.specs.Questions.{verdictOf}
-use Rattle.session.specs.Reading.{indexOf}
+use Rattle.contents.specs.Reading.{indexOf}
 use Rattle.session.specs.declared.Message.{Message}
 use Rattle.session.specs.declared.Step.{Step}
 use Rattle.session.specs.declared.Step.the-variants.{End, Set, Add, Jump, Read, Write, Send, Quit}

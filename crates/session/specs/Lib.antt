@@ -8,6 +8,6 @@ pub mod Questions
 pub mod Fewer
 pub mod Meaning
 pub mod Emptied
-pub mod Reading
+pub mod Checking
 pub mod SessionW
 pub mod Program

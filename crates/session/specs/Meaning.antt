@@ -1,8 +1,8 @@
 -- What an accepted session says. Assumes nothing.
 -- Laws (`proofs/Laws/Accepted`): the levels of an accepted session are a join semilattice (`levels-join`); levels, objects, names,
 -- registers, fields, jump and send targets are within their bounds, and a method has at most 16 steps (`level-present`, `root-present`,
--- `root-named`, `step-fits`, `method-short`). `proofs/Laws/Contents` says at which records objects, the root message and the steps of a
--- method stand.
+-- `root-named`, `step-fits`, `method-short`). `proofs/Laws/Contents` says at which records objects and the root message stand, `contents`
+-- `Laws/Methods` at which the steps of a method do.
 use Prim.Native.Nat.{ℕ}
 use mathlib.Core.List.{List, [], map}
 use mathlib.Core.Bool.{_&&_}

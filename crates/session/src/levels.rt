@@ -16,7 +16,7 @@ ghost use Rattle.lattice.specs.Range.{all};
 ghost use Rattle.session.specs.Lists.{tab};
 ghost use Rattle.session.specs.Record.{recordAt, recordCount, numberOf, maskOf, zeroAt, from};
 ghost use Rattle.session.specs.Questions.{kindsRise, question3};
-ghost use Rattle.session.specs.Reading.{Counted};
+ghost use Rattle.session.specs.Checking.{Counted};
 
 // Whether `count` records from `first` on are numbered 0, 1, 2 .. in order.
 fn is_numbered(session: &[u8], first: usize, count: usize) -> bool

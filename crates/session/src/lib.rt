@@ -1,14 +1,13 @@
-// Sessions: the 16-byte records of document 01, the questions that Check uses, and what an accepted session says.
-pub mod contents;
-mod kinds;
+// Sessions: the 16-byte records of document 01, and the questions that Check uses.
+pub mod kinds;
 mod levels;
 pub mod limits;
 mod masks;
 mod methods;
 mod objects;
-mod places;
+pub mod places;
 mod reader;
-mod record;
+pub mod record;
 mod root;
 
 use crate::limits::MAX_LEVELS;
@@ -22,7 +21,7 @@ ghost use Prim.Native.Nat.{_≤_};
 ghost use Rattle.session.specs.Limits.{maxLevels};
 ghost use Rattle.session.specs.Parts.{levelCount, masksOf};
 ghost use Rattle.session.specs.Questions.{question1, question2, question3, asked, firstNo, verdictOf, numberOfVerdict};
-ghost use Rattle.session.specs.Reading.{Counted, Checks};
+ghost use Rattle.session.specs.Checking.{Counted, Checks};
 
 // A field, a register, a parameter or a reply: NIL or a number.
 pub enum Value {
@@ -49,12 +48,6 @@ pub enum Step {
     Write { a: u8, b: u8 },
     Send { a: u8, b: u8, c: u8 },
     Quit { a: u8 },
-}
-
-// Where the steps of a method stand: the record of the first, and how many there are.
-pub struct Method {
-    pub start: usize,
-    pub count: usize,
 }
 
 // How many levels, objects and script steps a session has. Its records stand in that order, the

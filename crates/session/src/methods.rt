@@ -17,7 +17,7 @@ ghost use Rattle.session.specs.Limits.{registers, names, maxSteps, maxMe
 ghost use Rattle.session.specs.Record.{recordAt, recordCount, zeroAt, between, from};
 ghost use Rattle.session.specs.Parts.{keyOf};
 ghost use Rattle.session.specs.Questions.{operandsFit, unusedBytes, stepValid, scriptsValid};
-ghost use Rattle.session.specs.Reading.{methodEnd, recordsFrom, isNamed, isFit, OneMethod};
+ghost use Rattle.session.specs.Checking.{methodEnd, recordsFrom, isNamed, isFit, OneMethod};
 
 // What bounds an operand that is a register.
 const REGISTER_LIMIT: usize = REGISTERS as usize;

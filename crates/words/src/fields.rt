@@ -4,7 +4,6 @@ use crate::values::NUMBER_AT;
 use crate::values::UNREAD;
 use crate::values::VALUE_WORDS;
 use session::Value;
-use session::contents;
 use session::limits::FIELDS;
 use session::limits::MAX_OBJECTS;
 ghost use mathlib.Core.Path.{_≡_};

@@ -3,7 +3,7 @@ use Prim.Native.Nat.{_+_}
 use mathlib.Core.Path.{refl}
 use lib.ListN.{replicate}
 use Rattle.session.specs.Limits.{maxMethods}
-use Rattle.session.proofs.Laws.Contents.{index-made}
+use Rattle.contents.proofs.Laws.Methods.{index-made}
 use Rattle.words.specs.Limits.{fieldWords}
 use Rattle.records.specs.Limits.{historyWords}
 use Rattle.depth_first.proofs.Laws.Start.{long, kept-start}

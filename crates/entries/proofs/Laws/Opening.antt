@@ -11,7 +11,7 @@ use Rattle.session.specs.Parts.{levelCount}
 use Rattle.session.specs.Meaning.{rootOf}
 use Rattle.session.specs.Program.{programOf}
 use Rattle.session.specs.Questions.{verdictOf}
-use Rattle.session.specs.Reading.{tableMade}
+use Rattle.session.specs.Checking.{tableMade}
 use Rattle.session.specs.declared.Verdict.the-variants.{Accepted}
 use Rattle.session.proofs.Laws.Checked.{accepted-table, accepted-count}
 use Rattle.scripts.specs.Valid.{Leveled}

@@ -10,11 +10,12 @@ use Rattle.session.specs.Parts.{levelCount, objectCount}
 use Rattle.session.specs.Meaning.{levelOf, fieldOf, rootObject, rootOf}
 use Rattle.session.specs.Questions.{verdictOf}
 use Rattle.session.specs.Program.{programOf}
-use Rattle.session.specs.Reading.{indexOf}
+use Rattle.contents.specs.Reading.{indexOf}
 use Rattle.session.specs.declared.Message.{Message}
 use Rattle.session.specs.declared.Verdict.the-variants.{Accepted}
 use Rattle.session.proofs.Laws.Accepted.{level-present, root-present}
-use Rattle.session.proofs.Laws.Contents.{level-limit, index-made}
+use Rattle.session.proofs.Laws.Contents.{level-limit}
+use Rattle.contents.proofs.Laws.Methods.{index-made}
 use Rattle.scripts.specs.State.{Manager}
 use Rattle.model.specs.Lists.{modify}
 use Rattle.model.specs.Level.{idle, newLevel, arrived, newest}

@@ -1,5 +1,5 @@
 -- What acceptance says of what a session says: every number read is within its bounds. Assumes nothing.
-use Prim.Native.Nat.{ℕ, _+_, _≤_, _<_}
+use Prim.Native.Nat.{ℕ, _≤_, _<_}
 use mathlib.Core.Path.{_≡_, sym, _∙_, ap}
 use mathlib.Core.Bool.{true, _&&_}
 use mathlib.Core.List.{List, []}
@@ -7,23 +7,22 @@ use native.Mathlib.Decide.{decLt}
 use native.Mathlib.Omega.{arith}
 use borrow.Author.Tests.{leb-true, ltb-true, eqb-true}
 use lib.Dec.{eqb, leb}
-use lib.ListN.{length, getD, List·getD-map, List·getD-eq-default}
+use lib.ListN.{length, getD, List·getD-map}
 use Rattle.lattice.specs.Join.{JoinSemilattice}
 use Rattle.lattice.specs.Table.{dominates}
 use Rattle.lattice.proofs.Laws.Range.{and-left, and-right}
 use Rattle.lattice.proofs.Laws.Join.{semilattice}
 use Rattle.lattice.proofs.Laws.Table.{is-order}
 use Rattle.session.specs.Limits.{maxMethod, names}
-use Rattle.session.specs.Record.{recordAt, recordCount, objectOf, nameOf, levelByte, stepOf, zeroAt}
+use Rattle.session.specs.Record.{objectOf, nameOf, levelByte, stepOf, zeroAt}
 use Rattle.session.specs.Parts.{objectRecords, stepRecords, levelCount, objectCount, masksOf, key, keyOf, ofMethod, methodRecords}
 use Rattle.session.specs.Questions.{objectValid, question6, operandsFit, unusedBytes, stepValid, scriptValid, rootValid, verdictOf}
 use Rattle.session.specs.Meaning.{levelOf, methodOf, stepAt, rootObject, rootName}
-use Rattle.session.specs.Reading.{MethodAt}
 use Rattle.session.specs.declared.Step.the-variants.{End}
 use Rattle.session.specs.declared.Verdict.the-variants.{Accepted}
 use Rattle.session.proofs.Laws.Lists.{every-each, every-select, select-passes}
 use Rattle.session.proofs.Laws.Verdict.{accepted}
-use Rattle.session.proofs.Laws.Contents.{counts, masks-length, start-last, method-length, method-step, method-within}
+use Rattle.session.proofs.Laws.Contents.{masks-length, method-length}
 use Rattle.session.proofs.Laws.Emptied.{steps-valid, method-is, method-none}
 
 module _ (s : List ℕ) (a : verdictOf s ≡ Accepted) where
@@ -69,7 +68,7 @@ module _ (s : List ℕ) (a : verdictOf s ≡ Accepted) where
       ap (λ n. leb (length (ofMethod n (stepRecords s))) maxMethod && stepValid (objectCount s) (length (ofMethod n (stepRecords s))) (getD (methodRecords s k) j [])) (sym e) ∙ v
 
   -- a method with steps has a name of one byte
-  method-named : (o m : ℕ) → 0 < length (methodOf s o m) → m < 256
+  pub method-named : (o m : ℕ) → 0 < length (methodOf s o m) → m < 256
   method-named o m h = elim (decLt m 256) [
     | yes l ↦ l
     | no g ↦ let z : length (methodOf s o m) ≡ 0 = ap length (method-none s (accepted s a) o m (omega arith)) in absurd (omega arith)
@@ -112,25 +111,3 @@ module _ (s : List ℕ) (a : verdictOf s ≡ Accepted) where
       let name : nameOf rec < names = ltb-true (nameOf rec) names (search (and-left, and-right, v)) in
       let e : keyOf rec ≡ k = step-of-method k 0 (rw n at h) .1 in
       (omega arith, omega arith)
-
-  -- where the steps of a method stand: within the session, at most 16, each so far behind the first as its number says
-  module _ (o m start count : ℕ) (x : MethodAt s o m start count) where
-    pub method-ends : start + count < recordCount s
-    method-ends = elim (decLt 0 count) [
-      | yes h ↦
-          let n = method-length s a o m (method-named o m (omega (arith, x .count-is))) in
-          omega (arith, n, x .start-is, x .count-is, method-within s a o m)
-      | no g ↦ omega (arith, x .start-is, start-last s a (key o m), counts s a)
-    ]
-
-    pub method-few : count ≤ maxMethod
-    method-few = omega (arith, x .count-is, method-short o m)
-
-    pub step-there : (j : ℕ) → j < count → stepOf (recordAt s (start + j)) ≡ stepAt s o m j
-    step-there j h =
-        let (_, named) = method-owned o m (omega (arith, x .count-is)) in
-        let n = method-length s a o m (omega arith) in
-        ap (λ r. stepOf (recordAt s (r + j))) (x .start-is) ∙ method-step s a o m j named (omega (arith, x .count-is))
-
-    pub step-over : (j : ℕ) → count ≤ j → End ≡ stepAt s o m j
-    step-over j h = sym (List·getD-eq-default (methodOf s o m) End (omega (arith, x .count-is)))

@@ -12,7 +12,7 @@ use Rattle.session.specs.Lists.{tab}
 use Rattle.session.specs.Record.{recordAt, maskOf}
 use Rattle.session.specs.Parts.{levelRecords, levelCount, masksOf}
 use Rattle.session.specs.Questions.{kindsRise, question1, question2, question3, asked, firstNo, verdictOf}
-use Rattle.session.specs.Reading.{tableMade, Checks}
+use Rattle.session.specs.Checking.{tableMade, Checks}
 use Rattle.session.specs.declared.Checked.{Checked}
 use Rattle.session.specs.declared.Verdict.{Verdict}
 use Rattle.session.specs.declared.Verdict.the-variants.{Accepted, Length, Kinds, Numbering, NotOrdered, NoJoin, NoMeet}

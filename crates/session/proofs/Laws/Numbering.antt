@@ -15,7 +15,7 @@ use Rattle.session.specs.Lists.{every, countsFrom, tab}
 use Rattle.session.specs.Record.{Record, recordAt, recordCount, numberOf, maskOf}
 use Rattle.session.specs.Parts.{levelRecords, objectRecords, levelCount, objectCount, stepCount, masksOf}
 use Rattle.session.specs.Questions.{kindsRise, question2, question3, objectValid, question6, scriptsValid, question7, rootValid, question8}
-use Rattle.session.specs.Reading.{Counted, recordsFrom}
+use Rattle.session.specs.Checking.{Counted, recordsFrom}
 use Rattle.session.proofs.Laws.Fill.{tab-ext, map-is}
 use Rattle.session.proofs.Laws.Parts.{level-is, object-is, steps-from, kinds-rise, records-are, root-is}
 

@@ -15,7 +15,7 @@ use Rattle.session.specs.Lists.{every, risingFrom}
 use Rattle.session.specs.Record.{recordAt, recordCount, recordsOf, kindOf}
 use Rattle.session.specs.Parts.{ofKind, levelRecords, objectRecords, stepRecords, rootRecords, levelCount, objectCount, stepCount, rootRecord}
 use Rattle.session.specs.Questions.{kindsRise, question2}
-use Rattle.session.specs.Reading.{countBelow, recordsFrom}
+use Rattle.session.specs.Checking.{countBelow, recordsFrom}
 use Rattle.session.proofs.Laws.Record.{records-length, record-is, from-length, from-at}
 use Rattle.session.proofs.Laws.Lists.{holds, fails, truth, every-each, every-all, select-length, select-all, select-none}
 use Rattle.session.proofs.Laws.Rising.{first-below, rest-above, count-more, among-at, rising-next, rising-all, Climbed, climbed-most}

@@ -11,7 +11,7 @@ use lib.Dec.{eqb, leb, ltb}
 use lib.ListN.{length, getD}
 use Rattle.lattice.proofs.Laws.Range.{and-left, and-right, and-both}
 use Rattle.session.specs.Lists.{select, risingFrom}
-use Rattle.session.specs.Reading.{countBelow}
+use Rattle.session.specs.Checking.{countBelow}
 use Rattle.session.proofs.Laws.Lists.{holds, fails, truth, select-yes, select-no, select-length}
 
 -- two numbers, compared

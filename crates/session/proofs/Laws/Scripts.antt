@@ -17,7 +17,7 @@ use Rattle.session.specs.Lists.{risingFrom}
 use Rattle.session.specs.Record.{Record, recordAt}
 use Rattle.session.specs.Parts.{keyOf, ofMethod}
 use Rattle.session.specs.Questions.{stepValid, scriptValid, methodsValid, scriptsValid}
-use Rattle.session.specs.Reading.{methodEnd, recordsFrom}
+use Rattle.session.specs.Checking.{methodEnd, recordsFrom}
 use Rattle.session.proofs.Laws.Record.{from-length, from-at, from-is}
 use Rattle.session.proofs.Laws.Lists.{every-each, every-all}
 use Rattle.session.proofs.Laws.Rising.{less, same, more, order, rising-le, rising-all, run-length}

@@ -11,7 +11,7 @@ use Rattle.lattice.proofs.Laws.Range.{and-both, and-fails-left, and-fails-right
 use Rattle.session.specs.Limits.{names}
 use Rattle.session.specs.Record.{recordAt, objectOf, nameOf}
 use Rattle.session.specs.Questions.{stepValid}
-use Rattle.session.specs.Reading.{isNamed, isFit, OneMethod}
+use Rattle.session.specs.Checking.{isNamed, isFit, OneMethod}
 use Rattle.session.proofs.Laws.Words.{record-small}
 
 module _ (s : List ℕ) (start count objects : ℕ) (small : (i : ℕ) → getD s i 0 < 2 ^ 8) (one : OneMethod s start count) where

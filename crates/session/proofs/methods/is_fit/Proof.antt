@@ -1,6 +1,6 @@
 -- `session::methods::is_fit` meets its contract. Assumes nothing.
 use borrow.Author.Needs.{needs}
-use Rattle.session.specs.Reading.{isFit}
+use Rattle.session.specs.Checking.{isFit}
 use Rattle.session.proofs.methods.is_fit.Statement.{statement}
 use Rattle.session.proofs.methods.is_fit.Tie as tie
 

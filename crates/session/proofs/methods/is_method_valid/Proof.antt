@@ -6,7 +6,7 @@ use native.Mathlib.Omega.{arith}
 use borrow.Author.Tests.{not-true, not-false}
 use Rattle.lattice.proofs.Laws.Range.{Tested, tested-none, tested-more, tested-fails, tested-all}
 use Rattle.session.specs.Record.{recordAt}
-use Rattle.session.specs.Reading.{isFit}
+use Rattle.session.specs.Checking.{isFit}
 use Rattle.session.proofs.Laws.Steps.{method-unnamed, method-unfit, method-fits}
 use Rattle.session.proofs.methods.is_method_valid.Statement.{statement}
 use Rattle.session.proofs.methods.is_method_valid.Tie as tie

@@ -1,18 +1,19 @@
--- `session::contents::method_of` meets its contract: the index says where the method starts and ends. Assumes nothing.
+-- `contents::method_of` meets its contract: the index says where the method starts and ends. Assumes nothing.
 use Prim.Native.Nat.{ℕ, _+_, _*_, _<_}
 use mathlib.Core.Path.{_≡_, _∙_, ap}
 use mathlib.Core.List.{List}
 use native.Mathlib.Omega.{arith}
 use lib.ListN.{length, getD}
 use Rattle.session.specs.Limits.{names}
 use Rattle.session.specs.Parts.{objectCount, key}
 use Rattle.session.specs.Questions.{verdictOf}
 use Rattle.session.specs.Meaning.{methodOf}
-use Rattle.session.specs.Reading.{methodStart, indexOf}
+use Rattle.contents.specs.Reading.{methodStart, indexOf}
 use Rattle.session.specs.declared.Verdict.the-variants.{Accepted}
-use Rattle.session.proofs.Laws.Contents.{object-limit, index-length, slot-first, slot-end, method-length}
-use Rattle.session.proofs.contents.method_of.Statement.{statement}
-use Rattle.session.proofs.contents.method_of.Tie as tie
+use Rattle.session.proofs.Laws.Contents.{object-limit, method-length}
+use Rattle.contents.proofs.Laws.Methods.{index-length, slot-first, slot-end}
+use Rattle.contents.proofs.method_of.Statement.{statement}
+use Rattle.contents.proofs.method_of.Tie as tie
 
 -- what the index holds for a method: where it starts, and where it ends
 module _ (s index : List ℕ) (a : verdictOf s ≡ Accepted) (e : index ≡ indexOf s) (o m : ℕ) (ho : o < objectCount s) (hm : m < names) where

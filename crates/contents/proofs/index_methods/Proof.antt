@@ -1,17 +1,18 @@
--- `session::contents::index_methods` meets its contract. The invariant: the slots passed hold where their methods start. Assumes nothing.
+-- `contents::index_methods` meets its contract. The invariant: the slots passed hold where their methods start. Assumes nothing.
 use Prim.Native.Nat.{ℕ, _+_, _-_, _/_, _%_, _≤_, _<_}
 use mathlib.Core.Path.{_≡_, refl, _∙_}
 use mathlib.Core.List.{_++_}
 use native.Mathlib.Omega.{arith}
 use lib.ListN.{length, drop, length-set}
 use Rattle.session.specs.Limits.{names}
 use Rattle.session.specs.Lists.{tab}
 use Rattle.session.specs.Parts.{levelCount, objectCount, stepCount, key}
-use Rattle.session.specs.Reading.{methodStart, indexOf}
+use Rattle.contents.specs.Reading.{methodStart, indexOf}
 use Rattle.session.proofs.Laws.Fill.{tab-fill-none, tab-fill-more}
-use Rattle.session.proofs.Laws.Contents.{rises, counts, step-limit, object-limit, level-limit, start-first, start-last, start-mono}
-use Rattle.session.proofs.contents.index_methods.Statement.{statement}
-use Rattle.session.proofs.contents.index_methods.Tie as tie
+use Rattle.session.proofs.Laws.Contents.{rises, counts, step-limit, object-limit, level-limit}
+use Rattle.contents.proofs.Laws.Methods.{start-first, start-last, start-mono}
+use Rattle.contents.proofs.index_methods.Statement.{statement}
+use Rattle.contents.proofs.index_methods.Tie as tie
 
 -- the key that a slot of the index stands for
 abbrev slotKey : ℕ → ℕ

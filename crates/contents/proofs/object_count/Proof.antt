@@ -1,8 +1,8 @@
--- `session::contents::object_count` meets its contract. Assumes nothing.
+-- `contents::object_count` meets its contract. Assumes nothing.
 use Rattle.session.proofs.Laws.Contents.{rises}
 use borrow.Author.Needs.{needs}
-use Rattle.session.proofs.contents.object_count.Statement.{statement}
-use Rattle.session.proofs.contents.object_count.Tie as tie
+use Rattle.contents.proofs.object_count.Statement.{statement}
+use Rattle.contents.proofs.object_count.Tie as tie
 
 count-kinds-requires : tie.Need-count-kinds-requires
 count-kinds-requires c κs = let s = c .before in rises (s .args .session .now) (s .pre)

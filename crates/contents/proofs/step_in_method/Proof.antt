@@ -1,9 +1,9 @@
--- `session::contents::step_in_method` meets its contract: a step stands so far behind the first as its number says. Assumes nothing.
+-- `contents::step_in_method` meets its contract: a step stands so far behind the first as its number says. Assumes nothing.
 use mathlib.Core.Path.{_∙_}
 use native.Mathlib.Omega.{arith}
-use Rattle.session.proofs.Laws.Accepted.{method-ends, step-there, step-over}
-use Rattle.session.proofs.contents.step_in_method.Statement.{statement}
-use Rattle.session.proofs.contents.step_in_method.Tie as tie
+use Rattle.contents.proofs.Laws.Methods.{method-ends, step-there, step-over}
+use Rattle.contents.proofs.step_in_method.Statement.{statement}
+use Rattle.contents.proofs.step_in_method.Tie as tie
 
 add-step-in : tie.Need-add-step-in
 add-step-in c =

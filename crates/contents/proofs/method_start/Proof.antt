@@ -1,13 +1,14 @@
--- `session::contents::method_start` meets its contract. The invariant: the steps passed have smaller keys. Assumes nothing.
+-- `contents::method_start` meets its contract. The invariant: the steps passed have smaller keys. Assumes nothing.
 use Prim.Native.Nat.{_+_, _-_, _≤_, _<_}
 use native.Mathlib.Nat.{le-antisymm}
 use native.Mathlib.Omega.{arith}
 use Rattle.session.specs.Parts.{levelCount, objectCount, stepCount}
-use Rattle.session.specs.Reading.{methodStart}
+use Rattle.contents.specs.Reading.{methodStart}
 use Rattle.session.proofs.Laws.Scripts.{keyAt}
-use Rattle.session.proofs.Laws.Contents.{counts, start-last, before-start, from-start}
-use Rattle.session.proofs.contents.method_start.Statement.{statement}
-use Rattle.session.proofs.contents.method_start.Tie as tie
+use Rattle.session.proofs.Laws.Contents.{counts}
+use Rattle.contents.proofs.Laws.Methods.{start-last, before-start, from-start}
+use Rattle.contents.proofs.method_start.Statement.{statement}
+use Rattle.contents.proofs.method_start.Tie as tie
 
 abbrev Inv-loop : tie.InvT-loop
 Inv-loop session at end key r₀ r = (levelCount session + objectCount session ≤ r) × (r ≤ methodStart session key)

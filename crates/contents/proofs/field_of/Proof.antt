@@ -1,4 +1,4 @@
--- `session::contents::field_of` meets its contract. Assumes nothing.
+-- `contents::field_of` meets its contract. Assumes nothing.
 use mathlib.Core.Path.{_≡_, sym, _∙_, ap}
 use mathlib.Core.Bool.{true, false}
 use Prim.Native.Nat.{_+_}
@@ -6,13 +6,13 @@ use native.Mathlib.Omega.{arith}
 use mathlib.Core.List.{[]}
 use lib.ListN.{length, getD}
 use borrow.Author.Tests.{eq-eqb, ne-eqb}
 use Rattle.session.specs.Record.{recordAt, holds, fieldIn}
 use Rattle.session.specs.Parts.{objectRecords, levelCount}
 use Rattle.session.proofs.Laws.Record.{field-number, field-nil}
 use Rattle.session.proofs.Laws.Contents.{counts, masks-length, object-record}
 use borrow.Author.Needs.{needs}
-use Rattle.session.proofs.contents.field_of.Statement.{statement}
-use Rattle.session.proofs.contents.field_of.Tie as tie
+use Rattle.contents.proofs.field_of.Statement.{statement}
+use Rattle.contents.proofs.field_of.Tie as tie
 
 add-r : tie.Need-add-r
 add-r c =

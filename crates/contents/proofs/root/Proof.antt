@@ -1,12 +1,12 @@
--- `session::contents::root` meets its contract. Assumes nothing.
+-- `contents::root` meets its contract. Assumes nothing.
 use mathlib.Core.Path.{sym, _∙_, ap}
 use Prim.Native.Nat.{_-_}
 use native.Mathlib.Omega.{arith}
 use Rattle.session.specs.Record.{recordAt, recordCount, numberOf, nameOf, parameterOf}
 use Rattle.session.proofs.Laws.Record.{parameter-number, parameter-nil}
 use Rattle.session.proofs.Laws.Contents.{counts, root-record}
-use Rattle.session.proofs.contents.root.Statement.{statement}
-use Rattle.session.proofs.contents.root.Tie as tie
+use Rattle.contents.proofs.root.Statement.{statement}
+use Rattle.contents.proofs.root.Tie as tie
 
 sub-r : tie.Need-sub-r
 sub-r c = let s = c .before in omega (arith, counts (s .args .session .now) (s .pre))

@@ -1,14 +1,14 @@
--- `session::contents::level_of` meets its contract. Assumes nothing.
+-- `contents::level_of` meets its contract. Assumes nothing.
 use mathlib.Core.Path.{_≡_, sym, _∙_, ap}
 use Prim.Native.Nat.{_+_}
 use native.Mathlib.Omega.{arith}
 use lib.ListN.{length}
 use Rattle.session.specs.Record.{recordAt, byteOf, levelByte}
 use Rattle.session.specs.Parts.{levelCount}
 use Rattle.session.proofs.Laws.Contents.{counts, masks-length, object-record}
 use borrow.Author.Needs.{needs}
-use Rattle.session.proofs.contents.level_of.Statement.{statement}
-use Rattle.session.proofs.contents.level_of.Tie as tie
+use Rattle.contents.proofs.level_of.Statement.{statement}
+use Rattle.contents.proofs.level_of.Tie as tie
 
 add-byte-at : tie.Need-add-byte-at
 add-byte-at c =

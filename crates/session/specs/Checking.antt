@@ -1,20 +1,17 @@
--- How the code finds its way through a session: what its own contracts cite. No question and no meaning rests on these. Assumes nothing.
--- Laws (`proofs/Laws/Accepted`): the steps of a method of which it is known where they stand are within the session and at most 16
--- (`method-ends`, `method-few`); which step is there (`step-there`), and that the script's end is behind them (`step-over`).
--- `proofs/Laws/Checked`: the table that the check of an accepted session makes is its level table (`accepted-table`).
-use Prim.Native.Nat.{ℕ, suc, _+_, _-_, _/_, _%_, _<_}
+-- How the check finds its way through a session: what its own contracts cite. No question and no meaning rests on these. Assumes nothing.
+-- Law (`proofs/Laws/Checked`): the table that the check of an accepted session makes is its level table (`accepted-table`).
+use Prim.Native.Nat.{ℕ, suc, _+_, _-_, _<_}
 use mathlib.Core.Path.{_≡_}
 use mathlib.Core.Bool.{Bool, cond, _&&_, not}
 use mathlib.Core.List.{List, [], _++_}
 use lib.Dec.{eqb, ltb}
 use lib.ListN.{length, drop}
 use Rattle.lattice.specs.Range.{first}
-use Rattle.session.specs.Limits.{names, maxMethods}
+use Rattle.session.specs.Limits.{names}
 use Rattle.session.specs.Lists.{select, tab}
 use Rattle.session.specs.Record.{Record, recordAt, zeroAt, objectOf, nameOf, stepOf}
-use Rattle.session.specs.Parts.{stepRecords, levelCount, objectCount, stepCount, masksOf, key, keyOf}
+use Rattle.session.specs.Parts.{levelCount, objectCount, stepCount, masksOf, keyOf}
 use Rattle.session.specs.Questions.{question1, question2, question3, operandsFit, unusedBytes, verdictOf}
-use Rattle.session.specs.Meaning.{methodOf}
 use Rattle.session.specs.declared.Checked.{Checked}
 
 -- these numbers are a session's
@@ -59,20 +56,3 @@ isFit objects count rec =
 pub record OneMethod (s : List ℕ) (start count : ℕ) : Type 0 where
   pub some : 0 < count
   pub same : (i : ℕ) → i < count → keyOf (recordAt s (start + i)) ≡ keyOf (recordAt s start)
-
--- the record at which the steps of a method start: those of the methods before it stand before them
-unfoldable pub methodStart : List ℕ → ℕ → ℕ
-methodStart s k = levelCount s + objectCount s + countBelow keyOf k (stepRecords s)
-
--- where each method starts, by object and then name, and behind them where the last one ends
-unfoldable pub indexOf : List ℕ → List ℕ
-indexOf s = tab (maxMethods + 1) (λ i. methodStart s (key (i / names) (i % names)))
-
--- where the steps of the method (object, name) stand: the record of the first, and how many there are
-pub record MethodAt (s : List ℕ) (object name start count : ℕ) : Type 0 where
-  pub start-is : start ≡ methodStart s (key object name)
-  pub count-is : count ≡ length (methodOf s object name)
-
--- the steps of one of the session's methods stand there
-abbrev pub IsMethod : List ℕ → ℕ → ℕ → Type 0
-IsMethod s start count = (object : ℕ) × ((name : ℕ) × MethodAt s object name start count)

@@ -1,27 +1,32 @@
 // What an accepted session says: its objects, its methods and its root message.
 //
-// The check makes the level table (`check_into`), and a run makes the method index once. With them
+// The check makes the level table (`session::check_into`), and a run makes the method index once. With them
 // each function below costs a few reads: no record is searched for.
-use crate::Message;
-use crate::Method;
-use crate::Step;
-use crate::Value;
-use crate::Verdict;
-use crate::kinds;
-use crate::limits::MAX_METHODS;
-use crate::limits::NAMES;
-use crate::limits::RECORD_BYTES;
-use crate::places;
-use crate::record;
+use session::Message;
+use session::Step;
+use session::Value;
+use session::Verdict;
+use session::kinds;
+use session::limits::MAX_METHODS;
+use session::limits::NAMES;
+use session::limits::RECORD_BYTES;
+use session::places;
+use session::record;
 ghost use mathlib.Core.Path.{_≡_};
 ghost use mathlib.Core.List.{_++_};
 ghost use Prim.Native.Nat.{ℕ, _+_, _≤_, _<_};
 ghost use lib.ListN.{length, drop};
 ghost use Rattle.session.specs.Limits.{maxMethods, names, fields};
 ghost use Rattle.session.specs.Parts.{levelCount, objectCount, stepCount, masksOf};
 ghost use Rattle.session.specs.Questions.{verdictOf};
 ghost use Rattle.session.specs.Meaning.{levelOf, fieldOf, stepAt, rootOf};
-ghost use Rattle.session.specs.Reading.{methodStart, indexOf, MethodAt, IsMethod};
+ghost use Rattle.contents.specs.Reading.{methodStart, indexOf, MethodAt, IsMethod};
+
+// Where the steps of a method stand: the record of the first, and how many there are.
+pub struct Method {
+    pub start: usize,
+    pub count: usize,
+}
 
 // How many objects there are.
 pub fn object_count(session: &[u8]) -> usize
