@@ -1,7 +1,7 @@
 -- How the code finds its way through an accepted session: where the steps of each method stand. No meaning rests on these. Assumes nothing.
 -- Laws (`proofs/Laws/Methods`): the steps of a method of which it is known where they stand are within the session and at most 16
 -- (`method-ends`, `method-few`); which step is there (`step-there`), and that the script's end is behind them (`step-over`).
-use Prim.Native.Nat.{ℕ, _+_, _/_, _%_}
+use Prim.Native.Nat.{ℕ, _+_, _/_, _%_, _<_}
 use mathlib.Core.Path.{_≡_}
 use mathlib.Core.List.{List}
 use lib.ListN.{length}
@@ -24,6 +24,6 @@ pub record MethodAt (s : List ℕ) (object name start count : ℕ) : Type 0 wher
   pub start-is : start ≡ methodStart s (key object name)
   pub count-is : count ≡ length (methodOf s object name)
 
--- the steps of one of the session's methods stand there
+-- the steps of one of the session's methods stand there, if any do
 abbrev pub IsMethod : List ℕ → ℕ → ℕ → Type 0
-IsMethod s start count = (object : ℕ) × ((name : ℕ) × MethodAt s object name start count)
+IsMethod s start count = 0 < count → (object : ℕ) × ((name : ℕ) × MethodAt s object name start count)

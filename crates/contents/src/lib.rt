@@ -14,7 +14,7 @@ use session::places;
 use session::record;
 ghost use mathlib.Core.Path.{_≡_};
 ghost use mathlib.Core.List.{_++_};
-ghost use Prim.Native.Nat.{ℕ, _+_, _≤_, _<_};
+ghost use Prim.Native.Nat.{ℕ, _+_, _/_, _%_, _≤_, _<_};
 ghost use lib.ListN.{length, drop};
 ghost use Rattle.session.specs.Limits.{maxMethods, names, fields};
 ghost use Rattle.session.specs.Parts.{levelCount, objectCount, stepCount, masksOf};
@@ -94,13 +94,12 @@ pub fn field_of(session: &[u8], masks: &[u16], object: usize, k: usize) -> Value
     }
 }
 
-// Where the steps of the method `name` of an object stand. A run that keeps it reads the index once a
-// message.
-pub fn method_of(session: &[u8], index: &[u16], object: usize, name: usize) -> Method
-    requires { ⌜ (verdictOf (now session) ≡ Verdict.Accepted) × (now index ≡ indexOf (now session)) × (object < objectCount (now session)) × (name < names) ⌝ }
-    ensures { λ r. ⌜ MethodAt (now (session .entry)) object name (r .start) (r .count) ⌝ }
+// Where the steps of a method stand, by its number: 16 times that of its object, and its name. A run that
+// keeps it reads the index once a message.
+pub fn method_of(session: &[u8], index: &[u16], slot: usize) -> Method
+    requires { ⌜ (verdictOf (now session) ≡ Verdict.Accepted) × (now index ≡ indexOf (now session)) × (slot / names < objectCount (now session)) ⌝ }
+    ensures { λ r. ⌜ MethodAt (now (session .entry)) (slot / names) (slot % names) (r .start) (r .count) ⌝ }
 {
-    let slot = NAMES * object + name;
     let start = index[slot] as usize;
     let end = index[slot + 1] as usize;
     let count = end - start;
@@ -110,7 +109,7 @@ pub fn method_of(session: &[u8], index: &[u16], object: usize, name: usize) -> M
 // Step `j` of a method of which it is known where its steps stand, or the script's end.
 pub fn step_in_method(session: &[u8], start: usize, count: usize, j: usize) -> Step
     requires { ⌜ (verdictOf (now session) ≡ Verdict.Accepted) × IsMethod (now session) start count ⌝ }
-    ensures { λ r. ⌜ ((object name : ℕ) → MethodAt (now (session .entry)) object name start count → r ≡ stepAt (now (session .entry)) object name j) ⌝ }
+    ensures { λ r. ⌜ ((object name : ℕ) → MethodAt (now (session .entry)) object name start count → r ≡ stepAt (now (session .entry)) object name j) × (count ≡ 0 → r ≡ Step.End) ⌝ }
 {
     if j < count {
         record::step_in(session, start + j)

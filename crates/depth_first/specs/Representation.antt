@@ -15,6 +15,7 @@ use Rattle.session.specs.Program.{programOf}
 use Rattle.contents.specs.Reading.{indexOf}
 use Rattle.session.specs.declared.Value.{Value}
 use Rattle.session.specs.declared.Verdict.the-variants.{Accepted}
+use Rattle.scripts.specs.Existence.{existence, initially}
 use Rattle.scripts.specs.Limits.{maxForks}
 use Rattle.scripts.specs.State.{Manager}
 use Rattle.scripts.specs.declared.Ended.{Ended}
@@ -56,6 +57,8 @@ pub record RepresentedBy (s : List ℕ) (g : Progress) (current ended tallies : 
   pub counts-few : (l : ℕ) → l < maxLevels → getD tallies l 0 ≤ maxManagers
   pub levels : length (g .levels) ≡ levelCount s
   pub field : (o k : ℕ) → o < objectCount s → k < fields → fieldAt current o k ≡ fieldNow (programOf s) g o k
+  -- no existence is written, so each is as it was at first
+  pub existing : (o : ℕ) → fieldNow (programOf s) g o existence ≡ initially (programOf s) o existence
   pub counted : (l : ℕ) → l < levelCount s → Counted g ended tallies l
 
 -- some run's

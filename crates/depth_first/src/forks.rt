@@ -116,7 +116,9 @@ pub fn run_manager(
     let level = fork.level as usize;
     let message = fork.message;
     let next = tallies[NEXT + level] as u16;
-    let mut m = Manager::start(session, index, fork.level, next, message);
+    // Its object's own methods.
+    let script = message.object + 1;
+    let mut m = Manager::start(session, index, fork.level, next, message, script);
     let core = m.core;
     if left == 0 {
         return core.ended(fork.stamp);

@@ -1,16 +1,19 @@
 // Frames of a message manager, by value: the one on top, and those that wait below it.
 pub mod values;
 
+use contents::Method;
 use session::Step;
 use session::Value;
+use session::limits::NAMES;
 use session::limits::REGISTERS;
-ghost use Prim.Native.Nat.{_+_, _<_};
+ghost use Prim.Native.Nat.{_+_, _^_, _≤_, _<_};
 ghost use mathlib.Core.Path.{_≡_};
 ghost use mathlib.Core.Bool.{cond};
 ghost use mathlib.Core.List.{[], _∷_};
 ghost use lib.Dec.{leb};
 ghost use lib.ListN.{getD};
 ghost use Rattle.session.specs.Limits.{registers};
+ghost use Rattle.session.specs.Parts.{objectCount};
 ghost use Rattle.session.specs.Program.{programOf};
 ghost use Rattle.session.specs.Questions.{verdictOf};
 ghost use Rattle.session.specs.declared.Value.the-variants.{Nil};
@@ -18,12 +21,14 @@ ghost use Rattle.session.specs.declared.Verdict.the-variants.{Accepted};
 ghost use Rattle.scripts.specs.Frame.{register, withRegister, atStep};
 ghost use Rattle.scripts.specs.Manager.{nextStep};
 ghost use Rattle.scripts.specs.Valid.{Indexed};
-ghost use Rattle.frames.specs.Frames.{intoOf, returnsOf, answerOf, frameOf, asideOf, waitingFor, noWaiting, topFrom, asideFrom, Becomes, Placed, Method, Waits};
+ghost use Rattle.frames.specs.Frames.{intoOf, returnsOf, answerOf, wayOf, slotOf, scriptIn, nameIn, frameOf, asideOf, noWaiting, topFor, topFrom, asideFrom, Becomes, Called, ScriptAt, Placed, Waits};
 
 // The frame on top: a method that is running.
 pub struct Frame {
     pub object: usize,
-    pub name: usize,
+    // Its method: 16 times its script, 0 where it runs none and else one more than the number of the object
+    // whose methods they are, and its name.
+    pub slot: usize,
     // The step that is made next, counted from 0.
     pub next: usize,
     // Where its method stands in the session: the record of the first step, and how many steps there are.
@@ -44,13 +49,23 @@ pub const FIRST_ANSWER: u8 = REGISTERS;
 // A frame that waits for the reply of the one above it.
 pub struct Waiting {
     pub object: u8,
-    pub name: u8,
-    pub next: u8,
     pub answer: u8,
+    // Its next step: 32 times its method, and the step's number.
+    pub at: u16,
     pub r0: Value,
     pub r1: Value,
     pub r2: Value,
     pub r3: Value,
+}
+
+// What one more method adds to the number of a step. No method has so many.
+const STEP_NUMBERS: usize = 32;
+
+// The number of a script's method of a name.
+pub fn slot_of(script: u8, name: u8) -> u16
+    ensures { λ r. ⌜ r ≡ slotOf script name ⌝ }
+{
+    NAMES as u16 * script as u16 + name as u16
 }
 
 // The byte that says that a reply goes to register `into`, or is thrown away.
@@ -59,6 +74,17 @@ pub fn answer_of(into: u8, returns: bool) -> u8
     ensures { λ r. ⌜ r ≡ answerOf into returns ⌝ }
 {
     if returns { into + REGISTERS } else { into }
+}
+
+// What one more method adds to the number of a call: how many bytes say where a reply goes.
+pub const ANSWERS: u16 = 2 * REGISTERS as u16;
+
+// The number of a call, by its method and the byte that says where its reply goes.
+pub fn way_of(slot: u16, answer: u8) -> u16
+    requires { ⌜ wayOf slot answer < 2 ^ 16 ⌝ }
+    ensures { λ r. ⌜ r ≡ wayOf slot answer ⌝ }
+{
+    ANSWERS * slot + answer as u16
 }
 
 // The register of a number.
@@ -73,23 +99,35 @@ fn pick(k: u8, r0: Value, r1: Value, r2: Value, r3: Value) -> Value
     }
 }
 
+// Where the steps of a method stand. Those of script 0 have none.
+fn method_in(session: &[u8], index: &[u16], slot: usize) -> Method
+    requires { ⌜ Indexed (now session) (now index) × (scriptIn slot ≤ objectCount (now session)) ⌝ }
+    ensures { λ r. ⌜ ScriptAt (now (session .entry)) (scriptIn slot) (nameIn slot) (r .start) (r .count) ⌝ }
+{
+    if slot < NAMES {
+        return Method { start: 0, count: 0 };
+    }
+    contents::method_of(session, index, slot - NAMES)
+}
+
 impl Frame {
-    // A frame for a message, whose reply goes to the sender as `answer` says.
+    // A frame for a message that found a method, whose reply goes to the sender as `answer` says.
     pub fn new(
         session: &[u8],
         index: &[u16],
         object: u8,
-        name: u8,
+        slot: u16,
         answer: u8,
         parameter: Value,
     ) -> Frame
-        requires { ⌜ Indexed (now session) (now index) × Method object name (now session) ⌝ }
-        ensures { λ r. ⌜ (r ≡ topFrom (waitingFor object name answer parameter) (r .start) (r .count)) × Placed (now (session .entry)) r ⌝ }
+        requires { ⌜ Indexed (now session) (now index) × Called object slot (now session) ⌝ }
+        ensures { λ r. ⌜ (r ≡ topFor object slot answer parameter (r .start) (r .count)) × Placed (now (session .entry)) r ⌝ }
     {
-        let method = contents::method_of(session, index, object as usize, name as usize);
+        let slot = slot as usize;
+        let method = method_in(session, index, slot);
         Frame {
             object: object as usize,
-            name: name as usize,
+            slot,
             next: 0,
             start: method.start,
             count: method.count,
@@ -167,9 +205,8 @@ pub fn no_frame() -> Waiting
 {
     Waiting {
         object: 0,
-        name: 0,
-        next: 0,
         answer: 0,
+        at: 0,
         r0: Value::Nil,
         r1: Value::Nil,
         r2: Value::Nil,
@@ -189,9 +226,8 @@ pub fn set_aside(session: &[u8], f: Frame) -> Waiting
     let r3 = f.r3;
     Waiting {
         object: f.object as u8,
-        name: f.name as u8,
-        next: f.next as u8,
         answer: f.answer,
+        at: (STEP_NUMBERS * f.slot + f.next) as u16,
         r0,
         r1,
         r2,
@@ -204,15 +240,17 @@ pub fn woken(session: &[u8], index: &[u16], w: Waiting) -> Frame
     requires { ⌜ Indexed (now session) (now index) × Waits (now session) (asideOf w) ⌝ }
     ensures { λ r. ⌜ (r ≡ topFrom w (r .start) (r .count)) × Placed (now (session .entry)) r ⌝ }
 {
-    let method = contents::method_of(session, index, w.object as usize, w.name as usize);
+    let at = w.at as usize;
+    let slot = at / STEP_NUMBERS;
+    let method = method_in(session, index, slot);
     let r0 = w.r0;
     let r1 = w.r1;
     let r2 = w.r2;
     let r3 = w.r3;
     Frame {
         object: w.object as usize,
-        name: w.name as usize,
-        next: w.next as usize,
+        slot,
+        next: at % STEP_NUMBERS,
         start: method.start,
         count: method.count,
         answer: w.answer,

@@ -10,6 +10,7 @@ use Rattle.session.specs.Limits.{maxLevels, fields}
 use Rattle.session.specs.Parts.{levelCount, objectCount}
 use Rattle.session.specs.Meaning.{rootOf}
 use Rattle.session.specs.Program.{programOf}
+use Rattle.scripts.specs.Existence.{initially}
 use Rattle.scripts.specs.State.{Manager}
 use Rattle.words.specs.Limits.{fieldWords}
 use Rattle.words.specs.Fields.{fieldAt}
@@ -62,7 +63,7 @@ pub record Represents (s : List ℕ) (w : Words) (ms : ℕ → Manager) (st : St
   pub roomy : Roomy w
   pub counts-few : (l : ℕ) → l < maxLevels → getD (w .tallies) l 0 ≤ maxManagers
   pub levels : length st ≡ levelCount s
-  pub field : (o k : ℕ) → o < objectCount s → k < fields → fieldAt (w .current) o k ≡ newest (programOf s .field o k) o k (levelAt st (programOf s .level o) .versions)
+  pub field : (o k : ℕ) → o < objectCount s → k < fields → fieldAt (w .current) o k ≡ newest (initially (programOf s) o k) o k (levelAt st (programOf s .level o) .versions)
   pub level : (l : ℕ) → l < levelCount s → LevelRepresents (levelCount s) w l (ms l) (levelAt st l)
 
 -- some list of allowed steps leads to the state st from the session as read in

@@ -10,10 +10,11 @@ use lib.Dec.{eqb}
 use lib.ListN.{length, getD, set}
 use Rattle.session.specs.Limits.{maxLevels, fields}
 use Rattle.session.specs.Parts.{levelCount, objectCount}
-use Rattle.session.specs.Meaning.{levelOf, fieldOf}
+use Rattle.session.specs.Meaning.{levelOf}
 use Rattle.session.specs.Program.{programOf}
 use Rattle.session.specs.declared.Value.{Value}
 use Rattle.session.specs.declared.Message.{Message}
+use Rattle.scripts.specs.Existence.{initially}
 use Rattle.scripts.specs.Limits.{maxForks, writeStamps}
 use Rattle.scripts.specs.Ending.{isRunning}
 use Rattle.scripts.specs.Effect.{Effect}
@@ -23,6 +24,7 @@ use Rattle.scripts.specs.Manager.{started}
 use Rattle.scripts.specs.Valid.{Indexed, Leveled, Startable}
 use Rattle.scripts.specs.declared.Ended.{Ended}
 use Rattle.words.specs.Limits.{fieldWords}
+use Rattle.words.specs.Reads.{AllThere}
 use Rattle.words.specs.Fields.{FieldThere, FieldSet, Remembered}
 use Rattle.operations.specs.Core.{bare, effectOf}
 use Rattle.operations.specs.declared.Core.{Core}
@@ -75,7 +77,7 @@ boundIn n ended tallies queue l j =
 -- what the words say of a field of an object of another level, up to its bound there
 abbrev pub foundIn : List ℕ → Words → ℕ → ℕ → ℕ → Value
 foundIn s w l object k =
-    newestTo (boundIn (levelCount s) (w .ended) (w .tallies) (w .queue) l (levelOf s object)) (fieldOf s object k) object k (logOf (w .work) (logStart (levelOf s object)) (getD (w .tallies) (versionsPlace (levelOf s object)) 0))
+    newestTo (boundIn (levelCount s) (w .ended) (w .tallies) (w .queue) l (levelOf s object)) (initially (programOf s) object k) object k (logOf (w .work) (logStart (levelOf s object)) (getD (w .tallies) (versionsPlace (levelOf s object)) 0))
 
 -- a value is what it reads of a field
 abbrev pub ReadIs : List ℕ → Words → ℕ → ℕ → ℕ → Value → Type 0
@@ -208,5 +210,5 @@ begunTallies tallies l = set (set tallies (waitingPlace l) (getD tallies (waitin
 
 -- it has started, and has ended at once where its method is empty
 pub record Started (s ended ended' tallies tallies' queue : List ℕ) (l : ℕ) (m : Manager) : Type 0 where
-  pub manager : m ≡ started (programOf s) l (getD tallies (nextPlace l) 0) (runningFork 0 tallies queue l .message)
+  pub manager : (read : ℕ → ℕ → Value) → AllThere s read → m ≡ started (programOf s) read l (getD tallies (nextPlace l) 0) (runningFork 0 tallies queue l .message)
   pub settled : Settled ended ended' (begunTallies tallies l) tallies' queue l m

@@ -209,7 +209,9 @@ pub fn start(
 {
     let message = queues::message_at(queue, level, tallies[level]);
     let next = tallies[NEXT + level] as u16;
-    let m = Manager::start(session, index, level as u8, next, message);
+    // Its object's own methods.
+    let script = message.object + 1;
+    let m = Manager::start(session, index, level as u8, next, message, script);
     tallies[WAITING + level] = tallies[WAITING + level] - 1;
     tallies[RUNNING + level] = 1;
     let core = m.core;

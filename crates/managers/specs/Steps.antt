@@ -11,13 +11,15 @@ use Rattle.session.specs.Parts.{levelCount}
 use Rattle.session.specs.Program.{Program, programOf}
 use Rattle.session.specs.declared.Value.{Value}
 use Rattle.session.specs.declared.Value.the-variants.{Nil}
+use Rattle.session.specs.declared.Message.{Message}
 use Rattle.session.specs.declared.Step.{Step}
 use Rattle.session.specs.declared.Step.the-variants as op
+use Rattle.scripts.specs.Existence.{scriptSeen}
 use Rattle.scripts.specs.Limits.{maxFrames, maxScriptSteps, maxWrites, maxForks, writeStamps}
 use Rattle.scripts.specs.Ending.{isRunning}
 use Rattle.scripts.specs.Effect as effect
 use Rattle.scripts.specs.State as defined
-use Rattle.scripts.specs.Manager.{nextStep, stepped}
+use Rattle.scripts.specs.Manager.{nextStep, started, stepped}
 use Rattle.scripts.specs.Valid.{Indexed, Leveled}
 use Rattle.scripts.specs.declared.Ending.the-variants.{Finished}
 use Rattle.words.specs.Limits.{fieldWords}
@@ -79,6 +81,11 @@ pub record WellFormed (s : List ℕ) (m : Manager) : Type 0 where
   pub live : isRunning (m .core .ending) ≡ true → 0 < m .core .height
   pub few : isRunning (m .core .ending) ≡ true → m .core .steps < maxScriptSteps
   pub unfinished : isRunning (m .core .ending) ≡ true → m .core .top .next < m .core .top .count
+
+-- the manager of a message starts, whatever reads see, as long as they see its object with this script
+abbrev pub Starts : List ℕ → ℕ → ℕ → Message → ℕ → Manager → Type 0
+Starts s level stamp message script r =
+    (read : ℕ → ℕ → Value) → scriptSeen read (message .object) ≡ script → managerOf r ≡ started (programOf s) read level stamp message
 
 -- a manager that runs, with an accepted session, its level table and method index, words for its fields and for what was read
 pub record Advanceable (s masks index current cache : List ℕ) (m : Manager) : Type 0 where

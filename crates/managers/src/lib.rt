@@ -10,12 +10,10 @@ use session::Message;
 use session::Value;
 ghost use Prim.Native.Nat.{_≤_, _<_};
 ghost use mathlib.Core.Path.{_≡_};
-ghost use Rattle.session.specs.Program.{programOf};
+ghost use Rattle.session.specs.Parts.{objectCount};
 ghost use Rattle.scripts.specs.Limits.{maxScriptSteps};
-ghost use Rattle.scripts.specs.Manager.{started};
 ghost use Rattle.scripts.specs.Valid.{Indexed, Startable};
-ghost use Rattle.managers.specs.Manager.{managerOf};
-ghost use Rattle.managers.specs.Steps.{noManager, WellFormed, Advanceable, Advanced, Stepped};
+ghost use Rattle.managers.specs.Steps.{noManager, Starts, WellFormed, Advanceable, Advanced, Stepped};
 
 // How many frames of a manager wait below its top, at most.
 pub const MAX_WAITING: usize = MAX_FRAMES as usize - 1;
@@ -40,7 +38,7 @@ impl Manager {
     {
         let top = Frame {
             object: 0,
-            name: 0,
+            slot: 0,
             next: 0,
             start: 0,
             count: 0,
@@ -66,18 +64,25 @@ impl Manager {
         Manager { core, waiting }
     }
 
-    // The manager of a message, started at a level with a write stamp: its first frame is made, and an
-    // empty method ends at once.
-    pub fn start(session: &[u8], index: &[u16], level: u8, stamp: u16, message: Message) -> Manager
-        requires { ⌜ Indexed (now session) (now index) × Startable (now session) level stamp message ⌝ }
-        ensures { λ r. ⌜ (managerOf r ≡ started (programOf (now (session .entry))) level stamp message) × WellFormed (now (session .entry)) r ⌝ }
+    // The manager of a message, started at a level with a write stamp: its first frame is made, with the
+    // script that is read of its object, and an empty method ends at once.
+    pub fn start(
+        session: &[u8],
+        index: &[u16],
+        level: u8,
+        stamp: u16,
+        message: Message,
+        script: u8,
+    ) -> Manager
+        requires { ⌜ Indexed (now session) (now index) × Startable (now session) level stamp message × (script ≤ objectCount (now session)) ⌝ }
+        ensures { λ r. ⌜ Starts (now (session .entry)) level stamp message script r × WellFormed (now (session .entry)) r ⌝ }
     {
         let parameter = message.parameter;
         let top = Frame::new(
             session,
             index,
             message.object,
-            message.name,
+            frames::slot_of(script, message.name),
             FIRST_ANSWER,
             parameter,
         );
@@ -126,14 +131,13 @@ impl Manager {
             let effect = core.effect;
             if let Effect::Call {
                 object,
-                name,
-                answer,
+                way,
                 parameter,
             } = effect {
                 let f = core.top;
                 let at = core.height as usize - TOP;
                 waiting[at] = frames::set_aside(session, f);
-                core = core.pushed(session, index, object, name, answer, parameter);
+                core = core.pushed(session, index, object, way, parameter);
             } else if let Effect::Pop(reply) = effect {
                 let at = core.height as usize - BELOW_TOP;
                 core = core.popped(session, index, waiting[at], reply);

@@ -12,7 +12,7 @@ use Rattle.session.specs.Lists.{every, select, risingFrom, countsFrom, tab, joi
 use Rattle.session.specs.Record.{recordAt, recordsOf, wordOf, zeroAt, stepOf}
 use Rattle.session.specs.Parts.{ofKind, masksOf, methodRecords}
 use Rattle.session.specs.Questions.{question1, kindsRise, question2, question3, objectValid, question6, operandsFit, unusedBytes, stepValid, scriptValid, scriptsValid, rootValid, firstNo, verdictOf}
-use Rattle.session.specs.Meaning.{methodOf}
+use Rattle.session.specs.Meaning.{ownerOf, levelOf, methodOf}
 use Rattle.session.specs.Emptied.{emptied, blanked, stays}
 use Rattle.session.specs.SessionW.{sessionW}
 use Rattle.session.specs.Program.{Program, programOf, seenBy}
@@ -21,6 +21,7 @@ use Rattle.session.specs.declared.Message.{Message}
 use Rattle.session.specs.declared.Step.{Step}
 use Rattle.session.specs.declared.Step.the-variants.{End}
 use Rattle.filter.specs.Filter.{fateOf}
+use Rattle.scripts.specs.Existence.{initially}
 use Rattle.scripts.specs.Value.{sum, isNilOr0}
 use Rattle.scripts.specs.Frame.{withRegister}
 use Rattle.scripts.specs.Manager.{popped, settled, concluded, started, written, called, forked, sent, operated, stepped}
@@ -36,7 +37,7 @@ use Rattle.model.specs.Entries.{Request, Answer, entryRefusal, cleared, 
 use Rattle.model.specs.Reader.{bytesWritten}
 
 unfoldable pub computing : Unit {0}
-unfolding table.verdictOf all first reflexive antisymmetric transitive isOrder isLeast join hasJoins dominates namesPresent isOrdered every select risingFrom countsFrom tab joined recordAt recordsOf wordOf zeroAt stepOf ofKind masksOf methodRecords question1 kindsRise question2 question3 objectValid question6 operandsFit unusedBytes stepValid scriptValid scriptsValid rootValid firstNo verdictOf methodOf emptied blanked stays sessionW programOf seenBy fateOf sum isNilOr0 withRegister popped settled concluded started written called forked sent operated stepped inserted modify lastOr childOf endBefore arrived after newest newestTo viewOf readAt advanced begun moved delivered moveAt stepAt readIn isFree question14 question15 refusalUnder runUnder runOf lowest chosenFrom plainOrder current close effected finish runFork depthFirst objectRecord historyRecord replyRecord objectsShown historiesShown replyShown bytesOf entryRefusal cleared answerOf timetabled plain deep
+unfolding table.verdictOf all first reflexive antisymmetric transitive isOrder isLeast join hasJoins dominates namesPresent isOrdered every select risingFrom countsFrom tab joined recordAt recordsOf wordOf zeroAt stepOf ofKind masksOf methodRecords question1 kindsRise question2 question3 objectValid question6 operandsFit unusedBytes stepValid scriptValid scriptsValid rootValid firstNo verdictOf ownerOf levelOf methodOf emptied blanked stays sessionW programOf initially seenBy fateOf sum isNilOr0 withRegister popped settled concluded started written called forked sent operated stepped inserted modify lastOr childOf endBefore arrived after newest newestTo viewOf readAt advanced begun moved delivered moveAt stepAt readIn isFree question14 question15 refusalUnder runUnder runOf lowest chosenFrom plainOrder current close effected finish runFork depthFirst objectRecord historyRecord replyRecord objectsShown historiesShown replyShown bytesOf entryRefusal cleared answerOf timetabled plain deep
 computing = tt
 
 -- a session run for a clearance, lent so many numbers, each 7, and so many bytes, each 9

@@ -1,9 +1,4 @@
-pub mod Laws
 pub mod Computing
-pub mod Faults
-pub mod Demands
-pub mod Calls
-pub mod Readers
 pub mod Pairs
 pub mod ProvedCases
 pub mod Examples
@@ -11,5 +6,3 @@ pub mod Layouts
 pub mod Refusals
 pub mod Runs
 pub mod Orders
-pub mod Rules
-pub mod Ancestors

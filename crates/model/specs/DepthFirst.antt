@@ -1,6 +1,6 @@
 -- The depth-first run. Assumes nothing.
--- Laws: the depth-first run is a list of safe scheduler steps (`proofs/Laws/Deep/DeepRun`: `runs-forks`), so every list that finishes has
--- its fields, histories and reply (`Root`: `same-result`). The run step by step: `proofs/Laws/Code/DepthFirst`.
+-- Laws, in `theorems`: the depth-first run is a list of safe scheduler steps (`Laws/Deep/DeepRun`: `runs-forks`), so every list that finishes has
+-- its fields, histories and reply (`Root`: `same-result`). The run step by step: `Laws/Code/DepthFirst`.
 use Prim.Native.Nat.{ℕ, zero, suc, _+_}
 use mathlib.Core.Bool.{cond, _&&_}
 use mathlib.Core.List.{List, [], _∷_}
@@ -9,6 +9,7 @@ use lib.ListN.{length, getD, replicate}
 use Rattle.session.specs.Program.{Program}
 use Rattle.session.specs.declared.Value.{Value}
 use Rattle.session.specs.declared.Message.{Message}
+use Rattle.scripts.specs.Existence.{initially}
 use Rattle.scripts.specs.Limits.{maxScriptSteps}
 use Rattle.scripts.specs.Ending.{isRunning}
 use Rattle.scripts.specs.Manager.{started, stepped}
@@ -48,7 +49,7 @@ current initial object k (w ∷ ws) =
     cond (eqb (w .object) object && eqb (w .field) k) (w .value) (current initial object k ws)
 
 abbrev pub fieldNow : Program → Progress → ℕ → ℕ → Value
-fieldNow p g object k = current (p .field object k) object k (g .written)
+fieldNow p g object k = current (initially p object k) object k (g .written)
 
 -- a manager of fork x has ended at level l
 unfoldable pub close : ℕ → fork.Fork → Manager → Progress → Progress
@@ -84,7 +85,7 @@ finish run (suc k) p l x m g =
 unfoldable pub runFork : ℕ → Program → RunFork
 runFork zero p l x g = g
 runFork (suc left) p l x g =
-    finish (runFork left p) maxScriptSteps p l x (started p l (tallyAt g l .next) (x .message)) g
+    finish (runFork left p) maxScriptSteps p l x (started p (fieldNow p g) l (tallyAt g l .next) (x .message)) g
 
 -- the run of the root message
 unfoldable pub depthFirst : Program → Message → Progress

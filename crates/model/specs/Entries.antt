@@ -1,5 +1,5 @@
 -- The whole answers of the entries that run a session, for every input. Assumes nothing.
--- Laws (`proofs/Laws/Reader/Answers`): what a finished answer says: its questions said yes, and these are its bytes (`finished-run`,
+-- Laws, in `theorems` (`Laws/Reader/Answers`): what a finished answer says: its questions said yes, and these are its bytes (`finished-run`,
 -- `deep-bytes`).
 use Prim.Native.Nat.{ℕ}
 use mathlib.Core.Path.{_≡_}

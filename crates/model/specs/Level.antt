@@ -1,6 +1,6 @@
 -- A level and its manager: what waits, runs and has ended there, and the versions written. Assumes nothing.
--- Laws: two forks with different stamps leave the same level, whichever arrives first (`proofs/Laws/Steps/Arrivals`); write stamps of a
--- level rise (`proofs/Laws/Invariant/WriteStamps`, `State`), and its versions, newest first, never rise in theirs (`Versions`).
+-- Laws, in `theorems`: two forks with different stamps leave the same level, whichever arrives first (`Laws/Steps/Arrivals`); write stamps of a
+-- level rise (`Laws/Invariant/WriteStamps`, `State`), and its versions, newest first, never rise in theirs (`Versions`).
 use Prim.Native.Nat.{ℕ, _+_, _-_}
 use mathlib.Core.Bool.{Bool, true, false, not, cond, _&&_, _||_}
 use mathlib.Core.List.{List, [], _∷_}

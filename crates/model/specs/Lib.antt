@@ -10,9 +10,4 @@ pub mod DepthFirst
 pub mod Result
 pub mod Entries
 pub mod Reader
-pub mod Isolation
-pub mod Faults
-pub mod Demands
-pub mod Calls
 pub mod Rules
-pub mod Ancestors

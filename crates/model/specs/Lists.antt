@@ -1,5 +1,5 @@
 -- Lists kept in order, and lists changed at one place. Assumes nothing.
--- Laws: `proofs/Laws/Lists`.
+-- Laws, in `theorems`: `Laws/Lists`.
 use Prim.Native.Nat.{ℕ, zero, suc}
 use mathlib.Core.Bool.{cond}
 use mathlib.Core.List.{List, [], _∷_}

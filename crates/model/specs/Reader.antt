@@ -1,5 +1,5 @@
 -- What a reader of results compares. Assumes nothing.
--- Law (`proofs/Laws/Reader/Shown`): what a reader cleared to c is shown of a list that finishes is what he is shown of the depth-first run
+-- Law, in `theorems` (`Laws/Reader/Shown`): what a reader cleared to c is shown of a list that finishes is what he is shown of the depth-first run
 -- of what c sees (`reader-sees`).
 use Prim.Native.Nat.{ℕ}
 use mathlib.Core.Path.{_≡_}
@@ -9,8 +9,7 @@ use lib.ListN.{take}
 use Rattle.session.specs.Lists.{select}
 use Rattle.session.specs.Record.{Record}
 use Rattle.session.specs.Parts.{ofKind}
-use Rattle.session.specs.Program.{Program}
-use Rattle.model.specs.Result.{Result, levelIn, bytesOf}
+use Rattle.model.specs.Result.{levelIn}
 use Rattle.model.specs.Entries.{Answer}
 
 -- "A run .. is finished when every question it uses says yes"
@@ -35,10 +34,3 @@ pub record SameRecords (a b : List ℕ) : Type 0 where
   pub objects : ofKind 5 a ≡ ofKind 5 b
   pub histories : (l : ℕ) → historiesAt l a ≡ historiesAt l b
   pub reply : ofKind 7 a ≡ ofKind 7 b
-
--- Of results it comes to the same: the bytes of any two, of any programs and for any clearances, are equal exactly where their records are
-abbrev pub ComparedByRecords : Type 0
-ComparedByRecords =
-    (p p' : Program) (rootLevel rootLevel' : ℕ) (r r' : Result) (c c' : ℕ)
-    → (bytesOf p rootLevel r c ≡ bytesOf p' rootLevel' r' c' → SameRecords (bytesOf p rootLevel r c) (bytesOf p' rootLevel' r' c'))
-    × (SameRecords (bytesOf p rootLevel r c) (bytesOf p' rootLevel' r' c') → bytesOf p rootLevel r c ≡ bytesOf p' rootLevel' r' c')

@@ -1,6 +1,6 @@
 -- Result records. Assumes nothing.
--- Laws (`proofs/Laws/Reader/Bytes`): what a reader finds in the bytes of a result (`objects-found`, `histories-found`, `reply-found`), and that
--- they are made of it (`made-of-records`); what is read off a history's record (`Reader/Fields`).
+-- Laws, in `theorems` (`Laws/Reader/Bytes`): what a reader finds in the bytes of a result (`objects-found`, `histories-found`, `reply-found`), and
+-- that they are made of it (`made-of-records`); what is read off a history's record (`Reader/Fields`).
 use Prim.Native.Nat.{ℕ, _+_, _*_, _/_, _%_, _^_}
 use mathlib.Core.Bool.{cond}
 use mathlib.Core.List.{List, [], _∷_, _++_, map}
@@ -10,6 +10,7 @@ use Rattle.session.specs.Record.{Record, byteOf, wordOf}
 use Rattle.session.specs.Program.{Program}
 use Rattle.session.specs.declared.Value.{Value}
 use Rattle.session.specs.declared.Value.the-variants.{Nil}
+use Rattle.scripts.specs.Existence.{initially}
 use Rattle.scripts.specs.Value.{tag, numberIn}
 use Rattle.scripts.specs.Ending.{numberOfEnding}
 use Rattle.model.specs.History.{History}
@@ -26,7 +27,7 @@ pub record Result : Type 0 where
 abbrev pub resultOf : Program → State → Result
 resultOf p st =
     record {
-      field = λ o k. newest (p .field o k) o k (levelAt st (p .level o) .versions);
+      field = λ o k. newest (initially p o k) o k (levelAt st (p .level o) .versions);
       ended = λ l. levelAt st l .ended;
     }
 

@@ -1,7 +1,7 @@
 -- Lists of scheduler steps: questions 12 to 15, the timetabled run (document 01: timetable) and the plain order. Assumes nothing.
--- Laws: questions 12 to 14 say yes exactly where `MayStep` holds (`proofs/Laws/Steps/May`: `may-step`, `step-may`), and such a step is safe
--- (`proofs/Laws/Safe/Asked`: `may-safe`). All lists that finish end in the same state (`proofs/Laws/Order/Accepted`: `any-order`); the plain
--- order finishes (`Plain`: `plain-finishes`). A run of a list, step by step, and what the code relies on: `proofs/Laws/Code/Progress`.
+-- Laws, in `theorems`: questions 12 to 14 say yes exactly where `MayStep` holds (`Laws/Steps/May`: `may-step`, `step-may`), and such a step is safe
+-- (`Laws/Safe/Asked`: `may-safe`). All lists that finish end in the same state (`Laws/Order/Accepted`: `any-order`); the plain
+-- order finishes (`Plain`: `plain-finishes`). A run of a list, step by step, and what the code relies on: `Laws/Code/Progress`.
 use Prim.Native.Nat.{ℕ, zero, suc}
 use mathlib.Core.Path.{_≡_}
 use mathlib.Core.Bool.{Bool, true, not, cond, _&&_}

@@ -1,7 +1,7 @@
 -- A scheduler step at a level: what the level sees, and what it does. Assumes nothing.
--- Laws: what a step does depends on what its level sees alone, and a level that does not dominate its level does not see it
--- (`proofs/Laws/Steps/Locality`). Every step keeps the invariant (`proofs/Laws/Invariant/Preserved`: `step-preserves`). What it comes to, made from
--- the whole program and the whole state: `proofs/Laws/Code/Direct`.
+-- Laws, in `theorems`: what a step does depends on what its level sees alone, and a level that does not dominate its level does not see it
+-- (`Laws/Steps/Locality`). Every step keeps the invariant (`Laws/Invariant/Preserved`: `step-preserves`). What it comes to, made from
+-- the whole program and the whole state: `Laws/Code/Direct`.
 use Prim.Native.Nat.{ℕ}
 use mathlib.Core.Bool.{cond}
 use mathlib.Core.List.{List, [], _∷_}
@@ -10,6 +10,7 @@ use lib.ListN.{getD}
 use Rattle.session.specs.Lists.{tab}
 use Rattle.session.specs.Program.{Program, seenBy}
 use Rattle.session.specs.declared.Value.{Value}
+use Rattle.scripts.specs.Existence.{initially}
 use Rattle.scripts.specs.Manager.{started, stepped}
 use Rattle.scripts.specs.State.{Manager}
 use Rattle.scripts.specs.Effect.{Effect, Nothing, Write, Fork}
@@ -41,8 +42,8 @@ unfoldable pub readAt : Program → State → ℕ → fork.Fork → ℕ → ℕ 
 readAt p st l x object k =
     let j = p .level object in
     let written = levelAt st j .versions in
-    let below = newestTo (readBound x st j) (p .field object k) object k written in
-    cond (eqb j l) (newest (p .field object k) object k written) below
+    let below = newestTo (readBound x st j) (initially p object k) object k written in
+    cond (eqb j l) (newest (initially p object k) object k written) below
 
 -- a fork on its way, at most one
 pub data Arrival : Type 0 where
@@ -77,13 +78,14 @@ advanced p st l v x m =
     }
 
 -- "starts the waiting one of smallest fork stamp"
-unfoldable pub begun : Program → ℕ → Level → List fork.Fork → Moved
-begun p l v [] = record { own = v; arrival = none }
-begun p l v (x ∷ xs) = record { own = after v xs (v .versions) x (started p l (v .next) (x .message)); arrival = none }
+unfoldable pub begun : Program → State → ℕ → Level → List fork.Fork → Moved
+begun p st l v [] = record { own = v; arrival = none }
+begun p st l v (x ∷ xs) =
+    record { own = after v xs (v .versions) x (started p (readAt p st l x) l (v .next) (x .message)); arrival = none }
 
 -- "A scheduler step, with no manager running at the level, starts ..; otherwise it makes one script step"
 unfoldable pub moved : Program → State → ℕ → Level → Activity → Moved
-moved p st l v idle = begun p l v (v .waiting)
+moved p st l v idle = begun p st l v (v .waiting)
 moved p st l v (busy x m) = advanced p st l v x m
 
 -- a fork comes to its level

@@ -1,5 +1,5 @@
-// What a run is: definitions and theorems. Of code there are only the numbers that documents 01 and 02 fix for runs,
-// under the names that the definitions give them.
+// What a run is: definitions and computed cases; what is proved of every run is crate `theorems`. Of code there are
+// only the numbers that documents 01 and 02 fix for runs, under the names that the definitions give them.
 use scripts::MAX_WRITES;
 use session::limits::MAX_LEVELS;
 use session::limits::MAX_OBJECTS;

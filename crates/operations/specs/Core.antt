@@ -17,7 +17,7 @@ use Rattle.scripts.specs.State as defined
 use Rattle.scripts.specs.Frame.{frameFor}
 use Rattle.scripts.specs.Manager.{popped, concluded}
 use Rattle.scripts.specs.declared.Ended.{Ended}
-use Rattle.frames.specs.Frames.{intoOf, returnsOf, frameOf, Method, Placed}
+use Rattle.frames.specs.Frames.{intoOf, returnsOf, slotOn, answerOn, scriptIn, nameIn, frameOf, Method, Called, Placed}
 use Rattle.operations.specs.declared.Core.{Core}
 use Rattle.operations.specs.declared.Effect.{Effect}
 use Rattle.operations.specs.declared.Effect.the-variants.{Nothing, End, Write, Read, Fork, Call, Pop}
@@ -53,7 +53,7 @@ effectOf End = effect.Nothing
 effectOf (Write object field value) = effect.Write object field value
 effectOf (Read object field) = effect.Nothing
 effectOf (Fork level object name parameter) = effect.Fork level (record { object = object; name = name; parameter = parameter })
-effectOf (Call object name answer parameter) = effect.Nothing
+effectOf (Call object way parameter) = effect.Nothing
 effectOf (Pop reply) = effect.Nothing
 
 -- what a core above frames that wait comes to: what is left to do to the frames is done, then the pops of the step are made
@@ -63,8 +63,8 @@ settledOf p c gs End = bare c (stackOf (c .height) (frameOf (c .top)) gs)
 settledOf p c gs (Write object field value) = concluded p (standing c gs)
 settledOf p c gs (Read object field) = standing c gs
 settledOf p c gs (Fork level object name parameter) = concluded p (standing c gs)
-settledOf p c gs (Call object name answer parameter) =
-    concluded p (bare c (frameFor object name (intoOf answer) (returnsOf answer) parameter ∷ frameOf (c .top) ∷ gs))
+settledOf p c gs (Call object way parameter) =
+    concluded p (bare c (frameFor object (scriptIn (slotOn way)) (nameIn (slotOn way)) (intoOf (answerOn way)) (returnsOf (answerOn way)) parameter ∷ frameOf (c .top) ∷ gs))
 settledOf p c gs (Pop reply) = concluded p (popped (standing c gs) reply)
 
 unfoldable pub comesTo : Program → Core → List defined.Frame → defined.Stepped
@@ -77,7 +77,7 @@ isOver End = true
 isOver (Write object field value) = false
 isOver (Read object field) = false
 isOver (Fork level object name parameter) = false
-isOver (Call object name answer parameter) = false
+isOver (Call object way parameter) = false
 isOver (Pop reply) = false
 
 -- is it a READ that is asked for
@@ -87,7 +87,7 @@ isAsking End = false
 isAsking (Write object field value) = false
 isAsking (Read object field) = true
 isAsking (Fork level object name parameter) = false
-isAsking (Call object name answer parameter) = false
+isAsking (Call object way parameter) = false
 isAsking (Pop reply) = false
 
 -- is nothing left to do
@@ -97,7 +97,7 @@ isNothing End = false
 isNothing (Write object field value) = false
 isNothing (Read object field) = false
 isNothing (Fork level object name parameter) = false
-isNothing (Call object name answer parameter) = false
+isNothing (Call object way parameter) = false
 isNothing (Pop reply) = false
 
 -- is nothing left to do to the frames
@@ -107,7 +107,7 @@ isDone End = true
 isDone (Write object field value) = true
 isDone (Read object field) = true
 isDone (Fork level object name parameter) = true
-isDone (Call object name answer parameter) = false
+isDone (Call object way parameter) = false
 isDone (Pop reply) = false
 
 -- there is a frame to pop to, and room for one to make
@@ -117,7 +117,7 @@ Tall End h = Unit
 Tall (Write object field value) h = Unit
 Tall (Read object field) h = Unit
 Tall (Fork level object name parameter) h = Unit
-Tall (Call object name answer parameter) h = h < maxFrames
+Tall (Call object way parameter) h = h < maxFrames
 Tall (Pop reply) h = 1 < h
 
 -- what a step concerns is there
@@ -127,7 +127,7 @@ Present s End = Unit
 Present s (Write object field value) = (object < objectCount s) × (field < fields)
 Present s (Read object field) = (object < objectCount s) × (field < fields)
 Present s (Fork level object name parameter) = (level < levelCount s) × Method object name s
-Present s (Call object name answer parameter) = Method object name s
+Present s (Call object way parameter) = Called object (slotOn way) s
 Present s (Pop reply) = Unit
 
 -- a core within its limits. One that no step has ended runs and has a frame

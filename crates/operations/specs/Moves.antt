@@ -22,8 +22,8 @@ use Rattle.scripts.specs.Valid.{Leveled}
 use Rattle.scripts.specs.declared.Ending.{Ending}
 use Rattle.scripts.specs.declared.Ending.the-variants.{Finished, OutOfSteps, OutOfWrites}
 use Rattle.words.specs.Limits.{fieldWords}
-use Rattle.words.specs.Reads.{isAvailable, Agrees}
-use Rattle.frames.specs.Frames.{intoOf, returnsOf, frameOf, asideOf, waitingFor, topFrom, Becomes, Placed}
+use Rattle.words.specs.Reads.{isAvailable, AllThere, Agrees}
+use Rattle.frames.specs.Frames.{intoOf, returnsOf, slotOn, answerOn, frameOf, asideOf, topFor, Becomes, Placed}
 use Rattle.frames.specs.declared.Frame.{Frame}
 use Rattle.frames.specs.declared.Waiting.{Waiting}
 use Rattle.operations.specs.Core.{standing, comesTo, isOver, isAsking, Present, Sits}
@@ -184,7 +184,7 @@ pub record Operated (s current cache : List ℕ) (all : Bool) (c r : Core) : Typ
 
 -- an operation of document 01's is made, as one script step
 pub record OperationMade (s : List ℕ) (i : Step) (c r : Core) : Type 0 where
-  pub is : (read : ℕ → ℕ → Value) (gs : List defined.Frame) → suc (length gs) ≡ c .height → comesTo (programOf s) r gs ≡ counting (programOf s) (operated (programOf s) read (standing c gs) (passed (standing c gs)) i)
+  pub is : (read : ℕ → ℕ → Value) → AllThere s read → (gs : List defined.Frame) → suc (length gs) ≡ c .height → comesTo (programOf s) r gs ≡ counting (programOf s) (operated (programOf s) read (standing c gs) (passed (standing c gs)) i)
   pub level-is : r .level ≡ c .level
   pub first-is : r .first ≡ c .first
   pub steps-are : r .steps ≡ c .steps + 1
@@ -224,9 +224,9 @@ restacked c h f =
     }
 
 -- a frame was made above the top
-pub record Pushed (s : List ℕ) (c : Core) (object name answer : ℕ) (parameter : Value) (r : Core) : Type 0 where
+pub record Pushed (s : List ℕ) (c : Core) (object way : ℕ) (parameter : Value) (r : Core) : Type 0 where
   pub core-is : r ≡ restacked c (c .height + 1) (r .top)
-  pub top-is : r .top ≡ topFrom (waitingFor object name answer parameter) (r .top .start) (r .top .count)
+  pub top-is : r .top ≡ topFor object (slotOn way) (answerOn way) parameter (r .top .start) (r .top .count)
   pub top-placed : Placed s (r .top)
 
 -- the top has popped with a reply to the frame that waited below it

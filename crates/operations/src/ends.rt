@@ -1,6 +1,7 @@
 // Frames made and popped, and how a manager stands after that.
 use crate::Core;
 use crate::Effect;
+use frames::ANSWERS;
 use frames::Frame;
 use frames::Waiting;
 use scripts::Ending;
@@ -13,7 +14,7 @@ ghost use lib.Dec.{ltb, leb};
 ghost use Rattle.scripts.specs.Limits.{maxFrames};
 ghost use Rattle.scripts.specs.Ending.{isRunning};
 ghost use Rattle.scripts.specs.Valid.{Indexed};
-ghost use Rattle.frames.specs.Frames.{asideOf, Method, Waits};
+ghost use Rattle.frames.specs.Frames.{slotOn, asideOf, Called, Waits};
 ghost use Rattle.operations.specs.Moves.{Pushed, Popped, finishedAs, closedAs};
 
 impl Core {
@@ -23,14 +24,14 @@ impl Core {
         session: &[u8],
         index: &[u16],
         object: u8,
-        name: u8,
-        answer: u8,
+        way: u16,
         parameter: Value,
     ) -> Core
-        requires { ⌜ Indexed (now session) (now index) × Method object name (now session) × (self .height < maxFrames) ⌝ }
-        ensures { λ r. ⌜ Pushed (now (session .entry)) self object name answer parameter r ⌝ }
+        requires { ⌜ Indexed (now session) (now index) × Called object (slotOn way) (now session) × (self .height < maxFrames) ⌝ }
+        ensures { λ r. ⌜ Pushed (now (session .entry)) self object way parameter r ⌝ }
     {
-        let top = Frame::new(session, index, object, name, answer, parameter);
+        let answer = (way % ANSWERS) as u8;
+        let top = Frame::new(session, index, object, way / ANSWERS, answer, parameter);
         let height = self.height + 1;
         Core {
             height,

@@ -61,8 +61,7 @@ pub enum Effect {
     // A frame is to be made above the top. Nobody outside sees this.
     Call {
         object: u8,
-        name: u8,
-        answer: u8,
+        way: u16,
         parameter: Value,
     },
     // The top is to pop with a reply. Nobody outside sees this.

@@ -11,7 +11,7 @@ use session::Value;
 ghost use Prim.Native.Nat.{_≤_, _<_};
 ghost use mathlib.Core.Path.{_≡_};
 ghost use mathlib.Core.Bool.{cond};
-ghost use Rattle.session.specs.Limits.{maxObjects, fields, registers};
+ghost use Rattle.session.specs.Limits.{maxObjects, fields, registers, names};
 ghost use Rattle.session.specs.Parts.{levelCount, objectCount};
 ghost use Rattle.scripts.specs.Limits.{maxScriptSteps};
 ghost use Rattle.scripts.specs.Value.{isNilOr0};
@@ -62,11 +62,11 @@ impl Core {
         self.pass()
     }
 
-    // A frame above the top, of name `b` of object `c`, whose reply goes to register `a`. A ninth is not
-    // made.
-    pub fn call(self, a: u8, b: u8, c: u8, returns: bool) -> Core
-        requires { ⌜ Able self × (a < registers) ⌝ }
-        ensures { λ r. ⌜ Makes (Method c b) self r (λ m. called m (passed m) a (frameFor c b a returns (register (passed m) a))) ⌝ }
+    // A frame above the top, of name `b` of object `c` with a script, whose reply goes to register `a`. A
+    // ninth is not made.
+    pub fn call(self, a: u8, b: u8, c: u8, script: u8, returns: bool) -> Core
+        requires { ⌜ Able self × (a < registers) × (b < names) ⌝ }
+        ensures { λ r. ⌜ Makes (λ s. (c < objectCount s) × (script ≤ objectCount s)) self r (λ m. called m (passed m) a (frameFor c script b a returns (register (passed m) a))) ⌝ }
     {
         if self.height >= MAX_FRAMES {
             return self.put(a, Value::Nil);
@@ -76,8 +76,7 @@ impl Core {
         let m = self.pass();
         m.causing(Effect::Call {
             object: c,
-            name: b,
-            answer: frames::answer_of(a, returns),
+            way: frames::way_of(frames::slot_of(script, b), frames::answer_of(a, returns)),
             parameter,
         })
     }

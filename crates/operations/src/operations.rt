@@ -70,8 +70,9 @@ impl Core {
         let receiver = contents::level_of(session, masks, c as usize);
         let fate = filter::fate_of(masks, self.level as usize, sender, receiver);
         match fate {
-            Fate::Call => self.call(a, b, c, true),
-            Fate::Discard => self.call(a, b, c, false),
+            // A frame finds its object's own methods: no operation writes existence.
+            Fate::Call => self.call(a, b, c, c + 1, true),
+            Fate::Discard => self.call(a, b, c, c + 1, false),
             Fate::Block => self.put(a, Value::Nil),
             Fate::Fork(u) => self.fork(a, b, c, u as u8),
         }

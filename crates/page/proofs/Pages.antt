@@ -28,13 +28,13 @@ use Rattle.model.specs.Limits.{maxManagers}
 use Rattle.model.specs.Result.{Result, historyRecord, historiesShown, bytesOf, stepsIn}
 use Rattle.model.specs.Entries.{Request, Answer, question9, question11, entryRefusal, writtenOver, deep}
 use Rattle.model.specs.Reader.{bytesWritten, historiesAt}
-use Rattle.model.specs.Demands.{DepthFirstRun}
-use Rattle.model.specs.Faults.{asks}
-use Rattle.model.proofs.Faults.{firstOf, past, checked, first-is, first-not, all-zero, put-of}
-use Rattle.model.proofs.Demands.{deep-emptied, histories-limited}
-use Rattle.model.proofs.Laws.Reader.Answers.{passes, deep-is, deep-finished, deep-passes, deep-bytes}
-use Rattle.model.proofs.Laws.Reader.Bytes.{chosen-groups, histories-found, histories-of-level, histories-of-none, histories-by-level, written-bytes}
-use Rattle.model.proofs.Laws.Reader.Fields.{level-read, ending-read, writes-read, stamp-read, first-read, last-read, steps-read}
+use Rattle.theorems.specs.Demands.{DepthFirstRun}
+use Rattle.theorems.specs.Faults.{asks}
+use Rattle.theorems.proofs.Faults.{firstOf, past, checked, first-is, first-not, all-zero, put-of}
+use Rattle.theorems.proofs.Demands.{deep-emptied, histories-limited}
+use Rattle.theorems.proofs.Laws.Reader.Answers.{passes, deep-is, deep-finished, deep-passes, deep-bytes}
+use Rattle.theorems.proofs.Laws.Reader.Bytes.{chosen-groups, histories-found, histories-of-level, histories-of-none, histories-by-level, written-bytes}
+use Rattle.theorems.proofs.Laws.Reader.Fields.{level-read, ending-read, writes-read, stamp-read, first-read, last-read, steps-read}
 use Rattle.page.specs.Entries.{question16, pageRefusal, paged}
 use Rattle.page.specs.Text.{sumOf, historiesIn, totalOf, managersAt, stepsAt, quotientAt, remainderAt, levelsIn, pageOf}
 use Rattle.page.specs.Pages.{SamePage, PageCalled, SamePageCalls, pageAsks, Demand1Page, ReadBack, AllReadBack, HasLine, LevelReadBack, PagesFit, LevelsAveraged, LevelsTotal, leftBy, LevelsShown}

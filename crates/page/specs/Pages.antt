@@ -12,9 +12,9 @@ use Rattle.session.specs.Emptied.{emptied}
 use Rattle.model.specs.DepthFirst.{depthFirst}
 use Rattle.model.specs.Result.{Result, resultOfDepthFirst, historyRecord, levelIn, endingIn, writesIn, stampIn, firstIn, lastIn, stepsIn}
 use Rattle.model.specs.Entries.{Request, Answer, question9, question11, bytesFor, writtenOver}
-use Rattle.model.specs.Faults.{Question, asks, checkAsks, AllYes, FirstNo, Put}
+use Rattle.theorems.specs.Faults.{Question, asks, checkAsks, AllYes, FirstNo, Put}
 use Rattle.model.specs.Reader.{bytesWritten, EqualToReader, historiesAt}
-use Rattle.model.specs.Demands.{DepthFirstRun}
+use Rattle.theorems.specs.Demands.{DepthFirstRun}
 use Rattle.page.specs.declared.PageAnswer.{PageAnswer}
 use Rattle.page.specs.Entries.{question16, paged, PageAnswers}
 use Rattle.page.specs.Text.{lineOf, totalLine, sumOf, totalOf, historiesIn, managersAt, stepsAt, quotientAt, remainderAt, levelsIn, averageOf, pageOf, readAligned, readHex}

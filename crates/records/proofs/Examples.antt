@@ -7,6 +7,7 @@ use Rattle.lattice.specs.Table.{dominates}
 use Rattle.session.specs.Lists.{tab, select, joined}
 use Rattle.session.specs.Record.{recordAt, recordsOf}
 use Rattle.session.specs.Parts.{ofKind, masksOf}
+use Rattle.session.specs.Meaning.{ownerOf, levelOf}
 use Rattle.session.specs.Program.{programOf}
 use Rattle.session.specs.SessionW.{sessionW}
 use Rattle.words.specs.Fields.{fieldAt}
@@ -46,5 +47,5 @@ pub record Examples : Type 0 where
   m2 : bytesFor 1 ≡ object0 ++ object1 ++ history0 ++ history1 ++ reply
 
 pub examples : Examples
-unfolding dominates tab select joined recordAt recordsOf ofKind masksOf programOf sessionW objectRecord historyRecord replyRecord objectsShown historiesShown replyShown bytesOf rowAt rowsAt fieldAt historyOfRow historiesAt
+unfolding dominates tab select joined recordAt recordsOf ofKind masksOf ownerOf levelOf programOf sessionW objectRecord historyRecord replyRecord objectsShown historiesShown replyShown bytesOf rowAt rowsAt fieldAt historyOfRow historiesAt
 examples = record { m1 = refl; m2 = refl }

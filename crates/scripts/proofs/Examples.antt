@@ -1,7 +1,7 @@
 -- Managers over small programs, computed by the definitions. Assumes nothing.
 use Prim.Native.Nat.{ℕ, zero, suc, _+_, _*_}
 use mathlib.Core.Path.{_≡_, refl}
-use mathlib.Core.Bool.{true, cond}
+use mathlib.Core.Bool.{true, cond, _&&_}
 use mathlib.Core.List.{List, [], _∷_, _++_}
 use lib.Dec.{eqb}
 use lib.ListN.{length, getD, replicate}
@@ -14,6 +14,7 @@ use Rattle.session.specs.declared.Value.the-variants.{Nil, Number}
 use Rattle.session.specs.declared.Step.{Step}
 use Rattle.session.specs.declared.Step.the-variants.{End, Set, Add, Jump, Read, Write, Send, Quit}
 use Rattle.filter.specs.Filter.{fateOf}
+use Rattle.scripts.specs.Existence.{existence, ownScript, initially}
 use Rattle.scripts.specs.Value.{sum, isNilOr0}
 use Rattle.scripts.specs.Frame.{withRegister}
 use Rattle.scripts.specs.Ending.{numberOfEnding, isRunning}
@@ -35,13 +36,17 @@ programWith levels methods =
       step = λ o name j. cond (eqb name 0) (getD (getD methods o []) j End) End;
     }
 
--- what a READ sees: another number for each field of each object
+-- what a READ sees: another number for each field of each object. Each object is there, with its own methods
 abbrev shown : ℕ → ℕ → Value
-shown o k = Number (3 * o + k + 5)
+shown o k = cond (eqb k existence) (Number (ownScript o)) (Number (3 * o + k + 5))
+
+-- the same, but of existence: object 1 has this one's script
+abbrev seenWith : Value → ℕ → ℕ → Value
+seenWith v o k = cond (eqb o 1 && eqb k existence) v (shown o k)
 
 -- the manager of a message to object 0, at a level, after k script steps
 unfoldable pub manager : Program → ℕ → ℕ → Manager
-manager p level zero = started p level 1 (record { object = 0; name = 0; parameter = Number 4 })
+manager p level zero = started p shown level 1 (record { object = 0; name = 0; parameter = Number 4 })
 manager p level (suc k) = stepped p shown (manager p level k) .manager
 
 -- what the script step after them does outside
@@ -80,6 +85,18 @@ eight = Set 0 8 ∷ Quit 0 ∷ []
 abbrev silent : List Step
 silent = Set 0 8 ∷ []
 
+-- the manager of a message to object 1, which is seen with an existence, as it starts; object 1 has a method 0 and object 2 another
+abbrev found : Value → Manager
+found v =
+    started (programWith [] ([] ∷ eight ∷ (Set 0 7 ∷ Set 0 6 ∷ Quit 0 ∷ []) ∷ [])) (seenWith v) 0 1 (record { object = 1; name = 0; parameter = Number 4 })
+
+-- object 0 sends to object 1, which is seen with an existence, and sets a register; after that
+unfoldable sentTo : Value → ℕ → Manager
+sentTo v zero =
+    started (programWith [] ((Send 0 0 1 ∷ Set 1 1 ∷ []) ∷ eight ∷ (Set 0 7 ∷ Set 0 6 ∷ Quit 0 ∷ []) ∷ [])) (seenWith v) 0 1 (record { object = 0; name = 0; parameter = Number 4 })
+sentTo v (suc k) =
+    stepped (programWith [] ((Send 0 0 1 ∷ Set 1 1 ∷ []) ∷ eight ∷ (Set 0 7 ∷ Set 0 6 ∷ Quit 0 ∷ []) ∷ [])) (seenWith v) (sentTo v k) .manager
+
 -- sends to itself, then sets a register
 abbrev deeper : List Step
 deeper = Send 0 0 0 ∷ Set 1 1 ∷ []
@@ -106,7 +123,7 @@ forking = programWith (0 ∷ 1 ∷ []) ((filling ++ replicate 15 (Send 0 0 1) ++
 
 -- a manager at level 2 and write stamp 5, started for a message by a name to object 1, which has a method 0
 abbrev startedBy : ℕ → Manager
-startedBy name = started (programWith [] ([] ∷ eight ∷ [])) 2 5 (record { object = 1; name = name; parameter = Number 4 })
+startedBy name = started (programWith [] ([] ∷ eight ∷ [])) shown 2 5 (record { object = 1; name = name; parameter = Number 4 })
 
 pub record Examples : Type 0 where
   -- a manager's start: its level and write stamps, and its first frame, for its message
@@ -115,6 +132,22 @@ pub record Examples : Type 0 where
   start-stands : standing (startedBy 0) ≡ 1 ∷ 0 ∷ 0 ∷ 0 ∷ []
   start-registers : registers (startedBy 0) ≡ Number 4 ∷ Nil ∷ Nil ∷ Nil ∷ []
   start-name : standing (startedBy 1) ≡ 0 ∷ 0 ∷ 0 ∷ 0 ∷ []
+  -- existence at first: the objects of the session are there with their own methods, others never were, and fields are the session's
+  first-there : initially (programWith [] []) 2 existence ≡ Number 3
+  first-absent : initially (programWith [] []) 3 existence ≡ Nil
+  first-made : initially (programWith [] []) 32 existence ≡ Nil
+  first-field : initially (programWith [] []) 2 2 ≡ Nil
+  -- "A message to an object that isn't there .. finds an empty method": never made, or withdrawn. One that is there has its script's methods
+  started-never : standing (found Nil) ≡ 0 ∷ 0 ∷ 0 ∷ 0 ∷ []
+  started-withdrawn : standing (found (Number 0)) ≡ 0 ∷ 0 ∷ 0 ∷ 0 ∷ []
+  started-own : standing (found (Number 2)) ≡ 1 ∷ 0 ∷ 0 ∷ 0 ∷ []
+  started-made : standing (stepped (programWith [] ([] ∷ eight ∷ (Set 0 7 ∷ Set 0 6 ∷ Quit 0 ∷ []) ∷ [])) shown (found (Number 3)) .manager) ≡ 1 ∷ 1 ∷ 0 ∷ 0 ∷ []
+  started-made-sets : registers (stepped (programWith [] ([] ∷ eight ∷ (Set 0 7 ∷ Set 0 6 ∷ Quit 0 ∷ []) ∷ [])) shown (found (Number 3)) .manager) ≡ Number 7 ∷ Nil ∷ Nil ∷ Nil ∷ []
+  sent-never : registers (sentTo Nil 1) ≡ Nil ∷ Nil ∷ Nil ∷ Nil ∷ []
+  sent-withdrawn : standing (sentTo (Number 0) 1) ≡ 1 ∷ 1 ∷ 0 ∷ 0 ∷ []
+  sent-own : registers (sentTo (Number 2) 2) ≡ Number 8 ∷ Nil ∷ Nil ∷ Nil ∷ []
+  sent-made : registers (sentTo (Number 3) 2) ≡ Number 7 ∷ Nil ∷ Nil ∷ Nil ∷ []
+  sent-made-of : top (sentTo (Number 3) 2) .object ≡ 1
   -- "SET a to n"
   set : alone (Set 1 3 ∷ Quit 1 ∷ []) 2 .reply ≡ Number 3
   fills : registers (alone (filling ++ Quit 0 ∷ []) 3) ≡ Number 4 ∷ Number 5 ∷ Number 6 ∷ Number 7 ∷ []
@@ -205,7 +238,7 @@ pub record Examples : Type 0 where
   sixteenth-stands : standing (manager forking 0 19) ≡ 1 ∷ 19 ∷ 0 ∷ 0 ∷ []
 
 pub examples : Examples
-unfolding all first isLeast join dominates fateOf sum isNilOr0 withRegister popped settled concluded started written called forked sent operated stepped manager
+unfolding initially all first isLeast join dominates fateOf sum isNilOr0 withRegister popped settled concluded started written called forked sent operated stepped manager sentTo
 examples =
     record {
       start-level = refl;
@@ -213,6 +246,20 @@ examples =
       start-stands = refl;
       start-registers = refl;
       start-name = refl;
+      first-there = refl;
+      first-absent = refl;
+      first-made = refl;
+      first-field = refl;
+      started-never = refl;
+      started-withdrawn = refl;
+      started-own = refl;
+      started-made = refl;
+      started-made-sets = refl;
+      sent-never = refl;
+      sent-withdrawn = refl;
+      sent-own = refl;
+      sent-made = refl;
+      sent-made-of = refl;
       set = refl;
       fills = refl;
       add = refl;

@@ -1,4 +1,5 @@
 -- Laws of a manager: what a script step may change. The runs cite these, not the text of the step.
+pub mod Existence
 pub mod Counts
 pub mod Effects
 pub mod Endings

@@ -7,12 +7,13 @@ use Rattle.session.specs.declared.Value.{Value}
 use Rattle.session.specs.declared.Value.the-variants.{Nil}
 use Rattle.scripts.specs.State.{Frame}
 
--- "A frame has registers 0 to 3 ..; register 0 starts as the parameter, the rest NIL": a frame for a message, whose reply goes to the
--- sender's register `into`, or is thrown away
-abbrev pub frameFor : ℕ → ℕ → ℕ → Bool → Value → Frame
-frameFor object name into returns parameter =
+-- "A frame has registers 0 to 3 ..; register 0 starts as the parameter, the rest NIL": a frame for a message to an object, with a script,
+-- whose reply goes to the sender's register `into`, or is thrown away
+abbrev pub frameFor : ℕ → ℕ → ℕ → ℕ → Bool → Value → Frame
+frameFor object script name into returns parameter =
     record {
       object = object;
+      script = script;
       name = name;
       next = 0;
       into = into;
@@ -25,7 +26,7 @@ frameFor object name into returns parameter =
 
 -- where no frame is
 abbrev pub noFrame : Frame
-noFrame = frameFor 0 0 0 false Nil
+noFrame = frameFor 0 0 0 0 false Nil
 
 -- what a register holds. Question 7 lets no step name one above 3
 abbrev pub register : Frame → ℕ → Value
@@ -36,6 +37,7 @@ abbrev registers : Frame → Value → Value → Value → Value → Frame
 registers f w0 w1 w2 w3 =
     record {
       object = f .object;
+      script = f .script;
       name = f .name;
       next = f .next;
       into = f .into;
@@ -58,6 +60,7 @@ abbrev pub atStep : Frame → ℕ → Frame
 atStep f j =
     record {
       object = f .object;
+      script = f .script;
       name = f .name;
       next = j;
       into = f .into;

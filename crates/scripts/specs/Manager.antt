@@ -5,7 +5,7 @@
 -- pops of a step one at a time (`Settle`). A step depends on the values that it reads, not on how they are found (`Reads`). Each frame is
 -- of an object that the manager's level dominates, so a manager takes nothing of what its level does not see (`Within`: `stepped-within`,
 -- `stepped-seen`).
-use Prim.Native.Nat.{ℕ, _+_}
+use Prim.Native.Nat.{ℕ, zero, suc, _+_}
 use mathlib.Core.Bool.{Bool, true, false, cond}
 use mathlib.Core.List.{List, [], _∷_}
 use lib.Dec.{eqb, ltb}
@@ -21,6 +21,7 @@ use Rattle.filter.specs.declared.Fate.{Fate}
 use Rattle.filter.specs.declared.Fate.the-variants as fate
 use Rattle.scripts.specs.Limits.{maxFrames, maxScriptSteps, maxWrites, maxForks}
 use Rattle.scripts.specs.Value.{sum, isNilOr0}
+use Rattle.scripts.specs.Existence.{scriptSeen}
 use Rattle.scripts.specs.Ending.{isRunning}
 use Rattle.scripts.specs.Effect as effect
 use Rattle.scripts.specs.State.{Frame, Manager, Stepped}
@@ -112,9 +113,14 @@ isEnd (Write a b) = false
 isEnd (Send a b c) = false
 isEnd (Quit a) = false
 
+-- a step of a script, counted from 0, or the script's end
+abbrev pub scriptStep : Program → ℕ → ℕ → ℕ → Step
+scriptStep p zero name j = End
+scriptStep p (suc w) name j = p .step w name j
+
 -- the step that a frame makes next, or its script's end
 abbrev pub nextStep : Program → Frame → Step
-nextStep p f = p .step (f .object) (f .name) (f .next)
+nextStep p f = scriptStep p (f .script) (f .name) (f .next)
 
 -- "A top frame at its script's end pops inside the same step, replying NIL; a sender waiting under another frame does not until, still
 -- inside that step, it becomes the top": frame f on top of those below it
@@ -139,10 +145,10 @@ concluded p m =
     let n = settledFrom p m (m .frames) in
     withCounts n (n .steps) (n .writes) (n .forks) (n .stamp) (endingOf (n .frames) (ltb (n .steps) maxScriptSteps))
 
--- A manager starts: its "first frame is made then"; "An empty first method ends in the start step". Its level, its first write stamp,
--- its message
-unfoldable pub started : Program → ℕ → ℕ → Message → Manager
-started p level stamp message =
+-- A manager starts: its "first frame is made then"; "An empty first method ends in the start step". What a READ sees, its level, its first
+-- write stamp, its message. "A message to an object that isn't there, as a READ would see it when the frame is made, finds an empty method"
+unfoldable pub started : Program → (ℕ → ℕ → Value) → ℕ → ℕ → Message → Manager
+started p read level stamp message =
     concluded p (record {
       level = level;
       first = stamp;
@@ -152,7 +158,7 @@ started p level stamp message =
       forks = 0;
       ending = Running;
       reply = Nil;
-      frames = frameFor (message .object) (message .name) 0 true (message .parameter) ∷ [];
+      frames = frameFor (message .object) (scriptSeen read (message .object)) (message .name) 0 true (message .parameter) ∷ [];
     })
 
 -- "WRITE a to field b": "takes effect only if the object's level is m; otherwise it does nothing"; "a seventeenth write, counted as a step
@@ -191,12 +197,13 @@ forked m f a u message =
     })
     (record { manager = n; effect = effect.Nothing })
 
--- "SEND name b to object c with parameter a; the reply goes to a", by what becomes of the message
-unfoldable pub sent : Manager → Frame → ℕ → ℕ → ℕ → Fate → Stepped
-sent m f a b c fate.Call = called m f a (frameFor c b a true (register f a))
-sent m f a b c fate.Discard = called m f a (frameFor c b a false (register f a))
-sent m f a b c fate.Block = record { manager = withTop m (withRegister f a Nil); effect = effect.Nothing }
-sent m f a b c (fate.Fork u) = forked m f a u (record { object = c; name = b; parameter = register f a })
+-- "SEND name b to object c with parameter a; the reply goes to a", by what becomes of the message. A frame finds the methods that its
+-- object has then, as a READ would see it
+unfoldable pub sent : (ℕ → ℕ → Value) → Manager → Frame → ℕ → ℕ → ℕ → Fate → Stepped
+sent read m f a b c fate.Call = called m f a (frameFor c (scriptSeen read c) b a true (register f a))
+sent read m f a b c fate.Discard = called m f a (frameFor c (scriptSeen read c) b a false (register f a))
+sent read m f a b c fate.Block = record { manager = withTop m (withRegister f a Nil); effect = effect.Nothing }
+sent read m f a b c (fate.Fork u) = forked m f a u (record { object = c; name = b; parameter = register f a })
 
 -- one operation, by a top frame that has passed it. `read` is what a READ of a field of an object sees
 unfoldable pub operated : Program → (ℕ → ℕ → Value) → Manager → Frame → Step → Stepped
@@ -210,7 +217,7 @@ operated p read m f (Read a b) =
     record { manager = withTop m (withRegister f a (read (f .object) b)); effect = effect.Nothing }
 operated p read m f (Write a b) = written p m f b (register f a)
 operated p read m f (Send a b c) =
-    sent m f a b c (fateOf (p .levels) (p .dom) (m .level) (p .level (f .object)) (p .level c))
+    sent read m f a b c (fateOf (p .levels) (p .dom) (m .level) (p .level (f .object)) (p .level c))
 operated p read m f (Quit a) = record { manager = popped (withTop m f) (register f a); effect = effect.Nothing }
 
 -- the step counted and concluded; "2 wins over 1", and after a seventeenth write nothing pops

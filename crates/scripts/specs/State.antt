@@ -9,6 +9,8 @@ use Rattle.scripts.specs.declared.Ending.{Ending}
 -- a method that is running, or waits for the reply of the frame above it
 pub record Frame : Type 0 where
   pub object : ℕ
+  -- whose methods it runs: 0 where it runs none, w + 1 where they are those of object w
+  pub script : ℕ
   pub name : ℕ
   -- the step that is made next, counted from 0
   pub next : ℕ

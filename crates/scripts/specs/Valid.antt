@@ -1,7 +1,7 @@
 -- Which managers the code is called with: what its own contracts require. No meaning rests on these. Assumes nothing.
 -- Laws: what start and step leave is valid (`proofs/Laws/Valid`: `started-valid`, `stepped-valid`); what a step names, writes and forks
 -- concerns present objects, fields 0 to 2 and names 0 to 15 (`next-fits` and `next-present` of `Accepted`, `stepped-present` of `Valid`).
-use Prim.Native.Nat.{ℕ, _+_, _≤_, _<_}
+use Prim.Native.Nat.{ℕ, zero, suc, _+_, _≤_, _<_}
 use mathlib.Core.Path.{_≡_}
 use mathlib.Core.Bool.{true}
 use mathlib.Core.List.{List, [], _∷_}
@@ -9,6 +9,7 @@ use lib.ListN.{length}
 use Rattle.session.specs.Limits.{maxMethod, names}
 use Rattle.session.specs.Parts.{levelCount, objectCount, masksOf}
 use Rattle.session.specs.Questions.{verdictOf}
+use Rattle.session.specs.Meaning.{methodOf}
 use Rattle.contents.specs.Reading.{indexOf}
 use Rattle.session.specs.declared.Message.{Message}
 use Rattle.session.specs.declared.Step.{Step}
@@ -39,9 +40,15 @@ Aimed s (Write a b) = Unit
 Aimed s (Send a b c) = c < objectCount s
 Aimed s (Quit a) = Unit
 
--- a frame of a present object, that runs a method by a name
+-- the steps of a script's method
+abbrev pub scriptMethod : List ℕ → ℕ → ℕ → List Step
+scriptMethod s zero name = []
+scriptMethod s (suc w) name = methodOf s w name
+
+-- a frame of a present object, that runs a method of a present one by a name, or none
 pub record Known (s : List ℕ) (f : Frame) : Type 0 where
   pub present : f .object < objectCount s
+  pub scripted : f .script ≤ objectCount s
   pub named : f .name < names
   pub near : f .next ≤ maxMethod
 

@@ -13,7 +13,7 @@ use Rattle.session.specs.Lists.{every, select, risingFrom, countsFrom, t
 use Rattle.session.specs.Record.{recordAt, recordsOf, wordOf, zeroAt, stepOf}
 use Rattle.session.specs.Parts.{ofKind, masksOf, methodRecords}
 use Rattle.session.specs.Questions.{question1, kindsRise, question2, question3, objectValid, question6, operandsFit, unusedBytes, stepValid, scriptValid, scriptsValid, rootValid, firstNo, verdictOf, numberOfVerdict}
-use Rattle.session.specs.Meaning.{levelOf, fieldOf, methodOf, rootParameter}
+use Rattle.session.specs.Meaning.{ownerOf, levelOf, fieldOf, methodOf, rootParameter}
 use Rattle.session.specs.Emptied.{stays, blanked, emptied}
 use Rattle.session.specs.SessionW.{sessionW}
 use Rattle.session.specs.declared.Value.the-variants.{Nil, Number}
@@ -77,6 +77,12 @@ pub record Examples : Type 0 where
   w : number sessionW ≡ 0
   w-levels : masksOf sessionW ≡ 0x01 ∷ 0x03 ∷ []
   w-level : levelOf sessionW 1 ≡ 1
+  -- "Level n owns numbers 32 + 4n to 35 + 4n"
+  made-first : levelOf sessionW 32 ≡ 0
+  made-last : levelOf sessionW 35 ≡ 0
+  made-above : levelOf sessionW 36 ≡ 1
+  made-last-above : levelOf sessionW 39 ≡ 1
+  made-nowhere : levelOf sessionW 40 ≡ 0
   w-field : fieldOf sessionW 0 0 ≡ Number 5
   w-nil : fieldOf sessionW 1 0 ≡ Nil
   w-method : methodOf sessionW 0 0 ≡ Read 0 0 ∷ Send 0 0 1 ∷ Set 1 9 ∷ Write 1 0 ∷ Quit 1 ∷ []
@@ -118,12 +124,17 @@ pub record Examples : Type 0 where
   emptied-whole : emptied 1 diamond ≡ diamondFor1
 
 pub examples : Examples
-unfolding all first reflexive antisymmetric transitive isOrder isLeast join hasJoins dominates namesPresent isOrdered every select risingFrom countsFrom tab joined recordAt recordsOf wordOf zeroAt stepOf ofKind masksOf methodRecords question1 kindsRise question2 question3 objectValid question6 operandsFit unusedBytes stepValid scriptValid scriptsValid rootValid firstNo verdictOf methodOf stays blanked emptied sessionW
+unfolding all first reflexive antisymmetric transitive isOrder isLeast join hasJoins dominates namesPresent isOrdered every select risingFrom countsFrom tab joined recordAt recordsOf wordOf zeroAt stepOf ofKind masksOf methodRecords question1 kindsRise question2 question3 objectValid question6 operandsFit unusedBytes stepValid scriptValid scriptsValid rootValid firstNo verdictOf ownerOf levelOf methodOf stays blanked emptied sessionW
 examples =
     record {
       w = refl;
       w-levels = refl;
       w-level = refl;
+      made-first = refl;
+      made-last = refl;
+      made-above = refl;
+      made-last-above = refl;
+      made-nowhere = refl;
       w-field = refl;
       w-nil = refl;
       w-method = refl;

@@ -34,6 +34,10 @@ registers = 4
 abbrev pub fields : ℕ
 fields = 3
 
+-- document 02, job 7: "Level n owns numbers 32 + 4n to 35 + 4n": the objects that a level can make
+abbrev pub madeObjects : ℕ
+madeObjects = 4
+
 -- the methods that a session can have, one for each object and name
 abbrev pub maxMethods : ℕ
 maxMethods = maxObjects * names

@@ -3,22 +3,31 @@
 -- registers, fields, jump and send targets are within their bounds, and a method has at most 16 steps (`level-present`, `root-present`,
 -- `root-named`, `step-fits`, `method-short`). `proofs/Laws/Contents` says at which records objects and the root message stand, `contents`
 -- `Laws/Methods` at which the steps of a method do.
-use Prim.Native.Nat.{ℕ}
+use Prim.Native.Nat.{ℕ, _-_, _/_}
 use mathlib.Core.List.{List, [], map}
-use mathlib.Core.Bool.{_&&_}
-use lib.Dec.{eqb}
+use mathlib.Core.Bool.{cond, _&&_}
+use lib.Dec.{eqb, ltb}
 use lib.ListN.{getD}
+use Rattle.session.specs.Limits.{maxObjects, madeObjects}
 use Rattle.session.specs.Lists.{select}
 use Rattle.session.specs.Record.{levelByte, fieldIn, objectOf, nameOf, stepOf, parameterOf}
-use Rattle.session.specs.Parts.{objectRecords, stepRecords, rootRecord}
+use Rattle.session.specs.Parts.{objectRecords, stepRecords, levelCount, objectCount, rootRecord}
 use Rattle.session.specs.declared.Message.{Message}
 use Rattle.session.specs.declared.Value.{Value}
 use Rattle.session.specs.declared.Step.{Step}
 use Rattle.session.specs.declared.Step.the-variants.{End}
 
--- an object's level
-abbrev pub levelOf : List ℕ → ℕ → ℕ
-levelOf s object = levelByte (getD (objectRecords s) object [])
+-- the level, of so many, that owns the number of a made object: "Level n owns numbers 32 + 4n to 35 + 4n". Nothing is sent to a number of a
+-- level that is not present; it is counted to level 0
+unfoldable pub ownerOf : ℕ → ℕ → ℕ
+ownerOf levels object =
+    let l = (object - maxObjects) / madeObjects in
+    cond (ltb l levels) l 0
+
+-- an object's level, by its number: of the session's objects it is in their records
+unfoldable pub levelOf : List ℕ → ℕ → ℕ
+levelOf s object =
+    cond (ltb object (objectCount s)) (levelByte (getD (objectRecords s) object [])) (ownerOf (levelCount s) object)
 
 -- what a field of an object holds at first
 abbrev pub fieldOf : List ℕ → ℕ → ℕ → Value

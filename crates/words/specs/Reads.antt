@@ -8,7 +8,9 @@ use Rattle.session.specs.Limits.{fields}
 use Rattle.session.specs.Parts.{objectCount}
 use Rattle.session.specs.Meaning.{levelOf}
 use Rattle.session.specs.declared.Value.{Value}
+use Rattle.session.specs.declared.Value.the-variants.{Number}
 use Rattle.words.specs.Fields.{fieldAt, knownAt}
+use Rattle.scripts.specs.Existence.{existence, ownScript}
 
 -- what the words say of a field. Where the object is of the level, or every object is shown, it is what the field holds; of any other object it is
 -- what was read before
@@ -19,7 +21,11 @@ shownIn s current cache all level o k = cond (all || eqb (levelOf s o) level) (f
 abbrev pub isAvailable : List ℕ → List ℕ → Bool → ℕ → ℕ → ℕ → Bool
 isAvailable s cache all level o k = (all || eqb (levelOf s o) level) || knownAt cache o k
 
--- `read` gives what the words say, wherever they say it
-abbrev pub Agrees : List ℕ → List ℕ → List ℕ → Bool → ℕ → (ℕ → ℕ → Value) → Type 0
-Agrees s current cache all level read =
-    (o k : ℕ) → o < objectCount s → k < fields → isAvailable s cache all level o k ≡ true → read o k ≡ shownIn s current cache all level o k
+-- by `read` each object of the session is there, with its own methods
+abbrev pub AllThere : List ℕ → (ℕ → ℕ → Value) → Type 0
+AllThere s read = (o : ℕ) → o < objectCount s → read o existence ≡ Number (ownScript o)
+
+-- and it gives what the words say of fields, wherever they say it
+pub record Agrees (s current cache : List ℕ) (all : Bool) (level : ℕ) (read : ℕ → ℕ → Value) : Type 0 where
+  pub there : AllThere s read
+  pub shown : (o k : ℕ) → o < objectCount s → k < fields → isAvailable s cache all level o k ≡ true → read o k ≡ shownIn s current cache all level o k

@@ -6,6 +6,7 @@ use lib.ListN.{length}
 use Rattle.session.specs.Record.{recordAt, byteOf, levelByte}
 use Rattle.session.specs.Parts.{levelCount}
 use Rattle.session.proofs.Laws.Contents.{counts, masks-length, object-record}
+use Rattle.session.proofs.Laws.Emptied.{own-level}
 use borrow.Author.Needs.{needs}
 use Rattle.contents.proofs.level_of.Statement.{statement}
 use Rattle.contents.proofs.level_of.Tie as tie
@@ -35,6 +36,7 @@ returns c =
     c .byte-at .ensures
     ∙ ap (λ m. byteOf (recordAt t (m + s .args .object)) 2) n
     ∙ ap levelByte (sym (object-record t (s .pre .0) (s .args .object) (s .pre .2)))
+    ∙ sym (own-level t (s .args .object) (s .pre .2))
 
 pub level-of-spec : {M : Type 1} → statement M
 level-of-spec = tie.close (tie.spec add-byte-at byte-at-requires cast-result returns)

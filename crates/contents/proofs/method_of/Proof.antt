@@ -1,6 +1,6 @@
 -- `contents::method_of` meets its contract: the index says where the method starts and ends. Assumes nothing.
-use Prim.Native.Nat.{ℕ, _+_, _*_, _<_}
-use mathlib.Core.Path.{_≡_, _∙_, ap}
+use Prim.Native.Nat.{ℕ, _+_, _*_, _/_, _%_, _<_}
+use mathlib.Core.Path.{_≡_, _∙_, ap, ap₂}
 use mathlib.Core.List.{List}
 use native.Mathlib.Omega.{arith}
 use lib.ListN.{length, getD}
@@ -16,76 +16,78 @@ use Rattle.contents.proofs.method_of.Statement.{statement}
 use Rattle.contents.proofs.method_of.Tie as tie
 
 -- what the index holds for a method: where it starts, and where it ends
-module _ (s index : List ℕ) (a : verdictOf s ≡ Accepted) (e : index ≡ indexOf s) (o m : ℕ) (ho : o < objectCount s) (hm : m < names) where
-  starts : getD index (16 * o + m) 0 ≡ methodStart s (key o m)
-  starts = ap (λ l. getD l (16 * o + m) 0) e ∙ slot-first s a o m ho hm
+module _ (s index : List ℕ) (a : verdictOf s ≡ Accepted) (e : index ≡ indexOf s) (slot : ℕ) (there : slot / names < objectCount s) where
+  abbrev o : ℕ
+  o = slot / names
 
-  ends : getD index (16 * o + m + 1) 0 ≡ methodStart s (key o m) + length (methodOf s o m)
-  ends = ap (λ l. getD l (16 * o + m + 1) 0) e ∙ rw (method-length s a o m (omega arith)) (slot-end s a o m ho hm)
+  abbrev m : ℕ
+  m = slot % names
 
-mul-slot : tie.Need-mul-slot
-mul-slot c = omega (arith, object-limit (c .args .session .now) (c .pre .0))
+  same : slot ≡ names * o + m
+  same = omega arith
 
-add-slot : tie.Need-add-slot
-add-slot c = omega (arith, object-limit (c .args .session .now) (c .pre .0))
+  low : m < names
+  low = omega arith
+
+  starts : getD index slot 0 ≡ methodStart s (key o m)
+  starts = ap₂ (λ l i. getD l i 0) e same ∙ slot-first s a o m there low
+
+  ends : getD index (slot + 1) 0 ≡ methodStart s (key o m) + length (methodOf s o m)
+  ends = ap₂ (λ l i. getD l (i + 1) 0) e same ∙ rw (method-length s a o m (omega (arith, low))) (slot-end s a o m there low)
 
 mul-start : tie.Need-mul-start
-mul-start c = omega (arith, object-limit (c .args .session .now) (c .pre .0))
+mul-start c = omega (arith, object-limit (c .args .session .now) (c .pre .0), c .pre .2)
 
 shared-slice-read-start : tie.Need-shared-slice-read-start
 shared-slice-read-start c =
     let s = c .before in
-    omega (arith, object-limit (s .args .session .now) (s .pre .0), ap length (s .pre .1), index-length (s .args .session .now) (s .pre .0))
+    omega (arith, object-limit (s .args .session .now) (s .pre .0), s .pre .2, ap length (s .pre .1), index-length (s .args .session .now) (s .pre .0))
 
 cast-start : tie.Need-cast-start
 cast-start c =
     let s = c .before in
-    omega (arith, c .shared-slice-known .given (16 * s .args .object + s .args .name))
+    omega (arith, c .shared-slice-known .given (s .args .slot))
 
 add-end : tie.Need-add-end
 add-end c =
     let s = c .before in
-    omega (arith, object-limit (s .args .session .now) (s .pre .0))
+    omega (arith, object-limit (s .args .session .now) (s .pre .0), s .pre .2)
 
 mul-end : tie.Need-mul-end
 mul-end c =
     let s = c .before in
-    omega (arith, object-limit (s .args .session .now) (s .pre .0))
+    omega (arith, object-limit (s .args .session .now) (s .pre .0), s .pre .2)
 
 shared-slice-read-end : tie.Need-shared-slice-read-end
 shared-slice-read-end c =
     let s = c .before .before in
-    omega (arith, object-limit (s .args .session .now) (s .pre .0), ap length (s .pre .1), index-length (s .args .session .now) (s .pre .0))
+    omega (arith, object-limit (s .args .session .now) (s .pre .0), s .pre .2, ap length (s .pre .1), index-length (s .args .session .now) (s .pre .0))
 
 cast-end : tie.Need-cast-end
 cast-end c =
     let s = c .before .before in
-    omega (arith, c .shared-slice-known2 .given (16 * s .args .object + s .args .name + 1))
+    omega (arith, c .shared-slice-known2 .given (s .args .slot + 1))
 
 sub-count : tie.Need-sub-count
 sub-count c =
     let s = c .before .before in
     let t = s .args .session .now in
-    let index = s .args .index .now in
-    let first = starts t index (s .pre .0) (s .pre .1) (s .args .object) (s .args .name) (s .pre .2) (s .pre .3) in
-    let end = ends t index (s .pre .0) (s .pre .1) (s .args .object) (s .args .name) (s .pre .2) (s .pre .3) in
+    let first = starts t (s .args .index .now) (s .pre .0) (s .pre .1) (s .args .slot) (s .pre .2) in
+    let end = ends t (s .args .index .now) (s .pre .0) (s .pre .1) (s .args .slot) (s .pre .2) in
     omega arith
 
 returns : tie.Need-returns
 returns c =
     let s = c .before .before in
     let t = s .args .session .now in
-    let index = s .args .index .now in
-    let first = starts t index (s .pre .0) (s .pre .1) (s .args .object) (s .args .name) (s .pre .2) (s .pre .3) in
-    let end = ends t index (s .pre .0) (s .pre .1) (s .args .object) (s .args .name) (s .pre .2) (s .pre .3) in
+    let first = starts t (s .args .index .now) (s .pre .0) (s .pre .1) (s .args .slot) (s .pre .2) in
+    let end = ends t (s .args .index .now) (s .pre .0) (s .pre .1) (s .args .slot) (s .pre .2) in
     record { start-is = first; count-is = omega arith }
 
 pub method-of-spec : {M : Type 1} → statement M
 method-of-spec =
     tie.close
     (tie.spec
-    mul-slot
-    add-slot
     mul-start
     shared-slice-read-start
     cast-start

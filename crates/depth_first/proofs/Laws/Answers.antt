@@ -7,7 +7,7 @@ use borrow.Author.Tests.{leb-true}
 use lib.ListN.{length}
 use Rattle.model.specs.Limits.{resultBytes}
 use Rattle.model.specs.Entries.{Request, entryRefusal, deep, Answers}
-use Rattle.model.proofs.Laws.Reader.Answers.{passes, deep-is}
+use Rattle.theorems.proofs.Laws.Reader.Answers.{passes, deep-is}
 use Rattle.entries.specs.declared.Answer.{Answer}
 use Rattle.entries.specs.Opening.{Finished}
 use Rattle.depth_first.specs.Runs.{Shown}

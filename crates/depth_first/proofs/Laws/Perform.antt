@@ -16,7 +16,7 @@ use Rattle.operations.specs.declared.Effect.{Effect}
 use Rattle.operations.specs.declared.Effect.the-variants.{Write, Fork}
 use Rattle.model.specs.Fork as model
 use Rattle.model.specs.DepthFirst.{effected, runFork}
-use Rattle.model.proofs.Laws.Invariant.Stamps.{child-within}
+use Rattle.theorems.proofs.Laws.Invariant.Stamps.{child-within}
 use Rattle.depth_first.specs.Representation.{Tables, RepresentsSome, Runnable, Same, Words, Represents, Performable, Performed, ForkDone}
 use Rattle.depth_first.specs.declared.forks.Fork as fork
 use Rattle.depth_first.proofs.Laws.Representation.{kept-write}

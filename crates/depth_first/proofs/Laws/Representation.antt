@@ -1,4 +1,4 @@
--- What a write and the end of a manager do to the words of a run. Assumes nothing.
+-- What a write and the end of a manager do to the words of a run, and what a read of existence sees. Assumes nothing.
 use Prim.Native.Nat.{ℕ, _+_, _≤_, _<_}
 use mathlib.Core.Path.{_≡_, refl, sym, _∙_, ap}
 use mathlib.Core.List.{List, _∷_}
@@ -8,23 +8,44 @@ use borrow.Author.Tests.{eq-eqb, ne-eqb}
 use lib.ListN.{length, getD}
 use Rattle.session.specs.Limits.{maxLevels, fields}
 use Rattle.session.specs.Parts.{levelCount, objectCount}
+use Rattle.session.specs.Questions.{verdictOf}
 use Rattle.session.specs.Program.{Program, programOf}
 use Rattle.session.specs.declared.Value.{Value}
+use Rattle.session.specs.declared.Verdict.the-variants.{Accepted}
+use Rattle.scripts.specs.Existence.{existence, ownScript, initially, scriptSeen}
+use Rattle.scripts.proofs.Laws.Existence.{first-there}
 use Rattle.scripts.specs.Limits.{maxForks}
+use Rattle.scripts.specs.Value.{numberIn}
 use Rattle.scripts.specs.State.{Manager}
 use Rattle.scripts.specs.declared.Ended.{Ended}
+use Rattle.scripts.proofs.Laws.Accepted.{program-sound}
+use Rattle.scripts.proofs.Laws.Effects.{Legible}
 use Rattle.words.specs.Fields.{fieldAt, FieldSet}
+use Rattle.words.specs.Reads.{AllThere}
 use Rattle.model.specs.Limits.{maxManagers}
 use Rattle.model.specs.Lists.{inserted}
 use Rattle.model.specs.Fork as model
 use Rattle.model.specs.History as history
 use Rattle.model.specs.DepthFirst.{Written, Tally, Progress, newTally, tallyAt, current, fieldNow, close}
-use Rattle.model.proofs.Laws.Lists.{modify-length, modify-at, modify-other}
-use Rattle.model.proofs.Laws.Invariant.Measure.{inserted-length}
+use Rattle.theorems.proofs.Laws.Lists.{modify-length, modify-at, modify-other}
+use Rattle.theorems.proofs.Laws.Invariant.Contained.{first-readable}
+use Rattle.theorems.proofs.Laws.Invariant.Measure.{inserted-length}
 use Rattle.records.specs.Histories.{historiesAt, historyOf, Added}
 use Rattle.tallies.specs.Places.{nextPlace, tallied}
 use Rattle.tallies.proofs.Laws.Closed.{tallied-length, tallied-other, tallied-count, tallied-next}
 use Rattle.depth_first.specs.Representation.{Counted, RepresentedBy}
+
+-- each object of the session is there, with its own methods
+module _ (s : List ℕ) (g : Progress) {c e t : List ℕ} (q : RepresentedBy s g c e t) where
+  pub all-there : AllThere s (fieldNow (programOf s) g)
+  all-there o h = q .existing o ∙ first-there s o h
+
+  pub own-script : (o : ℕ) → o < objectCount s → scriptSeen (fieldNow (programOf s) g) o ≡ ownScript o
+  own-script o h = ap numberIn (all-there o h)
+
+  -- and what is seen of existence names scripts that the objects' levels may read
+  pub fields-legible : verdictOf s ≡ Accepted → Legible (programOf s) (fieldNow (programOf s) g)
+  fields-legible a o = rw (q .existing o) (first-readable (programOf s) (program-sound s a) o)
 
 -- the fields after a write
 abbrev pub wrote : ℕ → ℕ → Value → Progress → Progress
@@ -51,6 +72,7 @@ kept-write s g c c' e t o k v q ho hk f =
       counts-few = q .counts-few;
       levels = q .levels;
       field = λ o' k' a b. here o' k' a b (ℕ-discrete o' o) (ℕ-discrete k' k);
+      existing = λ o'. current-other (initially (programOf s) o' existence) o k o' existence v (g .written) (λ _ z. omega (arith, z, hk)) ∙ q .existing o';
       counted = λ l h. recount (q .counted l h);
     }
   where
@@ -62,10 +84,10 @@ kept-write s g c c' e t o k v q ho hk f =
     other o' k' a b n =
         f .others o' k' b n
         ∙ q .field o' k' a b
-        ∙ sym (current-other (programOf s .field o' k') o k o' k' v (g .written) n)
+        ∙ sym (current-other (initially (programOf s) o' k') o k o' k' v (g .written) n)
 
     here : (o' k' : ℕ) → o' < objectCount s → k' < fields → Dec (o' ≡ o) → Dec (k' ≡ k) → fieldAt c' o' k' ≡ fieldNow (programOf s) (wrote o k v g) o' k'
-    here o' k' a b (yes x) (yes y) = rw (x, y) (f .set ∙ sym (current-own (programOf s .field o k) o k v (g .written)))
+    here o' k' a b (yes x) (yes y) = rw (x, y) (f .set ∙ sym (current-own (initially (programOf s) o k) o k v (g .written)))
     here o' k' a b (no x) d = other o' k' a b (λ z _. x z)
     here o' k' a b (yes x) (no y) = other o' k' a b (λ _ z. y z)
 
@@ -166,6 +188,7 @@ module _ (s : List ℕ) (g : Progress) (c e e' t : List ℕ) (q : RepresentedBy 
         ];
         levels = close-levels l x m g ∙ q .levels;
         field = λ o k a b. q .field o k a b ∙ sym (close-fields (programOf s) l x m g o k);
+        existing = λ o. close-fields (programOf s) l x m g o existence ∙ q .existing o;
         counted = λ j hj. elim (ℕ-discrete j l) [
           | yes z ↦ rw z counted-own
           | no z ↦ counted-other j hj z

@@ -9,14 +9,14 @@ use lib.Dec.{ltb}
 use lib.ListN.{length, getD}
 use Rattle.lattice.proofs.Laws.Range.{not-both}
 use Rattle.session.specs.Limits.{maxLevels}
-use Rattle.session.specs.Parts.{levelCount}
+use Rattle.session.specs.Parts.{levelCount, objectCount}
 use Rattle.session.specs.Questions.{verdictOf}
 use Rattle.session.specs.Program.{Program, programOf}
 use Rattle.session.specs.declared.Step.{Step}
 use Rattle.session.specs.declared.Step.the-variants as op
 use Rattle.session.specs.declared.Verdict.the-variants.{Accepted}
 use Rattle.session.proofs.Laws.Lists.{holds, fails, truth}
-use Rattle.session.proofs.Laws.Numbering.{few-levels}
+use Rattle.session.proofs.Laws.Numbering.{few-levels, few-objects}
 use Rattle.session.proofs.Laws.Verdict.{accepted}
 use Rattle.scripts.specs.Limits.{maxScriptSteps, maxForks}
 use Rattle.scripts.specs.Ending.{isRunning}
@@ -29,7 +29,7 @@ use Rattle.scripts.proofs.Laws.Valid.{started-valid}
 use Rattle.frames.specs.Frames.{frameOf}
 use Rattle.operations.specs.Core.{keptOf}
 use Rattle.managers.specs.Manager.{managerOf, steppedOf}
-use Rattle.managers.specs.Steps.{Leads, WellFormed, Advanceable, pausesOn, Advanced}
+use Rattle.managers.specs.Steps.{Leads, WellFormed, Starts, Advanceable, pausesOn, Advanced}
 use Rattle.managers.specs.declared.Manager.{Manager}
 use Rattle.managers.proofs.Laws.Leads.{none, some, leads-steps}
 use Rattle.model.specs.Limits.{maxManagers}
@@ -37,12 +37,12 @@ use Rattle.model.specs.Lists.{inserted}
 use Rattle.model.specs.Fork as model
 use Rattle.model.specs.History as history
 use Rattle.model.specs.DepthFirst.{Progress, tallyAt, fieldNow, close, finish, runFork}
-use Rattle.model.proofs.Laws.Code.DepthFirst.{finish-over}
+use Rattle.theorems.proofs.Laws.Code.DepthFirst.{finish-over}
 use Rattle.records.specs.Histories.{historyOf, HistoryRoom}
 use Rattle.tallies.specs.Places.{nextPlace, tallyNumbers, tallied, Closed}
-use Rattle.depth_first.specs.Representation.{Tables, RepresentsSome, Runnable, Same, Words, Represents, Spared, Performable, Performed, ForkDone, RunDone}
+use Rattle.depth_first.specs.Representation.{Tables, RepresentedBy, RepresentsSome, Runnable, Same, Words, Represents, Spared, Performable, Performed, ForkDone, RunDone}
 use Rattle.depth_first.specs.declared.forks.Fork.{Fork}
-use Rattle.depth_first.proofs.Laws.Representation.{ended-own, kept-close}
+use Rattle.depth_first.proofs.Laws.Representation.{all-there, own-script, fields-legible, ended-own, kept-close}
 use Rattle.depth_first.proofs.Laws.Spared.{spared-none, spared-then, spared-close}
 use Rattle.depth_first.proofs.Laws.Step.{led-valid, led-forking, led-ends}
 
@@ -55,6 +55,10 @@ bare-same f = record { stamp = refl; depth = refl; message = refl }
 
 few : (s : List ℕ) → verdictOf s ≡ Accepted → levelCount s ≤ maxLevels
 few s a = few-levels s (accepted s a .three)
+
+-- a present object's script is a byte
+pub object-small : {s masks index : List ℕ} → Tables s masks index → (o : ℕ) → o < objectCount s → o + 1 < 2 ^ 8
+object-small {s} a o h = omega (arith, few-objects s (accepted s (a .accepted) .three), h)
 
 -- a level's two words are there, and its next write stamp fits 16 bits
 module _ {s masks index : List ℕ} (a : Tables s masks index) (l : ℕ) (h : l < levelCount s) where
@@ -128,7 +132,7 @@ abbrev pub stepsLeft : Manager → ℕ
 stepsLeft m = cond (isRunning (m .core .ending)) (maxScriptSteps + 1 - m .core .steps) 0
 
 -- the run of a fork that has a level left starts its manager
-starts : (p : Program) (left l : ℕ) (x : model.Fork) (g : Progress) → (left ≡ 0 → ⊥) → finish (runFork (left - 1) p) maxScriptSteps p l x (started p l (tallyAt g l .next) (x .message)) g ≡ runFork left p l x g
+starts : (p : Program) (left l : ℕ) (x : model.Fork) (g : Progress) → (left ≡ 0 → ⊥) → finish (runFork (left - 1) p) maxScriptSteps p l x (started p (fieldNow p g) l (tallyAt g l .next) (x .message)) g ≡ runFork left p l x g
 unfolding runFork
 starts p zero l x g above = absurd (above refl)
 starts p (suc left) l x g above =
@@ -139,22 +143,29 @@ module _ {s masks index : List ℕ} (a : Tables s masks index) {left : ℕ} {f :
   abbrev p : Program
   p = programOf s
 
-  pub run-starts : (w : Words) (m : Manager) → RepresentsSome s (w .current) (w .ended) (w .tallies) → (managerOf m ≡ started p (f .level) (getD (w .tallies) (nextPlace (f .level)) 0) (f .message)) × WellFormed s m → Looped s left f w w m
+  -- the fields show its object with its own methods, so it starts with them
+  seen : (g : Progress) {c e t : List ℕ} → RepresentedBy s g c e t → (next : ℕ) (m : Manager) → Starts s (f .level) next (f .message) (f .message .object + 1) m → managerOf m ≡ started p (fieldNow p g) (f .level) next (f .message)
+  seen g represents next m start =
+      start (fieldNow p g) (own-script s g represents (f .message .object) (r .present) ∙ omega arith)
+
+  pub run-starts : (w : Words) (m : Manager) → RepresentsSome s (w .current) (w .ended) (w .tallies) → Starts s (f .level) (getD (w .tallies) (nextPlace (f .level)) 0) (f .message) (f .message .object + 1) m × WellFormed s m → Looped s left f w w m
   unfolding managerOf
-  run-starts w m q (e, h) =
+  run-starts w m q (start, h) =
       let next = getD (w .tallies) (nextPlace (f .level)) 0 in
-      let counts = started-counts p (f .level) next (f .message) in
+      let read = fieldNow p (q .0) in
+      let e = seen (q .0) (q .1) next m start in
+      let counts = started-counts p read (f .level) next (f .message) in
       record {
         held = h;
-        valid = subst (Valid s) (sym e) (started-valid s (a .accepted) (f .level) next (f .message) (fork-starts a r q));
+        valid = subst (Valid s) (sym e) (started-valid s (a .accepted) read (fields-legible s (q .0) (q .1) (a .accepted)) (f .level) next (f .message) (fork-starts a r q));
         level = ap (λ m. m .level) e ∙ ap (λ c. c .level) counts;
         first = ap (λ m. m .first) e ∙ ap (λ c. c .first) counts;
         spared = spared-none s w;
         ahead = λ g x represents same. record {
           now = g;
           represents = represents;
-          ends = ap (λ m. finish (runFork (left - 1) p) (maxScriptSteps - m .steps) p (f .level) x m g) e
-              ∙ ap (λ n. finish (runFork (left - 1) p) (maxScriptSteps - n) p (f .level) x (started p (f .level) next (f .message)) g) (ap (λ c. c .steps) counts)
+          ends = ap (λ m. finish (runFork (left - 1) p) (maxScriptSteps - m .steps) p (f .level) x m g) (seen g represents next m start)
+              ∙ ap (λ n. finish (runFork (left - 1) p) (maxScriptSteps - n) p (f .level) x (started p (fieldNow p g) (f .level) next (f .message)) g) (ap (λ c. c .steps) (started-counts p (fieldNow p g) (f .level) next (f .message)))
               ∙ rw (represents .counted (f .level) (r .placed) .next, sym (same .message)) (starts p left (f .level) x g above);
           own = refl;
         };
@@ -184,7 +195,8 @@ module _ {s masks index : List ℕ} (a : Tables s masks index) {left : ℕ} {f :
     -- script steps up to one that concerns others
     module _ {n : Manager} (ad : Advanced s (w .current) (w .current) true maxScriptSteps m n) where
       leads : (g : Progress) → Represents s g w → Leads p (fieldNow p g) (managerOf m) (steppedOf n)
-      leads g represents = ad .leads (fieldNow p g) (λ o k ho hk _. sym (represents .field o k ho hk))
+      leads g represents =
+          ad .leads (fieldNow p g) (record { there = all-there s g represents; shown = λ o k ho hk _. sym (represents .field o k ho hk) })
 
       pub run-performable : Performable s (left - 1) f (n .core .forks) (n .core .effect)
       run-performable =
@@ -200,7 +212,7 @@ module _ {s masks index : List ℕ} (a : Tables s masks index) {left : ℕ} {f :
       run-again w' done =
           record {
             held = ad .held;
-            valid = led-valid s (a .accepted) (fieldNow p (here .now)) (managerOf m) (steppedOf n) (l .valid) (leads (here .now) (here .represents));
+            valid = led-valid s (a .accepted) (fieldNow p (here .now)) (fields-legible s (here .now) (here .represents) (a .accepted)) (managerOf m) (steppedOf n) (l .valid) (leads (here .now) (here .represents));
             level = ad .level-is ∙ l .level;
             first = ad .first-is ∙ l .first;
             spared = spared-then s w₀ w w' (l .spared) (done .0);

@@ -4,7 +4,7 @@ use mathlib.Core.Path.{_≡_, refl, sym, _∙_, ap}
 use mathlib.Core.List.{List, []}
 use native.Mathlib.Omega.{arith}
 use lib.ListN.{length, replicate, length-replicate, getD-replicate}
-use Rattle.session.specs.Limits.{maxLevels}
+use Rattle.session.specs.Limits.{maxLevels, fields}
 use Rattle.session.specs.Lists.{risingFrom}
 use Rattle.session.specs.Parts.{levelCount}
 use Rattle.session.specs.Meaning.{levelOf, fieldOf, rootObject, rootOf}
@@ -14,6 +14,8 @@ use Rattle.session.specs.declared.Message.{Message}
 use Rattle.session.specs.declared.Verdict.the-variants.{Accepted}
 use Rattle.session.proofs.Laws.Accepted.{level-present, root-present}
 use Rattle.session.proofs.Laws.Contents.{level-limit}
+use Rattle.scripts.specs.Existence.{existence, initially}
+use Rattle.scripts.proofs.Laws.Existence.{first-field}
 use Rattle.words.specs.Limits.{fieldWords}
 use Rattle.words.specs.Fields.{Filled}
 use Rattle.model.specs.DepthFirst.{newTally, tallyAt, current, fieldNow}
@@ -37,14 +39,17 @@ module _ (s : List ℕ) (a : verdictOf s ≡ Accepted) where
   -- the level of the root's object is a byte
   pub level-byte : (m : Message) (level : ℕ) → m ≡ rootOf s → level ≡ levelOf s (m .object) → level < 2 ^ 8
   level-byte m level e i =
-      omega (arith, i, ap (λ m. levelOf s (m .object)) e, level-present s a (rootObject s) (root-present s a), level-limit s a)
+      omega (arith, i, ap (λ m. levelOf s (m .object)) e, level-present s a (rootObject s), level-limit s a)
 
   pub start-tally : (l : ℕ) → l < levelCount s → tallyAt (initialProgress s) l ≡ newTally
   start-tally l h = getD-replicate (levelCount s) l newTally newTally h
 
-  start-field : (o k : ℕ) → fieldNow (programOf s) (initialProgress s) o k ≡ fieldOf s o k
-  unfolding current programOf
-  start-field o k = refl
+  start-now : (o k : ℕ) → fieldNow (programOf s) (initialProgress s) o k ≡ initially (programOf s) o k
+  unfolding current
+  start-now o k = refl
+
+  start-field : (o k : ℕ) → k < fields → fieldNow (programOf s) (initialProgress s) o k ≡ fieldOf s o k
+  start-field o k h = start-now o k ∙ first-field (programOf s) o k h ∙ unfold programOf in refl
 
   counted-start : (ended : List ℕ) (l : ℕ) → l < levelCount s → Counted (initialProgress s) ended startTallies l
   counted-start ended l h =
@@ -67,6 +72,7 @@ module _ (s : List ℕ) (a : verdictOf s ≡ Accepted) where
         tallies-there = omega arith;
         counts-few = λ l h. rw (first-ended l h) (omega arith);
         levels = length-replicate (levelCount s) newTally;
-        field = λ o k h j. f .fields-are o k h j ∙ sym (start-field o k);
+        field = λ o k h j. f .fields-are o k h j ∙ sym (start-field o k j);
+        existing = λ o. start-now o existence;
         counted = λ l h. counted-start ended l h;
       })

@@ -18,6 +18,7 @@ use Rattle.scripts.specs.Manager.{stepped}
 use Rattle.scripts.specs.Valid.{Valid}
 use Rattle.scripts.proofs.Laws.Accepted.{program-sound}
 use Rattle.scripts.proofs.Laws.Counts.{counts, grown, oneMore, stepped-counts}
+use Rattle.scripts.proofs.Laws.Effects.{Legible}
 use Rattle.scripts.proofs.Laws.Valid.{stepped-valid}
 use Rattle.operations.specs.Core.{effectOf}
 use Rattle.operations.specs.declared.Effect.{Effect}
@@ -27,9 +28,10 @@ use Rattle.managers.specs.declared.Manager as code
 use Rattle.managers.proofs.Laws.Leads.{step-counted, internal-alike}
 use Rattle.model.specs.Fork as model
 use Rattle.model.specs.DepthFirst.{Progress, tallyAt, fieldNow, effected, finish, runFork}
-use Rattle.model.proofs.Laws.Code.DepthFirst.{finish-step, effected-own, runFork-leaves}
+use Rattle.theorems.proofs.Laws.Code.DepthFirst.{finish-step, effected-own, runFork-leaves}
 use Rattle.depth_first.specs.Representation.{Same, Words, Represents, Forking, Performed}
 use Rattle.depth_first.specs.declared.forks.Fork as fork
+use Rattle.depth_first.proofs.Laws.Representation.{fields-legible}
 
 -- a manager that made a fork has made one more than before that step
 step-forking : (p : Program) (read : ℕ → ℕ → Value) (n : Manager) (r : code.Manager) → stepped p read n ≡ steppedOf r → Forking (r .core .effect) (n .forks) (r .core .forks)
@@ -49,17 +51,17 @@ module _ (s : List ℕ) (a : verdictOf s ≡ Accepted) where
   abbrev p : Program
   p = programOf s
 
-  internal-valid : (read : ℕ → ℕ → Value) (k : ℕ) (m n : Manager) → Valid s m → InternalSteps p read k m n → Valid s n
+  internal-valid : (read : ℕ → ℕ → Value) → Legible p read → (k : ℕ) (m n : Manager) → Valid s m → InternalSteps p read k m n → Valid s n
   unfolding InternalSteps
-  internal-valid read zero m n v e = subst (Valid s) e v
-  internal-valid read (suc k) m n v (run, (none, q)) =
-      internal-valid read k (stepped p read m .manager) n (stepped-valid s a read m v run) q
+  internal-valid read t zero m n v e = subst (Valid s) e v
+  internal-valid read t (suc k) m n v (run, (none, q)) =
+      internal-valid read t k (stepped p read m .manager) n (stepped-valid s a read t m v run) q
 
   -- what steps up to one that concerns others leave is valid
-  pub led-valid : (read : ℕ → ℕ → Value) (m : Manager) (d : Stepped) → Valid s m → Leads p read m d → Valid s (d .manager)
-  led-valid read m d v (internal k q none) = internal-valid read k m (d .manager) v q
-  led-valid read m d v (last k n q run e) =
-      subst (λ d. Valid s (d .manager)) e (stepped-valid s a read n (internal-valid read k m n v q) run)
+  pub led-valid : (read : ℕ → ℕ → Value) → Legible p read → (m : Manager) (d : Stepped) → Valid s m → Leads p read m d → Valid s (d .manager)
+  led-valid read t m d v (internal k q none) = internal-valid read t k m (d .manager) v q
+  led-valid read t m d v (last k n q run e) =
+      subst (λ d. Valid s (d .manager)) e (stepped-valid s a read t n (internal-valid read t k m n v q) run)
 
   -- a fork that the last one made is counted
   pub led-forking : (read : ℕ → ℕ → Value) (m : Manager) (r : code.Manager) → Leads p read m (steppedOf r) → Forking (r .core .effect) (r .core .forks - 1) (r .core .forks)
@@ -84,14 +86,14 @@ module _ (s : List ℕ) (a : verdictOf s ≡ Accepted) where
         rw (sym e) (step-ends m g v run, effected-own p (program-sound s a) (runFork left p) (runFork-leaves p (program-sound s a) left) l placed x m g at)
 
     -- steps that concern nobody else
-    internal-ends : (k : ℕ) (m b : Manager) (g : Progress) → Valid s m → InternalSteps p (fieldNow p g) k m b → ends m g ≡ ends b g
+    internal-ends : (k : ℕ) (m b : Manager) (g : Progress) → Legible p (fieldNow p g) → Valid s m → InternalSteps p (fieldNow p g) k m b → ends m g ≡ ends b g
     unfolding InternalSteps effected
-    internal-ends zero m b g v e = ap (λ n. ends n g) e
-    internal-ends (suc k) m b g v (run, (none, q)) =
+    internal-ends zero m b g t v e = ap (λ n. ends n g) e
+    internal-ends (suc k) m b g t v (run, (none, q)) =
         let n = stepped p (fieldNow p g) m .manager in
         step-ends m g v run
         ∙ ap (λ e. ends n (effected (runFork left p) l x m e g)) none
-        ∙ internal-ends k n b g (stepped-valid s a (fieldNow p g) m v run) q
+        ∙ internal-ends k n b g t (stepped-valid s a (fieldNow p g) t m v run) q
 
   -- from the words w and the manager m the run of the fork ends as from w' and m'
   abbrev pub SameEnd : ℕ → fork.Fork → Words → Words → Manager → Manager → Progress → model.Fork → Type 0
@@ -105,11 +107,12 @@ module _ (s : List ℕ) (a : verdictOf s ≡ Accepted) where
   unfolding effected
   led-ends left f w w' m r v placed at does g x represents same (internal k q none) =
       let represented = does .1 g x m represents same (internal-forking (r .core .effect) (m .forks) (r .core .forks) none) in
-      (g, (subst (λ e. Represents s (effected (runFork left p) (f .level) x m e g) w') none represented, (internal-ends left (f .level) x k m (managerOf r) g v q, refl)))
+      (g, (subst (λ e. Represents s (effected (runFork left p) (f .level) x m e g) w') none represented, (internal-ends left (f .level) x k m (managerOf r) g (fields-legible s g represents a) v q, refl)))
   led-ends left f w w' m r v placed at does g x represents same (last k n q run e) =
       let read = fieldNow p g in
+      let t = fields-legible s g represents a in
       let there : f .level < p .levels = unfold programOf in placed in
-      let step = step-does left (f .level) x n (steppedOf r) g (internal-valid read k m n v q) run there (internal-alike p read k m n q .0 ∙ at) e in (
+      let step = step-does left (f .level) x n (steppedOf r) g (internal-valid read t k m n v q) run there (internal-alike p read k m n q .0 ∙ at) e in (
         effected (runFork left p) (f .level) x n (effectOf (r .core .effect)) g,
-        (does .1 g x n represents same (step-forking p read n r e), (internal-ends left (f .level) x k m n g v q ∙ step .0, step .1)),
+        (does .1 g x n represents same (step-forking p read n r e), (internal-ends left (f .level) x k m n g t v q ∙ step .0, step .1)),
       )

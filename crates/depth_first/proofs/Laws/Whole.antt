@@ -31,7 +31,7 @@ module _ (s masks index : List ℕ) (a : Tables s masks index) where
   table-length = ap length (a .masks-are) ∙ masks-length s (a .accepted)
 
   root-level : levelOf s (rootObject s) < levelCount s
-  root-level = level-present s (a .accepted) (rootObject s) (root-present s (a .accepted))
+  root-level = level-present s (a .accepted) (rootObject s)
 
   -- the words of a run, and the bytes that they make
   module _ (g : Progress) (w : Words) (q : Represents s g w) (c : ℕ) where

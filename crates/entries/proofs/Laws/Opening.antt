@@ -19,7 +19,7 @@ use Rattle.model.specs.Limits.{resultBytes}
 use Rattle.model.specs.Schedule.{plainOrder}
 use Rattle.model.specs.Entries.{Request, question10, entryRefusal, untouched, timetabled, plain, deep, Answers}
 use Rattle.model.specs.Entries as model
-use Rattle.model.proofs.Laws.Reader.Answers.{number-accepted}
+use Rattle.theorems.proofs.Laws.Reader.Answers.{number-accepted}
 use Rattle.entries.specs.declared.Answer.{Answer}
 use Rattle.entries.specs.declared.Opened.{Opened}
 use Rattle.entries.specs.Opening.{Refused, Opens, LentRefusal}

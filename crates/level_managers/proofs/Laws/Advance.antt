@@ -20,12 +20,12 @@ use Rattle.model.specs.Lists.{modify}
 use Rattle.model.specs.Fork.{Fork, childStamp, childOf}
 use Rattle.model.specs.Level.{Version, Activity, busy, Level, newLevel, arrived, after}
 use Rattle.model.specs.Step.{State, levelAt, readAt, versionsAfter, none, at, arrivalOf, delivered, stepAt}
-use Rattle.model.proofs.Laws.Lists.{modify-comm, modify-twice}
-use Rattle.model.proofs.Laws.Order.Accepted.{sound}
-use Rattle.model.proofs.Laws.Invariant.Measure.{arrived-bounded}
-use Rattle.model.proofs.Laws.Code.Direct.{step-advance}
-use Rattle.model.proofs.Laws.Code.Reached.{ReachedState, present}
-use Rattle.model.proofs.Laws.Code.Needs.{live-room, live-versions, live-write, live-fork}
+use Rattle.theorems.proofs.Laws.Lists.{modify-comm, modify-twice}
+use Rattle.theorems.proofs.Laws.Order.Accepted.{sound}
+use Rattle.theorems.proofs.Laws.Invariant.Measure.{arrived-bounded}
+use Rattle.theorems.proofs.Laws.Code.Direct.{step-advance}
+use Rattle.theorems.proofs.Laws.Code.Reached.{ReachedState, present}
+use Rattle.theorems.proofs.Laws.Code.Needs.{live-room, live-versions, live-write, live-fork}
 use Rattle.queues.specs.Queue.{forkOfRow, forkAt}
 use Rattle.versions.specs.Log.{maxVersions}
 use Rattle.level_managers.specs.Representation.{Words, Runs, Represents, placed}
@@ -91,7 +91,7 @@ module _ (s : List ℕ) (a : verdictOf s ≡ Accepted) (few : levelCount s ≤ m
   -- what the definition's step does, by its effect
   step-is : (e : Effect) → n .effect ≡ e → stepAt (programOf s) l st ≡ delivered (arrivalOf l x m e) (modify l (λ _. after v (v .waiting) (versionsAfter m e (v .versions)) x (n .manager)) st)
   step-is e is =
-      step-advance (programOf s) (sound s a) st (i .reachable .steady .fork-invariant) (i .reachable .contained) l (present s l h) x m n runs made
+      step-advance (programOf s) (sound s a) st (i .reachable .steady .fork-invariant) (i .reachable .steady .contained) l (present s l h) x m n runs made
       ∙ ap (λ e. delivered (arrivalOf l x m e) (modify l (λ _. after v (v .waiting) (versionsAfter m e (v .versions)) x (n .manager)) st)) is
 
   -- the words with which the manager settles

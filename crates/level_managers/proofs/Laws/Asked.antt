@@ -25,9 +25,9 @@ use Rattle.model.specs.Level.{Activity, idle, busy, Level, isBusy, isEmpty, has
 use Rattle.model.specs.Step.{State, levelAt}
 use Rattle.model.specs.Schedule.{question12, question14, question15, refusalUnder, stepRefusal, holdsBack}
 use Rattle.model.specs.Rules.{conservative}
-use Rattle.model.proofs.Laws.Code.Reached.{ReachedState}
-use Rattle.model.proofs.Laws.Code.Needs.{live-shallow}
-use Rattle.model.proofs.Laws.Code.Progress.{refusal-absent, refusal-idle, refusal-blocked, refusal-none, allowed, busy-free, firstHolds, firsts-asked}
+use Rattle.theorems.proofs.Laws.Code.Reached.{ReachedState}
+use Rattle.theorems.proofs.Laws.Code.Needs.{live-shallow}
+use Rattle.theorems.proofs.Laws.Code.Progress.{refusal-absent, refusal-idle, refusal-blocked, refusal-none, allowed, busy-free, firstHolds, firsts-asked}
 use Rattle.queues.specs.Queue.{forkAt, forksAt}
 use Rattle.queues.proofs.Laws.Queue.{forks-first}
 use Rattle.tallies.specs.Places.{busyPlace}

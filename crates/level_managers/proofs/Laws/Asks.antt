@@ -21,7 +21,7 @@ asked End = not-asks refl
 asked (Write o k v) = not-asks refl
 asked (Read o k) = asks o k refl
 asked (Fork u o b v) = not-asks refl
-asked (Call o b a v) = not-asks refl
+asked (Call o way parameter) = not-asks refl
 asked (Pop v) = not-asks refl
 
 -- none is where the code has met another tag

@@ -8,13 +8,15 @@ use lib.ListN.{length, getD, set, drop, length-set}
 use lib.Seq.{getD-set-other, set-getD}
 use Rattle.lattice.proofs.Laws.Range.{not-both}
 use Rattle.session.specs.Limits.{maxLevels}
-use Rattle.session.specs.Parts.{levelCount}
+use Rattle.session.specs.Parts.{levelCount, objectCount}
 use Rattle.session.specs.Program.{Program, programOf}
 use Rattle.session.specs.Questions.{verdictOf}
 use Rattle.session.specs.declared.Verdict.the-variants.{Accepted}
 use Rattle.session.specs.declared.Value.{Value}
 use Rattle.session.specs.declared.Message.{Message}
 use Rattle.session.proofs.Laws.Contents.{level-limit, object-limit}
+use Rattle.scripts.specs.Existence.{scriptSeen}
+use Rattle.scripts.specs.Value.{numberIn}
 use Rattle.scripts.specs.Ending.{isRunning}
 use Rattle.scripts.specs.Effect.{Effect}
 use Rattle.scripts.specs.Effect as effect
@@ -23,6 +25,7 @@ use Rattle.scripts.specs.Manager.{started, stepped}
 use Rattle.scripts.specs.Valid.{Indexed, Startable}
 use Rattle.scripts.specs.declared.Ended.{Ended}
 use Rattle.scripts.proofs.Laws.Counts.{counts, grown, oneMore, stepped-counts}
+use Rattle.words.specs.Reads.{AllThere}
 use Rattle.operations.specs.Core.{bare, effectOf, keptOf}
 use Rattle.operations.specs.declared.Core.{Core}
 use Rattle.managers.specs.Manager.{managerOf, steppedOf}
@@ -33,8 +36,8 @@ use Rattle.model.specs.Level.{idle, busy, hasManager}
 use Rattle.model.specs.Limits.{workNumbers}
 use Rattle.model.specs.Step.{State, levelAt, readAt, stepAt}
 use Rattle.model.specs.Schedule.{question14, stepRefusal}
-use Rattle.model.proofs.Laws.Code.Reached.{ReachedState}
-use Rattle.model.proofs.Laws.Code.Progress.{allowed}
+use Rattle.theorems.proofs.Laws.Code.Reached.{ReachedState}
+use Rattle.theorems.proofs.Laws.Code.Progress.{allowed}
 use Rattle.records.specs.Histories.{HistoryIs, HistoryRoom}
 use Rattle.queues.specs.Queue.{forksAt, isDropped, ChildRow, Arrived}
 use Rattle.queues.proofs.Laws.Queue.{dropped-arrives}
@@ -188,8 +191,14 @@ settles-after a b {ended} {l} {first} {forks} {e} ready room d =
 
 -- the fork that starts, with the message that was read of it. That it starts leaves room for its history
 module _ (s index ended tallies queue : List ℕ) (l : ℕ) (message : Message) (r : StartReady s index ended tallies queue l) (is : (n : ℕ) → runningFork n tallies queue l .message ≡ message) where
-  pub start-asks : Indexed s index × Startable s l (getD tallies (nextPlace l) 0) message
-  start-asks = (r .indexed, rw (is 0) at (r .startable))
+  pub start-asks : Indexed s index × Startable s l (getD tallies (nextPlace l) 0) message × (message .object + 1 ≤ objectCount s)
+  start-asks =
+      let there : Startable s l (getD tallies (nextPlace l) 0) message = rw (is 0) at (r .startable) in
+      (r .indexed, there, omega (arith, there .present))
+
+  -- its object's own methods are those that it finds
+  pub own-script : (read : ℕ → ℕ → Value) → AllThere s read → scriptSeen read (message .object) ≡ message .object + 1
+  own-script read there = omega (arith, ap numberIn (there (message .object) (start-asks .1 .present)))
 
   pub begun-settles : SettleReady ended (begunTallies tallies l) queue l
   begun-settles =
@@ -204,8 +213,8 @@ module _ (s index ended tallies queue : List ℕ) (l : ℕ) (message : Message) 
         counted = rw long (r .settles .counted);
       }
 
-  pub begun : (ended' tallies' : List ℕ) (m : Manager) → m ≡ started (programOf s) l (getD tallies (nextPlace l) 0) message → Settled ended ended' (begunTallies tallies l) tallies' queue l m → Started s ended ended' tallies tallies' queue l m
-  begun ended' tallies' m made settled = record { manager = rw (is 0) made; settled = settled }
+  pub begun : (ended' tallies' : List ℕ) (m : Manager) → ((read : ℕ → ℕ → Value) → AllThere s read → m ≡ started (programOf s) read l (getD tallies (nextPlace l) 0) message) → Settled ended ended' (begunTallies tallies l) tallies' queue l m → Started s ended ended' tallies tallies' queue l m
+  begun ended' tallies' m made settled = record { manager = λ read there. rw (is 0) (made read there); settled = settled }
 
 abbrev accepted : {s masks index : List ℕ} → Tables s masks index → verdictOf s ≡ Accepted
 accepted a = a .indexed .accepted

@@ -13,6 +13,8 @@ use Rattle.session.specs.Parts.{levelCount, objectCount}
 use Rattle.session.specs.Meaning.{levelOf, fieldOf}
 use Rattle.session.specs.Program.{programOf}
 use Rattle.session.specs.declared.Value.{Value}
+use Rattle.scripts.specs.Existence.{initially}
+use Rattle.scripts.proofs.Laws.Existence.{first-field}
 use Rattle.session.proofs.Laws.Accepted.{level-present}
 use Rattle.session.proofs.Laws.Contents.{level-limit, object-limit}
 use Rattle.scripts.specs.Valid.{Leveled}
@@ -22,9 +24,9 @@ use Rattle.model.specs.Fork.{Fork}
 use Rattle.model.specs.History.{History, endBefore}
 use Rattle.model.specs.Level.{Version, newestTo}
 use Rattle.model.specs.Step.{State, levelAt, readBound, readAt}
-use Rattle.model.proofs.Laws.Safe.Reads.{read-own, read-below}
-use Rattle.model.proofs.Laws.Code.Reached.{ReachedState}
-use Rattle.model.proofs.Laws.Code.Needs.{live-ends, live-versions, live-falling}
+use Rattle.theorems.proofs.Laws.Steps.Reads.{read-own, read-below}
+use Rattle.theorems.proofs.Laws.Code.Reached.{ReachedState}
+use Rattle.theorems.proofs.Laws.Code.Needs.{live-ends, live-versions, live-falling}
 use Rattle.records.specs.Histories.{historiesAt}
 use Rattle.versions.specs.Log.{maxVersions, logStart, logOf, Within}
 use Rattle.versions.specs.Order.{StampsRise}
@@ -99,14 +101,14 @@ module _ {s masks : List ℕ} (a : Leveled s masks) {w : Words} {l : ℕ} {ms : 
   pub found-in : (levelOf s o ≡ l → ⊥) → readAt (programOf s) st l x o k ≡ foundIn s w l o k
   unfolding programOf
   found-in apart =
-      let h = level-present s (a .accepted) o there in
+      let h = level-present s (a .accepted) o in
       read-below (programOf s) st l x o k apart
-      ∙ ap₂ (λ (v : ℕ) (vs : List Version). newestTo v (fieldOf s o k) o k vs) (sym (bound-is a b h)) (sym (versions-are a b h))
+      ∙ ap₂ (λ (v : ℕ) (vs : List Version). newestTo v (initially (programOf s) o k) o k vs) (sym (bound-is a b h)) (sym (versions-are a b h))
 
   -- a level has no more versions than its log has room for
   pub read-few : getD (w .tallies) (versionsPlace (levelOf s o)) 0 ≤ maxVersions
   read-few =
-      let h = level-present s (a .accepted) o there in
+      let h = level-present s (a .accepted) o in
       versions-there a b h 0 (omega arith) .fits
 
 -- at its level a manager reads the current fields
@@ -117,7 +119,7 @@ read-here {s} {w} {l} {ms} {st} {x} b o k ho hk e = read-own (programOf s) st l 
 -- a read of field k of object o, which lies at level j
 module _ {s masks : List ℕ} (a : Leveled s masks) {w : Words} {l : ℕ} (q : IsBusy s w l) {o k : ℕ} (here : (o < objectCount s) × (k < fields)) {j : ℕ} (lies : j ≡ levelOf s o) where
   placed : j < levelCount s
-  placed = rw lies (level-present s (a .accepted) o (here .0))
+  placed = rw lies (level-present s (a .accepted) o)
 
   -- the words that are read are there
   pub read-there : FieldThere (w .current) o k
@@ -144,7 +146,7 @@ module _ {s masks : List ℕ} (a : Leveled s masks) {w : Words} {l : ℕ} (q : I
   unfolding programOf
   read-version {bound = bound} n e first is ms st x m b =
       read-below (programOf s) st l x o k (λ z. n (lies ∙ z))
-      ∙ ap (λ i. newestTo (readBound x st i) (fieldOf s o k) o k (levelAt st i .versions)) (sym lies)
-      ∙ ap₂ (λ (v : ℕ) (vs : List Version). newestTo v (fieldOf s o k) o k vs) (sym (bound-is a b placed) ∙ e (levelCount s) placed) (sym (versions-are a b placed))
-      ∙ ap (λ i. newestTo bound i o k (logOf (w .work) (logStart j) (getD (w .tallies) (versionsPlace j) 0))) (sym first)
+      ∙ ap (λ i. newestTo (readBound x st i) (initially (programOf s) o k) o k (levelAt st i .versions)) (sym lies)
+      ∙ ap₂ (λ (v : ℕ) (vs : List Version). newestTo v (initially (programOf s) o k) o k vs) (sym (bound-is a b placed) ∙ e (levelCount s) placed) (sym (versions-are a b placed))
+      ∙ ap (λ i. newestTo bound i o k (logOf (w .work) (logStart j) (getD (w .tallies) (versionsPlace j) 0))) (first-field (programOf s) o k (here .1) ∙ sym first)
       ∙ sym is

@@ -22,8 +22,8 @@ use Rattle.model.specs.Limits.{maxManagers}
 use Rattle.model.specs.Fork.{Fork}
 use Rattle.model.specs.Level.{Activity, idle, busy, Level, isBusy, isEmpty, hasManager}
 use Rattle.model.specs.Step.{State, levelAt}
-use Rattle.model.proofs.Laws.Code.Reached.{ReachedState}
-use Rattle.model.proofs.Laws.Code.Needs.{live-startable, live-write, live-fork}
+use Rattle.theorems.proofs.Laws.Code.Reached.{ReachedState}
+use Rattle.theorems.proofs.Laws.Code.Needs.{live-startable, live-write, live-fork}
 use Rattle.queues.specs.Queue.{forkAt}
 use Rattle.queues.proofs.Laws.Queue.{stamp-any, depth-any, message-any}
 use Rattle.tallies.specs.Places.{waitingPlace, versionsPlace, busyPlace}

@@ -9,7 +9,8 @@ use lib.ListN.{getD}
 use lib.Seq.{getD-set-other}
 use Rattle.session.specs.Limits.{maxLevels}
 use Rattle.session.specs.Parts.{levelCount}
-use Rattle.session.specs.Meaning.{levelOf, fieldOf}
+use Rattle.session.specs.Meaning.{levelOf}
+use Rattle.session.specs.Program.{programOf}
 use Rattle.session.specs.declared.Value.{Value}
 use Rattle.session.specs.declared.Message.{Message}
 use Rattle.model.specs.Limits.{maxManagers}
@@ -23,6 +24,7 @@ use Rattle.versions.specs.Log.{maxVersions, logStart, logOf}
 use Rattle.tallies.specs.Places.{waitingPlace, versionsPlace}
 use Rattle.level_managers.specs.Representation.{Words}
 use Rattle.level_managers.specs.Steps.{foundIn, Wrote, Forked}
+use Rattle.scripts.specs.Existence.{initially}
 
 -- field k of object o is read at level j, another than that of the manager, l
 module _ (s : List ℕ) (w : Words) (l : ℕ) (low : l < maxLevels) (o k : ℕ) (placed : levelOf s o < maxLevels) (apart : levelOf s o ≡ l → ⊥) where
@@ -32,7 +34,7 @@ module _ (s : List ℕ) (w : Words) (l : ℕ) (low : l < maxLevels) (o k : ℕ) 
   -- it depends on the manager's fork, the histories and the versions of level j
   abbrev readBy : Fork → ℕ → List Version → Value
   readBy x ended vs =
-      newestTo (cond (eqb (getD (x .carried) j 0) 0) (endBefore (x .stamp) (historiesAt (w .ended) j ended)) (getD (x .carried) j 0)) (fieldOf s o k) o k vs
+      newestTo (cond (eqb (getD (x .carried) j 0) 0) (endBefore (x .stamp) (historiesAt (w .ended) j ended)) (getD (x .carried) j 0)) (initially (programOf s) o k) o k vs
 
   -- where these are the same, so is what is read
   same : (x x' : Fork) (n n' : ℕ) (vs vs' : List Version) → x' ≡ x → n' ≡ n → vs' ≡ vs → readBy x' n' vs' ≡ readBy x n vs

@@ -10,6 +10,7 @@ use Rattle.lattice.proofs.Laws.Range.{not-both}
 use Rattle.session.specs.Limits.{maxLevels, fields}
 use Rattle.session.specs.Parts.{levelCount, objectCount}
 use Rattle.session.specs.Program.{programOf}
+use Rattle.scripts.specs.Existence.{initially}
 use Rattle.scripts.specs.State.{Manager}
 use Rattle.words.specs.Fields.{fieldAt}
 use Rattle.model.specs.Limits.{maxManagers}
@@ -17,7 +18,7 @@ use Rattle.model.specs.Lists.{modify}
 use Rattle.model.specs.Fork.{Fork}
 use Rattle.model.specs.Level.{Activity, idle, busy, Level, newLevel, isBusy, startedCount, newest}
 use Rattle.model.specs.Step.{State, levelAt}
-use Rattle.model.proofs.Laws.Lists.{modify-length, modify-at, modify-other}
+use Rattle.theorems.proofs.Laws.Lists.{modify-length, modify-at, modify-other}
 use Rattle.records.specs.Histories.{historiesAt}
 use Rattle.rows.specs.Rows.{rowsAt}
 use Rattle.queues.specs.Queue.{forkWords, forkPlace, forkAt, ForksRise}
@@ -111,9 +112,9 @@ module _ (s : List ℕ) (w w' : Words) (ms ms' : ℕ → Manager) (st : State) (
   at-other k d = modify-other newLevel l k f st (λ e. d (sym e))
 
   -- a change that makes no version leaves the fields
-  pub field-kept : ((v : Level) → f v .versions ≡ v .versions) → (o k : ℕ) → o < objectCount s → k < fields → fieldAt (w .current) o k ≡ newest (programOf s .field o k) o k (levelAt (modify l f st) (programOf s .level o) .versions)
+  pub field-kept : ((v : Level) → f v .versions ≡ v .versions) → (o k : ℕ) → o < objectCount s → k < fields → fieldAt (w .current) o k ≡ newest (initially (programOf s) o k) o k (levelAt (modify l f st) (programOf s .level o) .versions)
   field-kept kept o k ho hk =
-      t .field o k ho hk ∙ ap (newest (programOf s .field o k) o k) (sym (by (ℕ-discrete (programOf s .level o) l)))
+      t .field o k ho hk ∙ ap (newest (initially (programOf s) o k) o k) (sym (by (ℕ-discrete (programOf s .level o) l)))
     where
       by : Dec (programOf s .level o ≡ l) → levelAt (modify l f st) (programOf s .level o) .versions ≡ levelAt st (programOf s .level o) .versions
       by (yes e) = rw e (ap (λ v. v .versions) at-own ∙ kept (levelAt st l))
@@ -121,7 +122,7 @@ module _ (s : List ℕ) (w w' : Words) (ms ms' : ℕ → Manager) (st : State) (
 
   pub represents-change : Roomy w'
       → ((k : ℕ) → k < maxLevels → getD (w' .tallies) k 0 ≤ maxManagers)
-      → ((o k : ℕ) → o < objectCount s → k < fields → fieldAt (w' .current) o k ≡ newest (programOf s .field o k) o k (levelAt (modify l f st) (programOf s .level o) .versions))
+      → ((o k : ℕ) → o < objectCount s → k < fields → fieldAt (w' .current) o k ≡ newest (initially (programOf s) o k) o k (levelAt (modify l f st) (programOf s .level o) .versions))
       → LevelRepresents (levelCount s) w' l (ms' l) (f (levelAt st l))
       → ((k : ℕ) → k < levelCount s → (k ≡ l → ⊥) → SameAt w w' k)
       → ((k : ℕ) → (k ≡ l → ⊥) → ms' k ≡ ms k)

@@ -25,7 +25,7 @@ use Rattle.scripts.specs.Manager.{stepped}
 use Rattle.scripts.specs.Valid.{Valid}
 use Rattle.words.specs.Limits.{fieldWords}
 use Rattle.words.specs.Fields.{fieldPlace, knownAt, FieldThere, Forgotten}
-use Rattle.words.specs.Reads.{isAvailable, Agrees}
+use Rattle.words.specs.Reads.{shownIn, isAvailable, AllThere, Agrees}
 use Rattle.operations.specs.Core.{isAsking, Present}
 use Rattle.operations.specs.Moves.{Asks}
 use Rattle.operations.specs.declared.Core.{Core}
@@ -37,10 +37,10 @@ use Rattle.managers.specs.Steps as managers
 use Rattle.managers.specs.declared.Manager as code
 use Rattle.model.specs.Fork.{Fork}
 use Rattle.model.specs.Step.{State, readAt}
-use Rattle.model.proofs.Laws.Code.Needs.{live-runs}
+use Rattle.theorems.proofs.Laws.Code.Needs.{live-runs}
 use Rattle.level_managers.specs.Representation.{Words}
 use Rattle.level_managers.specs.Steps.{Tables, Busy, IsBusy, ReadReady, Answered}
-use Rattle.level_managers.proofs.Laws.Step.{invariant-live}
+use Rattle.level_managers.proofs.Laws.Step.{invariant-live, objects-there}
 use Rattle.level_managers.proofs.Laws.Reads.{read-here}
 
 -- nothing is kept of what managers have read
@@ -103,7 +103,7 @@ asking act.End h = absurd (not-both false h refl)
 asking (act.Write o k v) h = absurd (not-both false h refl)
 asking (act.Read o k) h = (o, (k, refl))
 asking (act.Fork u object name parameter) h = absurd (not-both false h refl)
-asking (act.Call o name answer parameter) h = absurd (not-both false h refl)
+asking (act.Call o way parameter) h = absurd (not-both false h refl)
 asking (act.Pop v) h = absurd (not-both false h refl)
 
 -- m runs at level l
@@ -136,16 +136,22 @@ module _ {s masks index : List ℕ} {w : Words} {l : ℕ} {m : code.Manager} (a 
         running = running;
       }
 
+  there-all : {ms : ℕ → Manager} {st : State} {x : Fork} → Busy s w l ms st x (managerOf m) → AllThere s (readAt (programOf s) st l x)
+  there-all {st = st} {x = x} q = objects-there s (a .indexed .accepted) st (invariant-live s (a .indexed .accepted) w _ st (q .invariant)) l x
+
   module _ {cache : List ℕ} (f : Fresh s cache m) where
     pub able : Advanceable s masks index (w .current) cache m
     able = able-with cache (f .there) (f .held running)
 
     -- with nothing kept it sees the objects of its level alone
     agrees-blank : (ms : ℕ → Manager) (st : State) (x : Fork) → Busy s w l ms st x (managerOf m) → Agrees s (w .current) cache false (m .core .level) (readAt (programOf s) st l x)
-    agrees-blank ms st x q o k ho hk shown = elim (truth (eqb (levelOf s o) (m .core .level))) [
-      | holds e ↦ rw e (read-here q o k ho hk (eqb-true (levelOf s o) (m .core .level) e ∙ level-is))
-      | fails e ↦ absurd (not-both (knownAt cache o k) (rw e at shown) (f .blank o k hk))
-    ]
+    agrees-blank ms st x q = record { there = there-all q; shown = shown }
+      where
+        shown : (o k : ℕ) → o < objectCount s → k < fields → isAvailable s cache false (m .core .level) o k ≡ true → readAt (programOf s) st l x o k ≡ shownIn s (w .current) cache false (m .core .level) o k
+        shown o k ho hk known = elim (truth (eqb (levelOf s o) (m .core .level))) [
+          | holds e ↦ rw e (read-here q o k ho hk (eqb-true (levelOf s o) (m .core .level) e ∙ level-is))
+          | fails e ↦ absurd (not-both (knownAt cache o k) (rw e at known) (f .blank o k hk))
+        ]
 
     -- a step that asks for nothing is the definition's
     pub step-made : {n : code.Manager} → managers.Stepped s (w .current) cache m n → isAsking (n .core .effect) ≡ false → ScriptStep s w l cache m n
@@ -185,12 +191,15 @@ module _ {s masks index : List ℕ} {w : Words} {l : ℕ} {m : code.Manager} (a 
             by (yes x) (no y) = absurd (not-both (knownAt cache' o' k') known (others-unknown o' k' hk (λ _ z. y z)))
 
         agrees-represents : (ms : ℕ → Manager) (st : State) (x : Fork) → Busy s w l ms st x (managerOf m) → Agrees s (w .current) cache' false (m .core .level) (readAt (programOf s) st l x)
-        agrees-represents ms st x q o' k' ho hk shown = elim (truth (eqb (levelOf s o') (m .core .level))) [
-          | holds e ↦ rw e (read-here q o' k' ho hk (eqb-true (levelOf s o') (m .core .level) e ∙ level-is))
-          | fails e ↦
-              let (x', y') = known-is o' k' hk (rw e at shown) in
-              rw (e, x', y') (represents .is ms st x (managerOf m) q ∙ sym (represents .kept .field .set))
-        ]
+        agrees-represents ms st x q = record { there = there-all q; shown = shown }
+          where
+            shown : (o' k' : ℕ) → o' < objectCount s → k' < fields → isAvailable s cache' false (m .core .level) o' k' ≡ true → readAt (programOf s) st l x o' k' ≡ shownIn s (w .current) cache' false (m .core .level) o' k'
+            shown o' k' ho hk known = elim (truth (eqb (levelOf s o') (m .core .level))) [
+              | holds e ↦ rw e (read-here q o' k' ho hk (eqb-true (levelOf s o') (m .core .level) e ∙ level-is))
+              | fails e ↦
+                  let (x', y') = known-is o' k' hk (rw e at known) in
+                  rw (e, x', y') (represents .is ms st x (managerOf m) q ∙ sym (represents .kept .field .set))
+            ]
 
         -- it does not ask again
         internal : {n : code.Manager} → managers.Stepped s (w .current) cache' m n → isAsking (n .core .effect) ≡ false

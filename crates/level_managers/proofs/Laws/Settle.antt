@@ -19,7 +19,7 @@ use Rattle.model.specs.Fork.{Fork}
 use Rattle.model.specs.History as history
 use Rattle.model.specs.Level.{Activity, idle, busy, Level, isBusy, startedCount, after}
 use Rattle.model.specs.Step.{State, levelAt}
-use Rattle.model.proofs.Laws.Invariant.Measure.{inserted-length}
+use Rattle.theorems.proofs.Laws.Invariant.Measure.{inserted-length}
 use Rattle.records.specs.Histories.{historiesAt, InOrder, historyOf}
 use Rattle.queues.specs.Queue.{forkAt, forksAt}
 use Rattle.queues.proofs.Laws.Queue.{stamp-any}

@@ -15,17 +15,20 @@ use Rattle.scripts.specs.Manager.{started, stepped}
 use Rattle.scripts.specs.State.{Manager, Stepped}
 use Rattle.scripts.specs.Effect.{Effect}
 use Rattle.scripts.specs.Effect as effect
+use Rattle.scripts.proofs.Laws.Existence.{first-there}
+use Rattle.words.specs.Reads.{AllThere}
 use Rattle.model.specs.Limits.{workNumbers}
 use Rattle.model.specs.Lists.{modify}
 use Rattle.model.specs.Fork.{Fork}
 use Rattle.model.specs.Level.{idle, busy, Level, newLevel, after}
 use Rattle.model.specs.Step.{State, levelAt, readAt, stepAt}
 use Rattle.model.specs.Schedule.{readIn, stepRefusal}
-use Rattle.model.proofs.Laws.Lists.{modify-twice}
-use Rattle.model.proofs.Laws.Order.Accepted.{sound}
-use Rattle.model.proofs.Laws.Code.Direct.{step-start}
-use Rattle.model.proofs.Laws.Code.Reached.{ReachedState, present}
-use Rattle.model.proofs.Laws.Code.Progress.{leads-more, leads-live}
+use Rattle.theorems.proofs.Laws.Lists.{modify-twice}
+use Rattle.theorems.proofs.Laws.Order.Accepted.{sound}
+use Rattle.theorems.proofs.Laws.Invariant.Contained.{read-existence}
+use Rattle.theorems.proofs.Laws.Code.Direct.{step-start}
+use Rattle.theorems.proofs.Laws.Code.Reached.{ReachedState, present}
+use Rattle.theorems.proofs.Laws.Code.Progress.{leads-more, leads-live}
 use Rattle.queues.specs.Queue.{forkAt}
 use Rattle.queues.proofs.Laws.Queue.{message-any}
 use Rattle.level_managers.specs.Representation.{Words, Represents, RunInvariant, placed}
@@ -61,6 +64,11 @@ invariant-step s w w' ms ms' st l y ok t =
       represents = t;
       reached = (y .reached .0 ++ (l ∷ []), leads-more (programOf s) (readIn (programOf s) (rootOf s)) (y .reached .0) st l (y .reached .1) ok);
     }
+
+-- in a state that a run reaches a manager reads each object of the session as there, with its own methods
+pub objects-there : (s : List ℕ) → verdictOf s ≡ Accepted → (st : State) → ReachedState s st → (l : ℕ) (x : Fork) → AllThere s (readAt (programOf s) st l x)
+objects-there s a st i l x o h =
+    read-existence (programOf s) (sound s a) st (i .reachable .steady .contained) l x o ∙ first-there s o h
 
 -- the work slice is as it was beyond the versions
 pub rest-effect : (a b : Parts) (l stamp forks : ℕ) (e : Effect) → EffectDone a b l stamp forks e → drop workNumbers (b .work) ≡ drop workNumbers (a .work)
@@ -104,10 +112,10 @@ module _ (s : List ℕ) (a : verdictOf s ≡ Accepted) (few : levelCount s ≤ m
       | no z ↦ rw (at-other s w w ms ms st (y .represents) limits l h begun k z) (limits k hk)
     ]
 
-    manager-is : m ≡ started (programOf s) l (v .next) (x .message)
+    manager-is : m ≡ started (programOf s) (readAt (programOf s) st l x) l (v .next) (x .message)
     manager-is =
-        d .manager
-        ∙ ap₂ (started (programOf s) l) (y .represents .level l h .next) (message-any 0 (levelCount s) (w .queue) l (getD (w .tallies) l 0) ∙ ap (λ k. forkAt (levelCount s) (w .queue) l k .message) (y .represents .level l h .ended-count) ∙ ap (λ x. x .message) (first-fork s w ms st (y .represents) limits few l h x xs quiescent waits m))
+        d .manager (readAt (programOf s) st l x) (objects-there s a st i l x)
+        ∙ ap₂ (started (programOf s) (readAt (programOf s) st l x) l) (y .represents .level l h .next) (message-any 0 (levelCount s) (w .queue) l (getD (w .tallies) l 0) ∙ ap (λ k. forkAt (levelCount s) (w .queue) l k .message) (y .represents .level l h .ended-count) ∙ ap (λ x. x .message) (first-fork s w ms st (y .represents) limits few l h x xs quiescent waits m))
 
     step-is : modify l settled (modify l begun st) ≡ stepAt (programOf s) l st
     step-is =
@@ -115,7 +123,7 @@ module _ (s : List ℕ) (a : verdictOf s ≡ Accepted) (few : levelCount s ≤ m
         ∙ modify-fixed newLevel l (λ v. settled (begun v)) st
         ∙ ap (λ u. modify l (λ _. u) st) (after-any v (begun v) xs (v .versions) x m refl refl)
         ∙ ap (λ m. modify l (λ _. after v xs (v .versions) x m) st) manager-is
-        ∙ sym (step-start (programOf s) (sound s a) st (i .reachable .steady .fork-invariant) (i .reachable .contained) l (present s l h) x xs quiescent waits)
+        ∙ sym (step-start (programOf s) (sound s a) st (i .reachable .steady .fork-invariant) (i .reachable .steady .contained) l (present s l h) x xs quiescent waits)
 
     held : (k : ℕ) → placed l m ms k ≡ placed l m (placed l m ms) k
     held k = elim (ℕ-discrete k l) [

@@ -11,6 +11,7 @@ use Rattle.session.specs.Limits.{maxLevels, fields}
 use Rattle.session.specs.Parts.{levelCount, objectCount}
 use Rattle.session.specs.Program.{programOf}
 use Rattle.session.specs.declared.Value.{Value}
+use Rattle.scripts.specs.Existence.{initially}
 use Rattle.scripts.specs.State.{Manager}
 use Rattle.words.specs.Fields.{fieldAt}
 use Rattle.model.specs.Lists.{modify}
@@ -109,26 +110,26 @@ module _ (s : List ℕ) (w : Words) (ms : ℕ → Manager) (st : State) (t : Rep
           more : {c : ℕ} → c ≡ length (own-level .versions) → length (ver ∷ own-level .versions) ≡ c + 1
           more e = omega (arith, e)
 
-  field-is : programOf s .level o ≡ l → (o' k' : ℕ) → o' < objectCount s → k' < fields → fieldAt current' o' k' ≡ newest (programOf s .field o' k') o' k' (levelAt (modify l written st) (programOf s .level o') .versions)
+  field-is : programOf s .level o ≡ l → (o' k' : ℕ) → o' < objectCount s → k' < fields → fieldAt current' o' k' ≡ newest (initially (programOf s) o' k') o' k' (levelAt (modify l written st) (programOf s .level o') .versions)
   field-is lies o' k' ho hk = by (ℕ-discrete o' o) (ℕ-discrete k' k)
     where
       here : (o' : ℕ) → programOf s .level o' ≡ l → levelAt (modify l written st) (programOf s .level o') .versions ≡ ver ∷ levelAt st (programOf s .level o') .versions
       here o' e = rw e (ap (λ v. v .versions) (at-own s w wordsWritten ms ms st t b l h written))
 
-      other : (o' k' : ℕ) → o' < objectCount s → k' < fields → (o' ≡ o → k' ≡ k → ⊥) → fieldAt current' o' k' ≡ newest (programOf s .field o' k') o' k' (levelAt (modify l written st) (programOf s .level o') .versions)
+      other : (o' k' : ℕ) → o' < objectCount s → k' < fields → (o' ≡ o → k' ≡ k → ⊥) → fieldAt current' o' k' ≡ newest (initially (programOf s) o' k') o' k' (levelAt (modify l written st) (programOf s .level o') .versions)
       other o' k' ho hk d =
           wrote .field .others o' k' hk d
           ∙ t .field o' k' ho hk
           ∙ elim (ℕ-discrete (programOf s .level o') l) [
             | yes e ↦
-                sym (ap (newest (programOf s .field o' k') o' k') (here o' e) ∙ newest-other (programOf s .field o' k') o k o' k' stamp v (levelAt st (programOf s .level o') .versions) d)
+                sym (ap (newest (initially (programOf s) o' k') o' k') (here o' e) ∙ newest-other (initially (programOf s) o' k') o k o' k' stamp v (levelAt st (programOf s .level o') .versions) d)
             | no e ↦
-                sym (ap (λ v. newest (programOf s .field o' k') o' k' (v .versions)) (at-other s w wordsWritten ms ms st t b l h written (programOf s .level o') e))
+                sym (ap (λ v. newest (initially (programOf s) o' k') o' k' (v .versions)) (at-other s w wordsWritten ms ms st t b l h written (programOf s .level o') e))
           ]
 
-      by : Dec (o' ≡ o) → Dec (k' ≡ k) → fieldAt current' o' k' ≡ newest (programOf s .field o' k') o' k' (levelAt (modify l written st) (programOf s .level o') .versions)
+      by : Dec (o' ≡ o) → Dec (k' ≡ k) → fieldAt current' o' k' ≡ newest (initially (programOf s) o' k') o' k' (levelAt (modify l written st) (programOf s .level o') .versions)
       by (yes x) (yes y) =
-          rw (x, y) (wrote .field .set ∙ sym (ap (newest (programOf s .field o k) o k) (here o lies) ∙ newest-own (programOf s .field o k) o k stamp v (levelAt st (programOf s .level o) .versions)))
+          rw (x, y) (wrote .field .set ∙ sym (ap (newest (initially (programOf s) o k) o k) (here o lies) ∙ newest-own (initially (programOf s) o k) o k stamp v (levelAt st (programOf s .level o) .versions)))
       by (no x) d = other o' k' ho hk (λ z _. x z)
       by (yes x) (no y) = other o' k' ho hk (λ _ z. y z)
 

@@ -5,14 +5,17 @@ use mathlib.Core.Bool.{Bool, true, false, cond, _&&_}
 use mathlib.Core.List.{List, _∷_}
 use native.Mathlib.Decide.{ℕ-discrete}
 use native.Mathlib.Omega.{arith}
-use borrow.Author.Tests.{ltb-true}
+use borrow.Author.Tests.{lt-ltb, ltb-true}
 use lib.Dec.{eqb, ltb}
 use lib.ListN.{length, getD, set, length-set}
 use lib.Seq.{getD-set-same, getD-set-other}
 use Rattle.lattice.proofs.Laws.Range.{not-both, and-left, and-right}
+use Rattle.session.specs.Limits.{fields}
 use Rattle.session.specs.Program.{Program, programOf}
 use Rattle.session.specs.declared.Value.{Value}
+use Rattle.session.specs.declared.Value.the-variants.{Number}
 use Rattle.session.proofs.Laws.Lists.{holds, fails, truth}
+use Rattle.scripts.specs.Existence.{ownScript}
 use Rattle.scripts.specs.Limits.{maxFrames, maxScriptSteps}
 use Rattle.scripts.specs.Ending.{isRunning}
 use Rattle.scripts.specs.Effect as effect
@@ -21,7 +24,7 @@ use Rattle.scripts.specs.Manager.{isEnd, nextStep}
 use Rattle.words.specs.Reads.{shownIn, Agrees}
 use Rattle.frames.specs.Frames.{frameOf, asideOf, noWaiting, asideFrom, below, Placed, Waits}
 use Rattle.frames.specs.declared.Waiting.{Waiting}
-use Rattle.frames.proofs.Laws.Frames.{not-end}
+use Rattle.frames.proofs.Laws.Frames.{set-aside-same, not-end}
 use Rattle.operations.specs.Core.{bare, standing, stackOf, effectOf, settledOf, comesTo, isOver, isAsking, isNothing, isDone, Tall, Present, Sits}
 use Rattle.operations.specs.Moves.{causing, endingAs, restacked, Operable, Asks, Operated, Pushed, Popped}
 use Rattle.operations.specs.declared.Core.{Core}
@@ -32,6 +35,13 @@ use Rattle.managers.specs.Steps.{Leads, internal, InternalSteps, waiting
 use Rattle.managers.specs.declared.Manager.{Manager}
 use Rattle.managers.proofs.Laws.Leads.{leads-alike}
 use Rattle.managers.proofs.Laws.Turns.{below-length, below-pushed, below-popped, comes-alike, internal-comes, no-pops, push-comes, pop-comes, turn-leads}
+
+-- a way to read: what the words at hand say of fields, and each object there with its own methods
+abbrev pub sayingOf : List ℕ → List ℕ → List ℕ → Bool → ℕ → ℕ → ℕ → Value
+sayingOf s current cache all level o k = cond (ltb k fields) (shownIn s current cache all level o k) (Number (ownScript o))
+
+pub saying-agrees : (s current cache : List ℕ) (all : Bool) (level : ℕ) → Agrees s current cache all level (sayingOf s current cache all level)
+saying-agrees s current cache all level = record { there = λ o ho. refl; shown = λ o k ho hk e. rw (lt-ltb k fields hk) refl }
 
 -- a stack of some frames has its top
 pub stack-some : (h : ℕ) (f : defined.Frame) (gs : List defined.Frame) → 0 < h → stackOf h f gs ≡ f ∷ gs
@@ -74,7 +84,7 @@ over-settled p c gs hs e End o = ap (bare c) e
 over-settled p c gs hs e (Write object field value) o = absurd (not-both false o refl)
 over-settled p c gs hs e (Read object field) o = absurd (not-both false o refl)
 over-settled p c gs hs e (Fork level object name parameter) o = absurd (not-both false o refl)
-over-settled p c gs hs e (Call object name answer parameter) o = absurd (not-both false o refl)
+over-settled p c gs hs e (Call object way parameter) o = absurd (not-both false o refl)
 over-settled p c gs hs e (Pop reply) o = absurd (not-both false o refl)
 
 over-comes : (p : Program) (c : Core) (gs hs : List defined.Frame) → isOver (c .effect) ≡ true → stackOf (c .height) (frameOf (c .top)) gs ≡ stackOf (c .height) (frameOf (c .top)) hs → comesTo p c gs ≡ comesTo p c hs
@@ -92,7 +102,7 @@ askedObject d End = d
 askedObject d (Write object field value) = d
 askedObject d (Read object field) = object
 askedObject d (Fork level object name parameter) = d
-askedObject d (Call object name answer parameter) = d
+askedObject d (Call object way parameter) = d
 askedObject d (Pop reply) = d
 
 abbrev askedField : ℕ → Effect → ℕ
@@ -101,7 +111,7 @@ askedField d End = d
 askedField d (Write object field value) = d
 askedField d (Read object field) = field
 askedField d (Fork level object name parameter) = d
-askedField d (Call object name answer parameter) = d
+askedField d (Call object way parameter) = d
 askedField d (Pop reply) = d
 
 -- is a frame to be made
@@ -111,7 +121,7 @@ isCall End = false
 isCall (Write object field value) = false
 isCall (Read object field) = false
 isCall (Fork level object name parameter) = false
-isCall (Call object name answer parameter) = true
+isCall (Call object way parameter) = true
 isCall (Pop reply) = false
 
 asks-caused : (s cache : List ℕ) (all : Bool) (c : Core) (e : Effect) (o k : ℕ) → Asks s cache all c o k → Asks s cache all (causing c e) o k
@@ -239,13 +249,16 @@ module _ (s masks index current cache : List ℕ) (all : Bool) (limit : ℕ) (c�
 
   module _ (c : Core) (ws : List Waiting) (t : Turning s masks index current cache all limit c₀ ws₀ c ws) where
     -- what the words at hand say is a way to read
-    at-hand : Agrees s current cache all (c₀ .level) (shownIn s current cache all (c₀ .level))
-    at-hand o k ho hk e = refl
+    abbrev shown : ℕ → ℕ → Value
+    shown = sayingOf s current cache all (c₀ .level)
+
+    at-hand : Agrees s current cache all (c₀ .level) shown
+    at-hand = saying-agrees s current cache all (c₀ .level)
 
     alike : (c .level ≡ c₀ .level) × (c .first ≡ c₀ .first)
     unfolding managerOf
     alike =
-        let a = leads-alike p (shownIn s current cache all (c₀ .level)) (managerOf m₀) (comesTo p c (below ws (c .height - 1))) (t .leads (shownIn s current cache all (c₀ .level)) at-hand) in
+        let a = leads-alike p shown (managerOf m₀) (comesTo p c (below ws (c .height - 1))) (t .leads shown at-hand) in
         let b = comes-alike p c (below ws (c .height - 1)) in
         (sym (b .0) ∙ a .0, sym (b .1) ∙ a .1)
 
@@ -317,7 +330,7 @@ module _ (s masks index current cache : List ℕ) (all : Bool) (limit : ℕ) (c�
       no-early e shut =
           let back : c .steps ≡ c₀ .steps = omega (arith, e, grows .0, t .grown) in
           let first = t .early back shut .1 in
-          let unfinished : isEnd (nextStep p (frameOf (c .top))) ≡ false = rw first (not-end s (t .able .indexed .accepted) (c₀ .top) (t .able .held .top) (t .able .held .unfinished (t .able .running))) in
+          let unfinished : isEnd (nextStep p (frameOf (c .top))) ≡ false = ap (λ f. isEnd (nextStep p f)) first ∙ not-end s (t .able .indexed .accepted) (c₀ .top) (t .able .held .top) (t .able .held .unfinished (t .able .running)) in
           by turned back first unfinished
         where
           by : Turned s cache all c r → c .steps ≡ c₀ .steps → frameOf (c .top) ≡ frameOf (c₀ .top) → isEnd (nextStep (programOf s) (frameOf (c .top))) ≡ false → ⊥
@@ -347,7 +360,7 @@ module _ (s masks index current cache : List ℕ) (all : Bool) (limit : ℕ) (c�
       turning-less d = rw q (less-done s cache all c r (turning-operable q l .few) (some q) (o .lower) d turned)
 
       -- a frame made above the top
-      module _ (x n i : ℕ) (v : Value) (is : r .effect ≡ Call x n i v) (w : Waiting) (aside : (w ≡ asideFrom (r .top)) × Waits s (asideOf w)) (r' : Core) (h : Pushed s r x n i v r') where
+      module _ (x u : ℕ) (v : Value) (is : r .effect ≡ Call x u v) (w : Waiting) (aside : (w ≡ asideFrom (r .top)) × Waits s (asideOf w)) (r' : Core) (h : Pushed s r x u v r') where
         still : r .height ≡ c .height
         still = o .tall (rw is refl)
 
@@ -365,9 +378,10 @@ module _ (s masks index current cache : List ℕ) (all : Bool) (limit : ℕ) (c�
             let frames : below (set ws (r .height - 1) w) (r' .height - 1) ≡ frameOf (r .top) ∷ gs =
             ap (λ k. below (set ws (r .height - 1) w) (k - 1)) height
             ∙ below-pushed ws (r .height) w (omega (arith, has, still)) (omega (arith, room-here, t .room))
-            ∙ ap (λ x. asideOf x ∷ gs) (aside .0) in
+            ∙ ap (λ x. asideOf x ∷ gs) (aside .0)
+            ∙ ap (λ x. x ∷ gs) (set-aside-same s (r .top) (t .able .indexed .accepted) (o .sits .top)) in
             let same : comesTo p r' (below (set ws (r .height - 1) w) (r' .height - 1)) ≡ comesTo p r gs =
-            ap (comesTo p r') frames ∙ push-comes s r r' x n i v gs is h in
+            ap (comesTo p r') frames ∙ push-comes s r r' x u v gs is h in
             record {
               able = t .able;
               limited = t .limited;
@@ -434,7 +448,7 @@ nothing-at End n = absurd (not-both false n refl)
 nothing-at (Write object field value) n = absurd (not-both false n refl)
 nothing-at (Read object field) n = absurd (not-both false n refl)
 nothing-at (Fork level object name parameter) n = absurd (not-both false n refl)
-nothing-at (Call object name answer parameter) n = absurd (not-both false n refl)
+nothing-at (Call object way parameter) n = absurd (not-both false n refl)
 nothing-at (Pop reply) n = absurd (not-both false n refl)
 
 pub unfinished-internal : (c : Core) (limit : ℕ) (b : Bool) → b ≡ (isNothing (c .effect) && ltb (c .steps) limit) → b ≡ true → (c .effect ≡ Nothing) × (c .steps < limit)

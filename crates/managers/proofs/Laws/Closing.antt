@@ -43,7 +43,7 @@ asking-is End a = absurd (not-both false a refl)
 asking-is (Write object field value) a = absurd (not-both false a refl)
 asking-is (Read object field) a = (object, (field, refl))
 asking-is (Fork level object name parameter) a = absurd (not-both false a refl)
-asking-is (Call object name answer parameter) a = absurd (not-both false a refl)
+asking-is (Call object way parameter) a = absurd (not-both false a refl)
 asking-is (Pop reply) a = absurd (not-both false a refl)
 
 done-tall : (e : Effect) (h : ℕ) → isDone e ≡ true → Tall e h
@@ -52,7 +52,7 @@ done-tall End h d = tt
 done-tall (Write object field value) h d = tt
 done-tall (Read object field) h d = tt
 done-tall (Fork level object name parameter) h d = tt
-done-tall (Call object name answer parameter) h d = absurd (not-both false d refl)
+done-tall (Call object way parameter) h d = absurd (not-both false d refl)
 done-tall (Pop reply) h d = absurd (not-both false d refl)
 
 -- where nothing is left to do to the frames of a core that runs, its pops are to come
@@ -62,7 +62,7 @@ plain-settled p c gs End d o a = absurd (not-both true refl o)
 plain-settled p c gs (Write object field value) d o a = refl
 plain-settled p c gs (Read object field) d o a = absurd (not-both true refl a)
 plain-settled p c gs (Fork level object name parameter) d o a = refl
-plain-settled p c gs (Call object name answer parameter) d o a = absurd (not-both false d refl)
+plain-settled p c gs (Call object way parameter) d o a = absurd (not-both false d refl)
 plain-settled p c gs (Pop reply) d o a = absurd (not-both false d refl)
 
 over-settled : (p : Program) (c : Core) (gs : List defined.Frame) (x : Effect) → isOver x ≡ true → settledOf p c gs x ≡ bare c (stackOf (c .height) (frameOf (c .top)) gs)
@@ -71,7 +71,7 @@ over-settled p c gs End o = refl
 over-settled p c gs (Write object field value) o = absurd (not-both false o refl)
 over-settled p c gs (Read object field) o = absurd (not-both false o refl)
 over-settled p c gs (Fork level object name parameter) o = absurd (not-both false o refl)
-over-settled p c gs (Call object name answer parameter) o = absurd (not-both false o refl)
+over-settled p c gs (Call object way parameter) o = absurd (not-both false o refl)
 over-settled p c gs (Pop reply) o = absurd (not-both false o refl)
 
 asking-settled : (p : Program) (c : Core) (gs : List defined.Frame) (x : Effect) → isAsking x ≡ true → settledOf p c gs x ≡ standing c gs

@@ -13,7 +13,7 @@ use Rattle.session.proofs.Laws.Lists.{holds, fails, truth}
 use Rattle.scripts.specs.Ending.{isRunning}
 use Rattle.scripts.specs.Effect as effect
 use Rattle.scripts.specs.Manager.{topOf, top, nextStep}
-use Rattle.words.specs.Reads.{isAvailable, shownIn}
+use Rattle.words.specs.Reads.{isAvailable}
 use Rattle.frames.specs.Frames.{frameOf, below}
 use Rattle.frames.specs.declared.Waiting.{Waiting}
 use Rattle.operations.specs.Core.{effectOf, isOver, isAsking, isNothing, isDone, Present}
@@ -25,7 +25,7 @@ use Rattle.managers.specs.Manager.{managerOf, steppedOf}
 use Rattle.managers.specs.Steps.{Leads, WellFormed, Advanceable, Advanced, Stepped, isPaused}
 use Rattle.managers.specs.declared.Manager.{Manager}
 use Rattle.managers.proofs.Laws.Leads.{leads-one, Steps, none, some, leads-steps}
-use Rattle.managers.proofs.Laws.Advance.{Turning, stack-some, turning-level, turning-first}
+use Rattle.managers.proofs.Laws.Advance.{sayingOf, saying-agrees, Turning, stack-some, turning-level, turning-first}
 use Rattle.managers.proofs.Laws.Closing.{Lowering, left, closed-comes, closed-held, closed-asks, closed-over, asking-is}
 
 nothing-is : (e : Effect) → e ≡ Nothing → isNothing e ≡ true
@@ -175,7 +175,7 @@ module _ (s current cache : List ℕ) (m r : Manager) (h : WellFormed s m) (run 
       still (Write object field value) e on x = absurd (not-nothing (Write object field value) x refl)
       still (Read object field) e on x = absurd (not-both (isAsking (r .core .effect)) (ap isAsking e) asks)
       still (Fork level object name parameter) e on x = absurd (not-nothing (Fork level object name parameter) x refl)
-      still (Call object name answer parameter) e on x = absurd (not-both (isDone (r .core .effect)) (a .done) (ap isDone e))
+      still (Call object way parameter) e on x = absurd (not-both (isDone (r .core .effect)) (a .done) (ap isDone e))
       still (Pop reply) e on x = absurd (not-both (isDone (r .core .effect)) (a .done) (ap isDone e))
 
       by : Steps (managerOf m) (steppedOf r) → r .core .steps ≡ m .core .steps + 1
@@ -186,10 +186,10 @@ module _ (s current cache : List ℕ) (m r : Manager) (h : WellFormed s m) (run 
   -- one that is asked for leaves the manager as it was
   unchanged : isAsking (r .core .effect) ≡ true → managerOf r ≡ managerOf m
   unfolding managerOf
-  unchanged asks = by (leads-steps program at-hand (managerOf m) (steppedOf r) (a .leads at-hand (λ o k ho hk e. refl)))
+  unchanged asks = by (leads-steps program at-hand (managerOf m) (steppedOf r) (a .leads at-hand (saying-agrees s current cache false (m .core .level))))
     where
       at-hand : ℕ → ℕ → Value
-      at-hand = shownIn s current cache false (m .core .level)
+      at-hand = sayingOf s current cache false (m .core .level)
 
       by : Steps (managerOf m) (steppedOf r) → managerOf r ≡ managerOf m
       by (none e) = ap (λ d. d .manager) e

@@ -20,7 +20,7 @@ use Rattle.scripts.specs.Manager.{isEnd, nextStep, popped, concluded}
 use Rattle.scripts.proofs.Laws.Counts.{concluded-counts, popped-counts}
 use Rattle.scripts.proofs.Laws.Settle.{popped-to, concluded-pop, concluded-last, concluded-not, running-is}
 use Rattle.words.specs.Reads.{Agrees}
-use Rattle.frames.specs.Frames.{intoOf, returnsOf, frameOf, asideOf, noWaiting, below}
+use Rattle.frames.specs.Frames.{intoOf, returnsOf, slotOn, answerOn, scriptIn, nameIn, frameOf, asideOf, noWaiting, below}
 use Rattle.frames.specs.declared.Waiting.{Waiting}
 use Rattle.operations.specs.Core.{bare, standing, comesTo, settledOf, isOver, isAsking}
 use Rattle.operations.specs.Moves.{causing, endingAs, Operable, Operated, Pushed, Popped}
@@ -63,8 +63,8 @@ comes-level p c gs End = (refl, refl)
 comes-level p c gs (Write object field value) = let e = concluded-counts p (standing c gs) in (ap (λ x. x .level) e, ap (λ x. x .first) e)
 comes-level p c gs (Read object field) = (refl, refl)
 comes-level p c gs (Fork level object name parameter) = let e = concluded-counts p (standing c gs) in (ap (λ x. x .level) e, ap (λ x. x .first) e)
-comes-level p c gs (Call object name answer parameter) =
-    let e = concluded-counts p (bare c (frameFor object name (intoOf answer) (returnsOf answer) parameter ∷ frameOf (c .top) ∷ gs)) in
+comes-level p c gs (Call object way parameter) =
+    let e = concluded-counts p (bare c (frameFor object (scriptIn (slotOn way)) (nameIn (slotOn way)) (intoOf (answerOn way)) (returnsOf (answerOn way)) parameter ∷ frameOf (c .top) ∷ gs)) in
     (ap (λ x. x .level) e, ap (λ x. x .first) e)
 comes-level p c gs (Pop reply) =
     let e = concluded-counts p (popped (standing c gs) reply) ∙ popped-counts (standing c gs) reply in
@@ -88,9 +88,9 @@ pub no-pops : (p : Program) (c : Core) (gs : List defined.Frame) → isRunning (
 no-pops p c gs r few e = concluded-not p (standing c gs) (frameOf (c .top)) gs (running-is (c .ending) r) refl few e
 
 -- a frame made above the top
-pub push-comes : (s : List ℕ) (c r : Core) (o n a : ℕ) (v : Value) (gs : List defined.Frame) → c .effect ≡ Call o n a v → Pushed s c o n a v r → comesTo (programOf s) r (frameOf (c .top) ∷ gs) ≡ comesTo (programOf s) c gs
+pub push-comes : (s : List ℕ) (c r : Core) (o w : ℕ) (v : Value) (gs : List defined.Frame) → c .effect ≡ Call o w v → Pushed s c o w v r → comesTo (programOf s) r (frameOf (c .top) ∷ gs) ≡ comesTo (programOf s) c gs
 unfolding comesTo
-push-comes s c r o n a v gs q h =
+push-comes s c r o w v gs q h =
     rw (q, h .core-is)
     (ap (λ f. record { manager = concluded (programOf s) (bare c (f ∷ frameOf (c .top) ∷ gs)); effect = effect.Nothing }) (ap frameOf (h .top-is)))
 

@@ -8,7 +8,7 @@ use native.Mathlib.Omega.{arith}
 use borrow.Author.Tests.{lt-ltb, le-ltb}
 use lib.ListN.{length}
 use Rattle.lattice.proofs.Laws.Range.{not-both}
-use Rattle.session.specs.Limits.{fields, registers}
+use Rattle.session.specs.Limits.{names, fields, registers}
 use Rattle.session.specs.Parts.{levelCount, objectCount}
 use Rattle.session.specs.Program.{Program}
 use Rattle.session.specs.declared.Value.{Value}
@@ -23,9 +23,9 @@ use Rattle.scripts.specs.Frame.{frameFor, register, withRegister, atStep}
 use Rattle.scripts.specs.Manager.{withTop, popped, called, forked, concluded}
 use Rattle.scripts.specs.declared.Ending.{Ending}
 use Rattle.scripts.specs.declared.Ending.the-variants.{OutOfWrites, Finished}
-use Rattle.frames.specs.Frames.{intoOf, returnsOf, answerOf, frameOf, Same, Becomes, Method}
+use Rattle.frames.specs.Frames.{intoOf, returnsOf, answerOf, answers, wayOf, slotOn, answerOn, frameOf, slotOf, scriptIn, nameIn, Same, Becomes, Method}
 use Rattle.frames.specs.declared.Frame.{Frame}
-use Rattle.frames.proofs.Laws.Frames.{answer-into, answer-returns, register-next, becomes-placed}
+use Rattle.frames.proofs.Laws.Frames.{answer-few, way-slot, way-answer, slot-script, slot-name, answer-into, answer-returns, register-next, becomes-placed}
 use Rattle.operations.specs.Core.{bare, standing, stackOf, comesTo, isOver, isAsking, Tall, Present, Sits}
 use Rattle.operations.specs.Moves.{Able, Moves, Makes, passed, pastOf, nextTop, causing, endedAs, finishedAs, ownWritten, counting}
 use Rattle.operations.specs.declared.Core.{Core}
@@ -48,7 +48,7 @@ moves-put c r t u k v able e past put =
     let frame = put .frame ∙ ap (λ x. withRegister x k v) (past .frame) in
     let same : Same (c .top) u = record {
       object = put .same .object ∙ past .same .object;
-      name = put .same .name ∙ past .same .name;
+      slot = put .same .slot ∙ past .same .slot;
       start = put .same .start ∙ past .same .start;
       count = put .same .count ∙ past .same .count;
       answer = put .same .answer ∙ past .same .answer;
@@ -61,7 +61,7 @@ abbrev jumpedTo : Frame → ℕ → Frame
 jumpedTo f b =
     record {
       object = f .object;
-      name = f .name;
+      slot = f .slot;
       next = b;
       start = f .start;
       count = f .count;
@@ -75,7 +75,7 @@ jumpedTo f b =
 module _ (c r : Core) (a b : ℕ) where
   pub moves-jumped : isNilOr0 (register (frameOf (c .top)) a) ≡ true → b ≤ c .top .count → r ≡ nextTop c (jumpedTo (c .top) b) → Moves c r (cond (isNilOr0 (register (pastOf c) a)) (atStep (pastOf c) b) (pastOf c))
   moves-jumped test near e =
-      let same : Same (c .top) (jumpedTo (c .top) b) = record { object = refl; name = refl; start = refl; count = refl; answer = refl } in
+      let same : Same (c .top) (jumpedTo (c .top) b) = record { object = refl; slot = refl; start = refl; count = refl; answer = refl } in
       moves-to c r (jumpedTo (c .top) b) _ e
       (record { frame = ap (λ t. cond t (atStep (pastOf c) b) (pastOf c)) (sym test); same = same }) near
 
@@ -193,10 +193,10 @@ makes-moved P c r f d able m e =
     ∙ rw (e gs tall, able .runs))
 
 -- a ninth frame, or a sixteenth fork, is not made: the sender gets NIL
-pub makes-full : (c r : Core) (o b a : ℕ) (returns : Bool) → Able c → maxFrames ≤ c .height → Moves c r (withRegister (pastOf c) a Nil) → Makes (Method o b) c r (λ m. called m (passed m) a (frameFor o b a returns (register (passed m) a)))
+pub makes-full : (c r : Core) (o w b a : ℕ) (returns : Bool) → Able c → maxFrames ≤ c .height → Moves c r (withRegister (pastOf c) a Nil) → Makes (λ s. (o < objectCount s) × (w ≤ objectCount s)) c r (λ m. called m (passed m) a (frameFor o w b a returns (register (passed m) a)))
 unfolding called
-makes-full c r o b a returns able h m =
-    makes-moved (Method o b) c r (withRegister (pastOf c) a Nil) _ able m (λ gs tall. rw (le-ltb (suc (length gs)) maxFrames (omega (arith, tall, h))))
+makes-full c r o w b a returns able h m =
+    makes-moved (λ s. (o < objectCount s) × (w ≤ objectCount s)) c r (withRegister (pastOf c) a Nil) _ able m (λ gs tall. rw (le-ltb (suc (length gs)) maxFrames (omega (arith, tall, h))))
 
 pub makes-unforked : (P : List ℕ → Type 0) (c r : Core) (a u : ℕ) (message : defined.Manager → Message) → Able c → maxForks ≤ c .forks → Moves c r (withRegister (pastOf c) a Nil) → Makes P c r (λ m. forked m (passed m) a u (message m))
 unfolding forked
@@ -204,17 +204,20 @@ makes-unforked P c r a u message able h m =
     makes-moved P c r (withRegister (pastOf c) a Nil) _ able m (λ gs tall. rw (le-ltb (c .forks) maxForks h))
 
 -- a frame is to be made above the top, which has passed its step
-pub makes-call : (c n r : Core) (o b a : ℕ) (returns : Bool) (answer : ℕ) (v : Value) → Able c → Moves c n (pastOf c) → c .height < maxFrames → v ≡ register (frameOf (c .top)) a → a < registers → answer ≡ answerOf a returns → r ≡ causing n (Call o b answer v) → Makes (Method o b) c r (λ m. called m (passed m) a (frameFor o b a returns (register (passed m) a)))
+pub makes-call : (c n r : Core) (o w b a : ℕ) (returns : Bool) (slot answer way : ℕ) (v : Value) → Able c → Moves c n (pastOf c) → c .height < maxFrames → v ≡ register (frameOf (c .top)) a → a < registers → b < names → slot ≡ slotOf w b → answer ≡ answerOf a returns → way ≡ wayOf slot answer → r ≡ causing n (Call o way v) → Makes (λ s. (o < objectCount s) × (w ≤ objectCount s)) c r (λ m. called m (passed m) a (frameFor o w b a returns (register (passed m) a)))
 unfolding comesTo called
-makes-call c n r o b a returns answer v able m low ev small says e =
+makes-call c n r o w b a returns slot answer way v able m low ev small named is says on e =
     let f = n .top in
-    makes-going (Method o b) c r f (c .writes) (c .forks) (Call o b answer v) _ able
-    (e ∙ ap (λ y. causing y (Call o b answer v)) (m .core-is)) (m .top-is .same) (m .near) refl refl
+    let few : answer < answers = rw says (answer-few a returns small) in
+    let slot-on : slotOn way ≡ slot = rw on (way-slot slot answer few) in
+    let answer-on : answerOn way ≡ answer = rw on (way-answer slot answer few) in
+    makes-going (λ s. (o < objectCount s) × (w ≤ objectCount s)) c r f (c .writes) (c .forks) (Call o way v) _ able
+    (e ∙ ap (λ y. causing y (Call o way v)) (m .core-is)) (m .top-is .same) (m .near) refl refl
     (λ s sits. (sits .wrote, (sits .forked, low)))
-    (λ s h. h)
+    (λ s h. (h .0, rw (slot-on, is, slot-script w b named) (h .1)))
     (λ p gs tall.
-    ap (λ g. record { manager = concluded p (bare (nextTop c f) (frameFor o b (intoOf answer) (returnsOf answer) v ∷ g ∷ gs)); effect = effect.Nothing }) (m .top-is .frame)
-    ∙ rw (ev, says, answer-into a returns small, answer-returns a returns small, lt-ltb (suc (length gs)) maxFrames (omega (arith, tall, low)), able .runs))
+    ap (λ g. record { manager = concluded p (bare (nextTop c f) (frameFor o (scriptIn (slotOn way)) (nameIn (slotOn way)) (intoOf (answerOn way)) (returnsOf (answerOn way)) v ∷ g ∷ gs)); effect = effect.Nothing }) (m .top-is .frame)
+    ∙ rw (ev, slot-on, answer-on, says, is, slot-script w b named, slot-name w b named, answer-into a returns small, answer-returns a returns small, lt-ltb (suc (length gs)) maxFrames (omega (arith, tall, low)), able .runs))
 
 -- a manager is forked, and the sender gets NIL
 pub makes-fork : (c n r : Core) (o b a u : ℕ) (v : Value) → Able c → Moves c n (withRegister (pastOf c) a Nil) → c .forks < maxForks → v ≡ register (frameOf (c .top)) a → r ≡ effecting n (n .writes) (n .forks + 1) (Fork u o b v) → Makes (λ s. (u < levelCount s) × Method o b s) c r (λ m. forked m (passed m) a u (record { object = o; name = b; parameter = register (passed m) a }))

@@ -1,5 +1,5 @@
 -- What the operations of a core make of the manager that it stands for: what the definitions' operations do. Assumes nothing.
-use Prim.Native.Nat.{ℕ, _≤_, _<_}
+use Prim.Native.Nat.{ℕ, _+_, _≤_, _<_}
 use mathlib.Core.Path.{_≡_, refl, sym, _∙_, ap, subst}
 use mathlib.Core.Bool.{Bool, true, false, _||_}
 use mathlib.Core.List.{List}
@@ -13,7 +13,7 @@ use Rattle.lattice.specs.Table.{dominates}
 use Rattle.session.specs.Limits.{names, fields, registers}
 use Rattle.session.specs.Parts.{objectCount}
 use Rattle.session.specs.Questions.{operandsFit}
-use Rattle.session.specs.Meaning.{levelOf, methodOf}
+use Rattle.session.specs.Meaning.{levelOf}
 use Rattle.session.specs.Program.{programOf}
 use Rattle.session.specs.declared.Value.{Value}
 use Rattle.session.specs.declared.Value.the-variants.{Nil}
@@ -23,16 +23,18 @@ use Rattle.session.proofs.Laws.Lists.{holds, fails, truth}
 use Rattle.filter.specs.Filter.{fateOf}
 use Rattle.filter.specs.declared.Fate.{Fate}
 use Rattle.filter.specs.declared.Fate.the-variants as fate
+use Rattle.scripts.specs.Existence.{scriptSeen}
 use Rattle.scripts.specs.Effect as effect
 use Rattle.scripts.specs.State as defined
-use Rattle.scripts.specs.Frame.{register, withRegister}
+use Rattle.scripts.specs.Value.{numberIn}
+use Rattle.scripts.specs.Frame.{frameFor, register, withRegister}
 use Rattle.scripts.specs.Manager.{withTop, isEnd, nextStep, written, sent, operated, stepped}
-use Rattle.scripts.specs.Valid.{Leveled}
+use Rattle.scripts.specs.Valid.{Leveled, scriptMethod}
 use Rattle.scripts.proofs.Laws.Accepted.{next-fits}
 use Rattle.scripts.proofs.Laws.Send.{send-by}
 use Rattle.words.specs.Fields.{fieldAt, knownAt}
-use Rattle.words.specs.Reads.{shownIn, isAvailable}
-use Rattle.frames.specs.Frames.{frameOf, Method}
+use Rattle.words.specs.Reads.{shownIn, isAvailable, AllThere}
+use Rattle.frames.specs.Frames.{scriptIn, nameIn, frameOf, Method}
 use Rattle.frames.proofs.Laws.Frames.{unfinished-there}
 use Rattle.operations.specs.Core.{standing, isOver, isAsking, Tall, Present, Sits}
 use Rattle.operations.specs.Moves.{Able, Operable, Moves, Makes, passed, pastOf, causing, finishedAs, endingAs, ownWritten, counting, OperationMade, ReadMade, Operated}
@@ -42,10 +44,10 @@ use Rattle.operations.specs.declared.Effect.the-variants.{Nothing, Read,
 use Rattle.operations.proofs.Laws.Makes.{makes-moved}
 
 -- an operation that was made, where it is one of document 01's
-pub operation-made : (s : List ℕ) (i : Step) (P : List ℕ → Type 0) (c r : Core) (d : defined.Manager → defined.Stepped) → Makes P c r d → Sits s c → P s → ((read : ℕ → ℕ → Value) (gs : List defined.Frame) → d (standing c gs) ≡ operated (programOf s) read (standing c gs) (passed (standing c gs)) i) → OperationMade s i c r
+pub operation-made : (s : List ℕ) (i : Step) (P : List ℕ → Type 0) (c r : Core) (d : defined.Manager → defined.Stepped) → Makes P c r d → Sits s c → P s → ((read : ℕ → ℕ → Value) → AllThere s read → (gs : List defined.Frame) → d (standing c gs) ≡ operated (programOf s) read (standing c gs) (passed (standing c gs)) i) → OperationMade s i c r
 operation-made s i P c r d m sits h e =
     record {
-      is = λ read gs tall. m .is (programOf s) gs tall ∙ ap (counting (programOf s)) (e read gs);
+      is = λ read there gs tall. m .is (programOf s) gs tall ∙ ap (counting (programOf s)) (e read there gs);
       level-is = m .level-is;
       first-is = m .first-is;
       steps-are = m .steps-are;
@@ -58,7 +60,7 @@ operation-made s i P c r d m sits h e =
     }
 
 -- so too where it left another top only
-pub operation-moved : (s : List ℕ) (i : Step) (c r : Core) (f : defined.Frame) → Able c → Sits s c → Moves c r f → ((read : ℕ → ℕ → Value) (gs : List defined.Frame) → record { manager = withTop (standing c gs) f; effect = effect.Nothing } ≡ operated (programOf s) read (standing c gs) (passed (standing c gs)) i) → OperationMade s i c r
+pub operation-moved : (s : List ℕ) (i : Step) (c r : Core) (f : defined.Frame) → Able c → Sits s c → Moves c r f → ((read : ℕ → ℕ → Value) → AllThere s read → (gs : List defined.Frame) → record { manager = withTop (standing c gs) f; effect = effect.Nothing } ≡ operated (programOf s) read (standing c gs) (passed (standing c gs)) i) → OperationMade s i c r
 operation-moved s i c r f able sits m e =
     operation-made s i (λ _. Unit) c r (λ n. record { manager = withTop n f; effect = effect.Nothing })
     (makes-moved (λ _. Unit) c r f _ able m (λ gs tall. refl)) sits tt e
@@ -74,16 +76,22 @@ write-apart-is s c a b read gs e = rw (ne-eqb (levelOf s (c .top .object)) (c .l
 
 -- a SEND, by what becomes of its message
 module _ (s masks : List ℕ) (lent : Leveled s masks) (c r : Core) (a b o x y : ℕ) (sits : Sits s c) (ex : x ≡ levelOf s (c .top .object)) (ey : y ≡ levelOf s o) where
-  pub send-made : (t : Fate) (P : List ℕ → Type 0) (d : defined.Manager → defined.Stepped) → fateOf (length masks) (dominates masks) (c .level) x y ≡ t → Makes P c r d → P s → ((gs : List defined.Frame) → d (standing c gs) ≡ sent (standing c gs) (passed (standing c gs)) a b o t) → OperationMade s (op.Send a b o) c r
+  pub send-made : (t : Fate) (P : List ℕ → Type 0) (d : defined.Manager → defined.Stepped) → fateOf (length masks) (dominates masks) (c .level) x y ≡ t → Makes P c r d → P s → ((read : ℕ → ℕ → Value) → AllThere s read → (gs : List defined.Frame) → d (standing c gs) ≡ sent read (standing c gs) (passed (standing c gs)) a b o t) → OperationMade s (op.Send a b o) c r
   send-made t P d e m h is =
       operation-made s (op.Send a b o) P c r d m sits h
-      (λ read gs. is gs ∙ sym (send-by s masks lent read (standing c gs) (passed (standing c gs)) a b o (c .level) x y t refl ex ey e))
+      (λ read there gs. is read there gs ∙ sym (send-by s masks lent read (standing c gs) (passed (standing c gs)) a b o (c .level) x y t refl ex ey e))
 
   pub send-blocked : fateOf (length masks) (dominates masks) (c .level) x y ≡ fate.Block → Able c → Moves c r (withRegister (pastOf c) a Nil) → OperationMade s (op.Send a b o) c r
   unfolding sent
   send-blocked e able m =
       send-made fate.Block (λ _. Unit) (λ n. record { manager = withTop n (withRegister (pastOf c) a Nil); effect = effect.Nothing }) e
-      (makes-moved (λ _. Unit) c r (withRegister (pastOf c) a Nil) _ able m (λ gs tall. refl)) tt (λ gs. refl)
+      (makes-moved (λ _. Unit) c r (withRegister (pastOf c) a Nil) _ able m (λ gs tall. refl)) tt (λ read there gs. refl)
+
+-- a SEND that makes a frame: it finds the receiver's own methods
+pub own-frame : (s : List ℕ) (read : ℕ → ℕ → Value) (o b a : ℕ) (returns : Bool) (v : Value) → AllThere s read → o < objectCount s → frameFor o (o + 1) b a returns v ≡ frameFor o (scriptSeen read o) b a returns v
+own-frame s read o b a returns v there h =
+    let own : o + 1 ≡ scriptSeen read o = omega (arith, ap numberIn (there o h)) in
+    ap (λ w. frameFor o w b a returns v) own
 
 -- a core that waits for nothing, with another effect
 sits-causing : (s : List ℕ) (c : Core) (x : Effect) → c .effect ≡ Nothing → isOver x ≡ false → Tall x (c .height) → Sits s c → Sits s (causing c x)
@@ -122,7 +130,7 @@ module _ (s current cache : List ℕ) (all : Bool) (a b : ℕ) (c r : Core) (abl
         is = λ _ read agrees gs tall.
             made .is (programOf s) gs tall
             ∙ ap (λ w. counting (programOf s) (record { manager = withTop (standing c gs) (withRegister (pastOf c) a w); effect = effect.Nothing }))
-            (shown ∙ sym (agrees (c .top .object) b (sits .top .method .0) field known));
+            (shown ∙ sym (agrees .shown (c .top .object) b (sits .top .called .0) field known));
         level-is = made .level-is;
         first-is = made .first-is;
         steps-are = λ _. made .steps-are;
@@ -158,7 +166,7 @@ module _ (s current cache : List ℕ) (all : Bool) (a b : ℕ) (c r : Core) (abl
         tall = ap (λ x. x .height) e;
         over = ap (λ x. isOver (x .effect)) e;
         sits = subst (Sits s) (sym e) (sits-causing s c (Read (c .top .object) b) (able .internal) refl tt sits);
-        present = subst (λ x. Present s (x .effect)) (sym e) (sits .top .method .0, field);
+        present = subst (λ x. Present s (x .effect)) (sym e) (sits .top .called .0, field);
       }
 
 -- the next step of a core, once it is known which
@@ -169,7 +177,7 @@ module _ (s current cache : List ℕ) (all : Bool) (c r : Core) where
       let p = programOf s in
       record {
         steps = λ _ _. record {
-          is = λ read _ gs tall. o .is read gs tall ∙ ap (λ x. counting p (operated p read (standing c gs) (passed (standing c gs)) x)) (sym e);
+          is = λ read agrees gs tall. o .is read (agrees .there) gs tall ∙ ap (λ x. counting p (operated p read (standing c gs) (passed (standing c gs)) x)) (sym e);
           steps-are = o .steps-are;
         };
         ends = λ q. absurd (not-both _ q (ap isEnd e ∙ unfinished));
@@ -270,14 +278,14 @@ module _ (s masks current cache : List ℕ) (c : Core) (o : Operable s masks cur
         runs = o .sits .runs (rw (o .internal));
       }
 
-  fits-next : (i : Step) → nextStep (programOf s) (frameOf (c .top)) ≡ i → isEnd i ≡ false → operandsFit (objectCount s) (length (methodOf s (c .top .object) (c .top .name))) i ≡ true
+  fits-next : (i : Step) → nextStep (programOf s) (frameOf (c .top)) ≡ i → isEnd i ≡ false → operandsFit (objectCount s) (length (scriptMethod s (scriptIn (c .top .slot)) (nameIn (c .top .slot)))) i ≡ true
   fits-next i e unfinished = rw e at (next-fits s (o .leveled .accepted) (frameOf (c .top)) (ap isEnd e ∙ unfinished))
 
   pub jump-near : (a b : ℕ) → nextStep (programOf s) (frameOf (c .top)) ≡ op.Jump a b → b ≤ c .top .count
   unfolding operandsFit
   jump-near a b e =
       let q = fits-next (op.Jump a b) e refl in
-      let near : b ≤ length (methodOf s (c .top .object) (c .top .name)) = leb-true b _ (search (and-left, and-right, q)) in
+      let near : b ≤ length (scriptMethod s (scriptIn (c .top .slot)) (nameIn (c .top .slot))) = leb-true b _ (search (and-left, and-right, q)) in
       omega (arith, o .sits .top .at .count-is)
 
   pub read-field : (a b : ℕ) → nextStep (programOf s) (frameOf (c .top)) ≡ op.Read a b → b < fields

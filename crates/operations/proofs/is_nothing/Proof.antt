@@ -25,7 +25,7 @@ other End h = refl
 other (Write object field value) h = refl
 other (Read object field) h = refl
 other (Fork level object name parameter) h = refl
-other (Call object name answer parameter) h = refl
+other (Call object way parameter) h = refl
 other (Pop reply) h = refl
 
 returns-2 : tie.Need-returns-2

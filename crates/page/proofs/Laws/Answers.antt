@@ -8,8 +8,8 @@ use borrow.Author.Tests.{eq-eqb, ne-eqb, le-leb, lt-leb}
 use lib.ListN.{length, take, length-append, drop}
 use Rattle.model.specs.Limits.{resultBytes, pageBytes}
 use Rattle.model.specs.Entries.{Request, entryRefusal, writtenOver}
-use Rattle.model.proofs.Laws.Reader.Answers.{passes, deep-is}
-use Rattle.model.proofs.Laws.Reader.Bytes.{written-bytes}
+use Rattle.theorems.proofs.Laws.Reader.Answers.{passes, deep-is}
+use Rattle.theorems.proofs.Laws.Reader.Bytes.{written-bytes}
 use Rattle.records.specs.Writing.{Written}
 use Rattle.entries.specs.Opening.{Opens}
 use Rattle.entries.specs.declared.Opened.{Opened}

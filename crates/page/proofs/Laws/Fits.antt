@@ -19,12 +19,12 @@ use Rattle.model.specs.Step.{levelAt}
 use Rattle.model.specs.Schedule.{readIn, runOf, plainOrder}
 use Rattle.model.specs.DepthFirst.{tallyAt, depthFirst}
 use Rattle.model.specs.Result.{Result, resultOfDepthFirst, historyRecord, levelsShown, historiesShown}
-use Rattle.model.proofs.Laws.Invariant.Measure.{Bounded}
-use Rattle.model.proofs.Laws.Order.Accepted.{sound}
-use Rattle.model.proofs.Laws.Order.Finish.{finishes}
-use Rattle.model.proofs.Laws.Order.PlainRun.{accepted-plain}
-use Rattle.model.proofs.Laws.Deep.Root.{deep-run, deep-end, same-result}
-use Rattle.model.proofs.Laws.Reader.Bytes.{histories-found}
+use Rattle.theorems.proofs.Laws.Invariant.Measure.{Bounded}
+use Rattle.theorems.proofs.Laws.Order.Accepted.{sound}
+use Rattle.theorems.proofs.Laws.Order.Finish.{finishes}
+use Rattle.theorems.proofs.Laws.Order.PlainRun.{accepted-plain}
+use Rattle.theorems.proofs.Laws.Deep.Root.{deep-run, deep-end, same-result}
+use Rattle.theorems.proofs.Laws.Reader.Bytes.{histories-found}
 use Rattle.depth_first.specs.Runs.{bytesShown}
 use Rattle.page.specs.Text.{historiesIn, pageOf}
 use Rattle.page.proofs.Laws.Lengths.{page-length, levels-few}

@@ -17,7 +17,7 @@ use Rattle.session.proofs.Laws.Fill.{tab-ext}
 use Rattle.session.proofs.Laws.Lists.{holds, fails, truth}
 use Rattle.model.specs.Limits.{lineBytes}
 use Rattle.model.specs.Result.{levelIn, stepsIn}
-use Rattle.model.proofs.Laws.Reader.Bytes.{chosen-groups}
+use Rattle.theorems.proofs.Laws.Reader.Bytes.{chosen-groups}
 use Rattle.records.proofs.Laws.Placed.{joined-more}
 use Rattle.page.specs.Text.{lineOf, totalLine, sumOf, managersAt, stepsAt, levelsIn, averageOf, pageOf}
 use Rattle.page.specs.Shown.{isHistory, shownLine, shownSteps, stepsAdded, managersAdded, Tallied, shownAverage, averageIn}

@@ -17,9 +17,9 @@ use Rattle.model.specs.Level.{idle, Level, hasManager}
 use Rattle.model.specs.Step.{State, levelAt, stepAt}
 use Rattle.model.specs.Schedule.{refusalUnder, stepRefusal}
 use Rattle.model.specs.Rules.{conservative}
-use Rattle.model.proofs.Laws.Order.Accepted.{sound}
-use Rattle.model.proofs.Laws.Code.Reached.{ReachedState, present}
-use Rattle.model.proofs.Laws.Code.Progress.{allowed, refusal-none, unmanaged-idle, activity-stays, quiet-stays, still-allowed, leads-none, leads-more}
+use Rattle.theorems.proofs.Laws.Order.Accepted.{sound}
+use Rattle.theorems.proofs.Laws.Code.Reached.{ReachedState, present}
+use Rattle.theorems.proofs.Laws.Code.Progress.{allowed, refusal-none, unmanaged-idle, activity-stays, quiet-stays, still-allowed, leads-none, leads-more}
 use Rattle.level_managers.specs.Representation.{Words, LevelRepresents, RunInvariant, placed}
 use Rattle.tallies.specs.Permits.{managed}
 use Rattle.level_managers.specs.Ends.{Quiescent, SameRest}

@@ -11,10 +11,13 @@ use Rattle.lattice.proofs.Laws.Range.{not-both}
 use Rattle.session.specs.Limits.{maxLevels}
 use Rattle.session.specs.Parts.{levelCount}
 use Rattle.session.specs.Program.{programOf}
+use Rattle.session.specs.declared.Value.{Value}
+use Rattle.session.specs.declared.Value.the-variants.{Number}
 use Rattle.session.specs.Questions.{verdictOf}
 use Rattle.session.specs.declared.Verdict.the-variants.{Accepted}
 use Rattle.session.proofs.Laws.Contents.{level-limit, object-limit}
 use Rattle.session.proofs.Laws.Lists.{holds, fails, truth}
+use Rattle.scripts.specs.Existence.{ownScript}
 use Rattle.scripts.specs.Limits.{maxScriptSteps}
 use Rattle.scripts.specs.Ending.{isRunning}
 use Rattle.scripts.specs.State.{Manager}
@@ -29,7 +32,7 @@ use Rattle.model.specs.Limits.{maxManagers}
 use Rattle.model.specs.Level.{idle, hasManager}
 use Rattle.model.specs.Step.{State, levelAt}
 use Rattle.model.specs.Rules.{conservative}
-use Rattle.model.proofs.Laws.Code.Progress.{allowed}
+use Rattle.theorems.proofs.Laws.Code.Progress.{allowed}
 use Rattle.tallies.specs.Places.{nextPlace, waitingPlace, busyPlace, tallyNumbers}
 use Rattle.level_managers.specs.Representation.{Words, Roomy, Runs, placed}
 use Rattle.tallies.specs.Permits.{managed}
@@ -153,7 +156,9 @@ module _ {s masks index : List ℕ} (rd : Tables s masks index) {w₀ : Words} {
 
     level-is : m .core .level ≡ l
     unfolding managerOf
-    level-is = ap (λ n. n .level) (d .manager) ∙ ap (λ c. c .level) (started-counts (programOf s) l _ _)
+    level-is =
+        let read : ℕ → ℕ → Value = λ o k. Number (ownScript o) in
+        ap (λ n. n .level) (d .manager read (λ o h. refl)) ∙ ap (λ c. c .level) (started-counts (programOf s) read l _ _)
 
     nothing-known : KnownIsRead s begunWords l (replicate fieldWords 0)
     nothing-known o k ho hk apart known = absurd (not-both _ known (blank-zeros fieldWords o k hk))

@@ -21,11 +21,11 @@ use Rattle.model.specs.Level.{idle, Level, isBusy, hasManager}
 use Rattle.model.specs.Step.{State, levelAt, stepAt}
 use Rattle.model.specs.Schedule.{initialState, finished, question14, question15, refusalUnder, stepRefusal, runOf, Leads}
 use Rattle.model.specs.Rules.{conservative}
-use Rattle.model.proofs.Laws.Order.Accepted.{sound}
-use Rattle.model.proofs.Laws.Invariant.Measure.{left, cost}
-use Rattle.model.proofs.Laws.Invariant.Bounded.{total, step-less}
-use Rattle.model.proofs.Laws.Code.Reached.{ReachedState, live-step}
-use Rattle.model.proofs.Laws.Code.Progress.{allowed, all-ended, leads-none, leads-run}
+use Rattle.theorems.proofs.Laws.Order.Accepted.{sound}
+use Rattle.theorems.proofs.Laws.Invariant.Measure.{left, cost}
+use Rattle.theorems.proofs.Laws.Invariant.Bounded.{total, step-less}
+use Rattle.theorems.proofs.Laws.Code.Reached.{ReachedState, live-step}
+use Rattle.theorems.proofs.Laws.Code.Progress.{allowed, all-ended, leads-none, leads-run}
 use Rattle.level_managers.specs.Representation.{Words, RunInvariant}
 use Rattle.tallies.specs.Permits.{lowestOf, Countable}
 use Rattle.level_managers.specs.Ends.{Quiescent, SameRest}

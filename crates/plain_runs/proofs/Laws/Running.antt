@@ -28,7 +28,7 @@ use Rattle.scripts.specs.State.{Manager}
 use Rattle.scripts.specs.Manager.{stepped}
 use Rattle.words.specs.Limits.{fieldWords}
 use Rattle.words.specs.Fields.{fieldAt}
-use Rattle.words.specs.Reads.{shownIn, Agrees}
+use Rattle.words.specs.Reads.{Agrees}
 use Rattle.operations.specs.Core.{effectOf, isAsking, isNothing, isDone, Present}
 use Rattle.operations.specs.declared.Core.{Core}
 use Rattle.operations.specs.declared.Effect.{Effect as Outside}
@@ -36,10 +36,11 @@ use Rattle.operations.specs.declared.Effect.the-variants as outside
 use Rattle.managers.specs.Manager.{managerOf, steppedOf}
 use Rattle.managers.specs.Steps.{Leads, internal, last, WellFormed, Advanceable, isPaused, Advanced}
 use Rattle.managers.proofs.Laws.Leads.{Steps, none, some, leads-steps}
+use Rattle.managers.proofs.Laws.Advance.{sayingOf, saying-agrees}
 use Rattle.managers.specs.declared.Manager as code
 use Rattle.model.specs.Fork.{Fork}
 use Rattle.model.specs.Step.{State, readAt}
-use Rattle.model.proofs.Laws.Code.Needs.{live-runs, live-fork}
+use Rattle.theorems.proofs.Laws.Code.Needs.{live-runs, live-fork}
 use Rattle.tallies.specs.Places.{waitingPlace, versionsPlace, busyPlace}
 use Rattle.level_managers.specs.Representation.{Words, placed}
 use Rattle.level_managers.specs.Steps.{Tables, IsBusy, foundIn, ReadReady, Answered, Parts, EffectReady, EffectDone, PerformReady, Performed, SettleReady}
@@ -157,11 +158,11 @@ module _ {s masks index : List ℕ} (rd : Tables s masks index) {w : Words} {l :
   effect-found : (b : IsBusy s w l) (e : Effect) (stamp forks : ℕ) → EffectReady (w .current) (w .tallies) (w .queue) (w .work) l forks e → ((u : ℕ) (message : Message) → e ≡ effect.Fork u message → l ≡ u → ⊥) → (q : Parts) → EffectDone (partsOf w) q l stamp forks e → (o k : ℕ) → o < objectCount s → (levelOf s o ≡ l → ⊥) → foundIn s (withParts w q) l o k ≡ foundIn s w l o k
   effect-found b effect.Nothing stamp forks ready up q d o k ho apart = ap (λ q. foundIn s (withParts w q) l o k) d
   effect-found b (effect.Write object i v) stamp forks ready up q (d, e) o k ho apart =
-      let low : levelOf s o < maxLevels = omega (arith, level-present s acc o ho, level-limit s acc) in
+      let low : levelOf s o < maxLevels = omega (arith, level-present s acc o, level-limit s acc) in
       let few = read-few (rd .leveled) (b .1 .1 .1 .1) o 0 ho in
       rw e (write-known-read s w l small o k low apart (q .current) (q .tallies) (q .work) stamp object i v d few)
   effect-found b (effect.Fork u message) stamp forks ready up q (d, (e, e')) o k ho apart =
-      let low : levelOf s o < maxLevels = omega (arith, level-present s acc o ho, level-limit s acc) in
+      let low : levelOf s o < maxLevels = omega (arith, level-present s acc o, level-limit s acc) in
       rw e' (fork-known-read s w l small o k low apart (q .tallies) (q .queue) stamp forks u message d (ready .room .level) (up u message refl) (ready .there .placed))
 
   -- the state that the words say
@@ -310,7 +311,7 @@ module _ {s masks index : List ℕ} (rd : Tables s masks index) {w : Words} {l :
     stays (outside.Write o k v) is run same done internal-then ask = let z : _≡_ {A = ℕ} 0 1 = cc in omega arith
     stays (outside.Read o k) is run same done internal-then ask = not-both true refl ask
     stays (outside.Fork u o b v) is run same done internal-then ask = let z : _≡_ {A = ℕ} 0 1 = cc in omega arith
-    stays (outside.Call o b a v) is run same done internal-then ask = not-both false done refl
+    stays (outside.Call o w v) is run same done internal-then ask = not-both false done refl
     stays (outside.Pop v) is run same done internal-then ask = not-both false done refl
 
     shut-no-more : {q : Parts} {cache' : List ℕ} → OutsideDone s w q cache cache' l (r .core) → isRunning (r .core .ending) ≡ true → r .core .steps ≡ m .core .steps → effectOf (r .core .effect) ≡ effect.Nothing → isPaused s cache' false (r .core) ≡ false
@@ -324,7 +325,7 @@ module _ {s masks index : List ℕ} (rd : Tables s masks index) {w : Words} {l :
     unfolding managerOf
     steps-less {q} {cache'} out = elim (truth (isRunning (r .core .ending))) [
       | fails over ↦ rw (go .running, over) (omega arith)
-      | holds run ↦ by run (leads-steps p (shownIn s (w .current) cache false (m .core .level)) (managerOf m) (steppedOf r) (ad .leads (shownIn s (w .current) cache false (m .core .level)) (λ o k _ _ _. refl)))
+      | holds run ↦ by run (leads-steps p (sayingOf s (w .current) cache false (m .core .level)) (managerOf m) (steppedOf r) (ad .leads (sayingOf s (w .current) cache false (m .core .level)) (saying-agrees s (w .current) cache false (m .core .level))))
     ]
       where
         one : (b : Bool) → cond {A = ℕ} b 1 0 ≤ 1

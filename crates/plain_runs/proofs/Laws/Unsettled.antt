@@ -18,6 +18,7 @@ use Rattle.session.specs.declared.Verdict.the-variants.{Accepted}
 use Rattle.session.specs.declared.Value.{Value}
 use Rattle.session.proofs.Laws.Lists.{holds, fails, truth}
 use Rattle.session.proofs.Laws.Contents.{level-limit, object-limit}
+use Rattle.scripts.specs.Existence.{existence}
 use Rattle.scripts.specs.Valid.{Leveled}
 use Rattle.scripts.specs.Ending.{isRunning}
 use Rattle.scripts.specs.Manager.{stepped}
@@ -29,12 +30,12 @@ use Rattle.model.specs.Fork.{Fork}
 use Rattle.model.specs.Lists.{modify}
 use Rattle.model.specs.Level.{Activity, busy, newLevel, after}
 use Rattle.model.specs.Step.{State, levelAt, readAt, delivered, stepAt}
-use Rattle.model.proofs.Laws.Lists.{modify-at, modify-other}
-use Rattle.model.proofs.Laws.Order.Accepted.{sound}
-use Rattle.model.proofs.Laws.Code.Reached.{ReachedState, present}
-use Rattle.model.proofs.Laws.Code.Direct.{step-advance}
+use Rattle.theorems.proofs.Laws.Lists.{modify-at, modify-other}
+use Rattle.theorems.proofs.Laws.Order.Accepted.{sound}
+use Rattle.theorems.proofs.Laws.Code.Reached.{ReachedState, present}
+use Rattle.theorems.proofs.Laws.Code.Direct.{step-advance}
 use Rattle.words.specs.Fields.{fieldAt, knownAt}
-use Rattle.words.specs.Reads.{Agrees}
+use Rattle.words.specs.Reads.{shownIn, isAvailable, Agrees}
 use Rattle.managers.specs.Steps.{InternalSteps}
 use Rattle.tallies.specs.Places.{busyPlace}
 use Rattle.level_managers.specs.Representation.{Words, Runs, LevelRepresents, RunInvariant, placed}
@@ -45,7 +46,7 @@ use Rattle.level_managers.proofs.Laws.Reads.{found-in}
 use Rattle.level_managers.proofs.Laws.Made.{partsOf, settled-on}
 use Rattle.level_managers.proofs.Laws.Ready.{represents-runs, effect-ready}
 use Rattle.level_managers.proofs.Laws.Settle.{placed-own}
-use Rattle.level_managers.proofs.Laws.Step.{invariant-live, invariant-advance}
+use Rattle.level_managers.proofs.Laws.Step.{invariant-live, objects-there, invariant-advance}
 use Rattle.plain_runs.proofs.Laws.Level.{drain-on, drain-on-state, drain-allowed}
 
 -- the level is being run, but that the history of m, if m has ended, is not kept yet
@@ -122,7 +123,7 @@ module _ (s : List ℕ) (a : verdictOf s ≡ Accepted) (l : ℕ) (h : l < levelC
       state-is : stepAt p l st ≡ modify l (λ _. after (levelAt st l) (levelAt st l .waiting) (levelAt st l .versions) x m') st
       unfolding delivered
       state-is =
-          step-advance p (sound s a) st (live .reachable .steady .fork-invariant) (live .reachable .contained) l (present s l h) x m (record { manager = m'; effect = effect.Nothing }) (g .runs) (running-reads ∙ is)
+          step-advance p (sound s a) st (live .reachable .steady .fork-invariant) (live .reachable .steady .contained) l (present s l h) x m (record { manager = m'; effect = effect.Nothing }) (g .runs) (running-reads ∙ is)
 
       there : l < length st
       there = rw (invariant (λ _. m) .represents .levels) h
@@ -206,13 +207,17 @@ module _ (s : List ℕ) (a : verdictOf s ≡ Accepted) (l : ℕ) (h : l < levelC
 
   -- and at other levels what is kept of its reads
   pub running-agrees : {masks : List ℕ} → Leveled s masks → (w : Words) (m : Manager) (x : Fork) (read : ℕ → ℕ → Value) → Running w m x read → (cache : List ℕ) → KnownIsRead s w l cache → Agrees s (w .current) cache false l read
-  running-agrees lent w m x read g cache known-read o k ho hk e = elim (truth (eqb (levelOf s o) l)) [
-    | holds q ↦ own-read w m x read g o k ho hk (eqb-true (levelOf s o) l q) ∙ rw q refl
-    | fails q ↦
-        let apart : levelOf s o ≡ l → ⊥ = λ z. not-both (eqb (levelOf s o) l) (eq-eqb (levelOf s o) l z) q in
-        let known : knownAt cache o k ≡ true = rw q at e in
-        sym (g .reads o k)
-        ∙ found-in lent (running-busy w m x read g (λ _. m)) o k ho apart
-        ∙ sym (known-read o k ho hk apart known)
-        ∙ rw q refl
-  ]
+  running-agrees lent w m x read g cache known-read =
+      record { there = λ o h. sym (g .reads o existence) ∙ objects-there s a (g .drain .state) (live w m x read g) l x o h; shown = shown }
+    where
+      shown : (o k : ℕ) → o < objectCount s → k < fields → isAvailable s cache false l o k ≡ true → read o k ≡ shownIn s (w .current) cache false l o k
+      shown o k ho hk e = elim (truth (eqb (levelOf s o) l)) [
+        | holds q ↦ own-read w m x read g o k ho hk (eqb-true (levelOf s o) l q) ∙ rw q refl
+        | fails q ↦
+            let apart : levelOf s o ≡ l → ⊥ = λ z. not-both (eqb (levelOf s o) l) (eq-eqb (levelOf s o) l z) q in
+            let known : knownAt cache o k ≡ true = rw q at e in
+            sym (g .reads o k)
+            ∙ found-in lent (running-busy w m x read g (λ _. m)) o k ho apart
+            ∙ sym (known-read o k ho hk apart known)
+            ∙ rw q refl
+      ]

@@ -10,7 +10,7 @@ use Rattle.session.specs.Program.{Program}
 use Rattle.session.specs.declared.Value.{Value}
 use Rattle.session.proofs.Laws.Lists.{holds, fails, truth}
 use Rattle.model.specs.Result.{Result, objectRecord, historyRecord, replyRecord, replyOf, objectsShown, historiesShown, replyShown, bytesOf}
-use Rattle.model.proofs.Laws.Reader.Bytes.{map-chosen}
+use Rattle.theorems.proofs.Laws.Reader.Bytes.{map-chosen}
 
 -- an object's record takes its three fields
 record-depends : (o level : ℕ) (f g : ℕ → Value) → ((k : ℕ) → k < fields → f k ≡ g k) → objectRecord o level f ≡ objectRecord o level g

@@ -19,7 +19,7 @@ use Rattle.words.proofs.Laws.Fields.{value-back}
 use Rattle.model.specs.Limits.{maxManagers}
 use Rattle.model.specs.Lists.{inserted}
 use Rattle.model.specs.History.{History}
-use Rattle.model.proofs.Laws.Each.{inserted-map}
+use Rattle.theorems.proofs.Laws.Each.{inserted-map}
 use Rattle.rows.specs.Rows.{rowAt, rowsAt, keyOf}
 use Rattle.rows.specs.Change.{Room, Inserted}
 use Rattle.rows.proofs.Laws.Outside.{before, behind, rows-apart}

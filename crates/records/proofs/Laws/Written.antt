@@ -14,7 +14,7 @@ use Rattle.session.proofs.Laws.Contents.{masks-length, level-limit, object-limi
 use Rattle.words.specs.Fields.{fieldAt, FieldsReady}
 use Rattle.model.specs.Limits.{maxManagers, resultBytes}
 use Rattle.model.specs.Result.{Result, objectRecord, historyRecord, replyRecord, replyOf, objectsShown, levelsShown, historiesShown, replyShown, bytesOf}
-use Rattle.model.proofs.Laws.Reader.Bytes.{chosen-groups}
+use Rattle.theorems.proofs.Laws.Reader.Bytes.{chosen-groups}
 use Rattle.records.specs.Histories.{endedIn, HistoriesReady}
 use Rattle.records.specs.Writing.{resultIn, bytesIn, shownObject, shownLevel, shownReply, Placed, Written}
 use Rattle.records.proofs.Laws.Histories.{ended-few}

@@ -11,7 +11,7 @@ use Rattle.session.specs.Lists.{tab, risingFrom}
 use Rattle.session.proofs.Laws.Fill.{tab-ext}
 use Rattle.session.proofs.Laws.Rising.{rising-head, rising-tail, rising-cons}
 use Rattle.model.specs.Lists.{inserted}
-use Rattle.model.proofs.Laws.Lists.{inserted-here, inserted-past}
+use Rattle.theorems.proofs.Laws.Lists.{inserted-here, inserted-past}
 
 module _ {A : Type 0} (key : A → ℕ) where
   -- x put among f 0 .. f (n − 1) at place r gives g 0 .. g n, where g is f before r, x at r, and f one place later behind r

@@ -13,7 +13,7 @@ use Rattle.session.proofs.Laws.Fill.{tab-more, tab-ext}
 use Rattle.session.proofs.Laws.Choice.{rising-map}
 use Rattle.session.proofs.Laws.Rising.{rising-le, rising-lower, rising-tail}
 use Rattle.model.specs.Lists.{inserted}
-use Rattle.model.proofs.Laws.Each.{inserted-map, take-map}
+use Rattle.theorems.proofs.Laws.Each.{inserted-map, take-map}
 use Rattle.rows.specs.Rows.{rowAt, rowsAt, keyOf, Rising}
 use Rattle.rows.specs.Change.{Shifted, Stored, Place, Inserted}
 use Rattle.rows.proofs.Laws.Product.{row-within}

@@ -20,9 +20,9 @@ use Rattle.model.specs.Step.{State, levelAt}
 use Rattle.model.specs.Schedule.{finished, refused, runOf, plainOrder}
 use Rattle.model.specs.Result.{resultOf}
 use Rattle.model.specs.Entries.{Request, question10, entryRefusal, cleared, success, answerOf, timetabled, plain, Answers}
-use Rattle.model.proofs.Laws.Order.Accepted.{any-order}
-use Rattle.model.proofs.Laws.Order.PlainRun.{accepted-plain}
-use Rattle.model.proofs.Laws.Reader.Answers.{passes}
+use Rattle.theorems.proofs.Laws.Order.Accepted.{any-order}
+use Rattle.theorems.proofs.Laws.Order.PlainRun.{accepted-plain}
+use Rattle.theorems.proofs.Laws.Reader.Answers.{passes}
 use Rattle.records.specs.Histories.{historiesAt, endedIn}
 use Rattle.records.specs.Writing.{resultIn, bytesIn, Ready, Written}
 use Rattle.records.proofs.Laws.Depends.{bytes-depend}
@@ -40,7 +40,7 @@ use Rattle.level_managers.specs.declared.RunEnd.the-variants as runEnd
 
 module _ (s : List ℕ) (a : verdictOf s ≡ Accepted) where
   root-level : levelOf s (rootObject s) < levelCount s
-  root-level = level-present s a (rootObject s) (root-present s a)
+  root-level = level-present s a (rootObject s)
 
   levels-are : programOf s .levels ≡ levelCount s
   levels-are = unfold programOf in refl

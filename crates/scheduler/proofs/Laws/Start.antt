@@ -7,13 +7,15 @@ use lib.ListN.{length, getD, set, drop, replicate, length-replicate, getD-replic
 use Rattle.session.specs.Limits.{maxLevels, maxMethods, fields}
 use Rattle.session.specs.Lists.{risingFrom}
 use Rattle.session.specs.Parts.{levelCount, objectCount}
-use Rattle.session.specs.Meaning.{levelOf, fieldOf, rootObject, rootOf}
+use Rattle.session.specs.Meaning.{levelOf, rootObject, rootOf}
 use Rattle.session.specs.Questions.{verdictOf}
 use Rattle.session.specs.Program.{programOf}
 use Rattle.contents.specs.Reading.{indexOf}
 use Rattle.session.specs.declared.Message.{Message}
 use Rattle.session.specs.declared.Verdict.the-variants.{Accepted}
 use Rattle.session.proofs.Laws.Accepted.{level-present, root-present}
+use Rattle.scripts.specs.Existence.{initially}
+use Rattle.scripts.proofs.Laws.Existence.{first-field}
 use Rattle.session.proofs.Laws.Contents.{level-limit}
 use Rattle.contents.proofs.Laws.Methods.{index-made}
 use Rattle.scripts.specs.State.{Manager}
@@ -21,9 +23,9 @@ use Rattle.model.specs.Lists.{modify}
 use Rattle.model.specs.Level.{idle, newLevel, arrived, newest}
 use Rattle.model.specs.Step.{State, levelAt}
 use Rattle.model.specs.Schedule.{initialState, readIn}
-use Rattle.model.proofs.Laws.Order.Accepted.{sound}
-use Rattle.model.proofs.Laws.Deep.Root.{each-level}
-use Rattle.model.proofs.Laws.Code.Progress.{leads-none}
+use Rattle.theorems.proofs.Laws.Order.Accepted.{sound}
+use Rattle.theorems.proofs.Laws.Deep.Root.{each-level}
+use Rattle.theorems.proofs.Laws.Code.Progress.{leads-none}
 use Rattle.words.specs.Fields.{fieldAt, Filled}
 use Rattle.records.specs.Histories.{InOrder}
 use Rattle.records.proofs.Laws.Histories.{histories-none}
@@ -57,7 +59,7 @@ module _ (s : List ℕ) (a : verdictOf s ≡ Accepted) where
   root-level m level e i = i ∙ ap (λ m. levelOf s (m .object)) e
 
   level-there : (level : ℕ) → level ≡ levelOf s (rootObject s) → level < levelCount s
-  level-there level e = rw e (level-present s a (rootObject s) (root-present s a))
+  level-there level e = rw e (level-present s a (rootObject s))
 
   pub level-small : (m : Message) (level : ℕ) → m ≡ rootOf s → level ≡ levelOf s (m .object) → level < maxLevels
   level-small m level e i = omega (arith, level-there level (root-level m level e i), level-limit s a)
@@ -108,11 +110,11 @@ module _ (s : List ℕ) (a : verdictOf s ≡ Accepted) where
           activity = busy-first l h;
         }
 
-    field-none : (o k : ℕ) → o < objectCount s → k < fields → fieldAt (w .current) o k ≡ newest (programOf s .field o k) o k (levelAt none (programOf s .level o) .versions)
+    field-none : (o k : ℕ) → o < objectCount s → k < fields → fieldAt (w .current) o k ≡ newest (initially (programOf s) o k) o k (levelAt none (programOf s .level o) .versions)
     unfolding newest programOf
     field-none o k h j =
         filled .fields-are o k h j
-        ∙ sym (ap (λ v. newest (fieldOf s o k) o k (v .versions)) (none-at (levelOf s o) (level-present s a o h)))
+        ∙ sym (ap (λ v. newest (initially (programOf s) o k) o k (v .versions)) (none-at (levelOf s o) (level-present s a o)) ∙ first-field (programOf s) o k j)
 
     -- they say that nothing has happened
     represents-none : (ms : ℕ → Manager) → Represents s w ms none

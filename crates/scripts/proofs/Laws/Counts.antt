@@ -70,9 +70,9 @@ concluded-counts p m = by (m .frames)
     by (f ∷ fs) = settled-counts p m f fs
 
 -- a manager starts at its level with its write stamp, and has done nothing
-pub started-counts : (p : Program) (level stamp : ℕ) (message : Message) → counts (started p level stamp message) ≡ record { level = level; first = stamp; stamp = stamp; steps = 0; writes = 0; forks = 0 }
+pub started-counts : (p : Program) (read : ℕ → ℕ → Value) (level stamp : ℕ) (message : Message) → counts (started p read level stamp message) ≡ record { level = level; first = stamp; stamp = stamp; steps = 0; writes = 0; forks = 0 }
 unfolding started
-started-counts p level stamp message = concluded-counts p _
+started-counts p read level stamp message = concluded-counts p _
 
 -- the counts after an operation, by its effect
 abbrev pub grown : Counts → Effect → Counts
@@ -110,12 +110,12 @@ forked-counts m f a u message = elim (truth (ltb (m .forks) maxForks)) [
   | fails e ↦ rw e refl
 ]
 
-sent-counts : (m : Manager) (f : Frame) (a b c : ℕ) (t : Fate) → CountsFollow m (sent m f a b c t)
+sent-counts : (read : ℕ → ℕ → Value) (m : Manager) (f : Frame) (a b c : ℕ) (t : Fate) → CountsFollow m (sent read m f a b c t)
 unfolding sent
-sent-counts m f a b c fate.Call = called-counts m f a _
-sent-counts m f a b c fate.Discard = called-counts m f a _
-sent-counts m f a b c fate.Block = refl
-sent-counts m f a b c (fate.Fork u) = forked-counts m f a u _
+sent-counts read m f a b c fate.Call = called-counts m f a _
+sent-counts read m f a b c fate.Discard = called-counts m f a _
+sent-counts read m f a b c fate.Block = refl
+sent-counts read m f a b c (fate.Fork u) = forked-counts m f a u _
 
 operated-counts : (p : Program) (read : ℕ → ℕ → Value) (m : Manager) (f : Frame) (s : Step) → CountsFollow m (operated p read m f s)
 unfolding operated
@@ -125,7 +125,7 @@ operated-counts p read m f (Add a b) = refl
 operated-counts p read m f (Jump a b) = refl
 operated-counts p read m f (Read a b) = refl
 operated-counts p read m f (Write a b) = written-counts p m f b _
-operated-counts p read m f (Send a b c) = sent-counts m f a b c _
+operated-counts p read m f (Send a b c) = sent-counts read m f a b c _
 operated-counts p read m f (Quit a) = popped-counts _ _
 
 -- one script step more

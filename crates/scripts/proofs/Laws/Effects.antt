@@ -1,11 +1,12 @@
 -- What a script step may do outside its manager. Assumes nothing.
-use Prim.Native.Nat.{ℕ, _+_, _<_}
+use Prim.Native.Nat.{ℕ, zero, suc, _+_, _<_}
 use mathlib.Core.Path.{_≡_}
 use mathlib.Core.Bool.{true}
 use borrow.Author.Tests.{ltb-true, eqb-true}
 use lib.Dec.{eqb, ltb}
 use Rattle.lattice.specs.Order.{strictly}
 use Rattle.lattice.specs.Join.{JoinSemilattice}
+use Rattle.session.specs.Limits.{fields}
 use Rattle.session.specs.Program.{Program}
 use Rattle.session.specs.declared.Value.{Value}
 use Rattle.session.specs.declared.Message.{Message}
@@ -15,12 +16,22 @@ use Rattle.session.proofs.Laws.Lists.{holds, fails, truth}
 use Rattle.filter.specs.declared.Fate.{Fate}
 use Rattle.filter.specs.declared.Fate.the-variants as fate
 use Rattle.filter.proofs.Laws.Fate.{Rises, fate-rises}
+use Rattle.scripts.specs.Existence.{scriptSeen}
 use Rattle.scripts.specs.Limits.{maxWrites, maxForks}
 use Rattle.scripts.specs.Frame.{atStep}
 use Rattle.scripts.specs.Manager.{top, nextStep, written, called, forked, sent, operated, stepped}
 use Rattle.scripts.specs.State.{Frame, Manager}
 use Rattle.scripts.specs.Effect.{Effect}
 use Rattle.scripts.specs.Effect as effect
+
+-- level l dominates the object of the session whose methods a script has
+abbrev pub Readable : Program → ℕ → ℕ → Type 0
+Readable p l zero = Unit
+Readable p l (suc w) = (w < p .objects) × (p .dom l (p .level w) ≡ true)
+
+-- what a read sees of an object's existence names a script that the object's level may read
+abbrev pub Legible : Program → (ℕ → ℕ → Value) → Type 0
+Legible p read = (o : ℕ) → Readable p (p .level o) (scriptSeen read o)
 
 -- a write is of an object of the manager's level, and not the seventeenth; a fork goes to a present level strictly above, and is not the
 -- sixteenth
@@ -46,17 +57,29 @@ forked-fits p m f a u message h s = elim (truth (ltb (m .forks) maxForks)) [
   | fails e ↦ rw e tt
 ]
 
-sent-fits : (p : Program) (m : Manager) (f : Frame) (a b c : ℕ) (t : Fate) → Rises (p .levels) (p .dom) (m .level) t → Fits p m (sent m f a b c t .effect)
+sent-fits : (p : Program) (read : ℕ → ℕ → Value) (m : Manager) (f : Frame) (a b c : ℕ) (t : Fate) → Rises (p .levels) (p .dom) (m .level) t → Fits p m (sent read m f a b c t .effect)
 unfolding sent called
-sent-fits p m f a b c fate.Call r = tt
-sent-fits p m f a b c fate.Discard r = tt
-sent-fits p m f a b c fate.Block r = tt
-sent-fits p m f a b c (fate.Fork u) r = forked-fits p m f a u _ (r .0) (r .1)
+sent-fits p read m f a b c fate.Call r = tt
+sent-fits p read m f a b c fate.Discard r = tt
+sent-fits p read m f a b c fate.Block r = tt
+sent-fits p read m f a b c (fate.Fork u) r = forked-fits p m f a u _ (r .0) (r .1)
 
--- the levels of a program are a join semilattice, and its objects lie at present levels
+-- a step writes fields alone
+abbrev pub Fielded : Step → Type 0
+Fielded End = Unit
+Fielded (Set a n) = Unit
+Fielded (Add a b) = Unit
+Fielded (Jump a b) = Unit
+Fielded (Read a b) = Unit
+Fielded (Write a b) = b < fields
+Fielded (Send a b c) = Unit
+Fielded (Quit a) = Unit
+
+-- the levels of a program are a join semilattice, its objects lie at present levels, and its steps write fields alone
 pub record Sound (p : Program) : Type 0 where
   pub lattice : JoinSemilattice (p .levels) (p .dom)
   pub placed : (o : ℕ) → p .level o < p .levels
+  pub fielded : (o name j : ℕ) → Fielded (p .step o name j)
 
 operated-fits : (p : Program) (read : ℕ → ℕ → Value) (m : Manager) (f : Frame) (s : Step) → Sound p → m .level < p .levels → Fits p m (operated p read m f s .effect)
 unfolding operated
@@ -67,7 +90,7 @@ operated-fits p read m f (Jump a b) so h = tt
 operated-fits p read m f (Read a b) so h = tt
 operated-fits p read m f (Write a b) so h = written-fits p m f b _
 operated-fits p read m f (Send a b c) so h =
-    sent-fits p m f a b c _ (fate-rises (p .levels) (p .dom) (so .lattice) (m .level) (p .level (f .object)) (p .level c) h (so .placed c))
+    sent-fits p read m f a b c _ (fate-rises (p .levels) (p .dom) (so .lattice) (m .level) (p .level (f .object)) (p .level c) h (so .placed c))
 operated-fits p read m f (Quit a) so h = tt
 
 pub stepped-fits : (p : Program) (read : ℕ → ℕ → Value) (m : Manager) → Sound p → m .level < p .levels → Fits p m (stepped p read m .effect)

@@ -41,11 +41,11 @@ module _ (s masks : List ℕ) (lent : Leveled s masks) where
       let dom = dominates (masksOf s) in
       let t : fateOf n dom l x (levelOf s c) ≡ Fork u = sym (lent-fate l x (levelOf s c)) ∙ e in
       let r : Rises n dom l (Fork u) =
-      subst (Rises n dom l) t (fate-rises n dom (levels-join s (lent .accepted)) l x (levelOf s c) hl (level-present s (lent .accepted) c hc)) in
+      subst (Rises n dom l) t (fate-rises n dom (levels-join s (lent .accepted)) l x (levelOf s c) hl (level-present s (lent .accepted) c)) in
       r .0
 
   -- a SEND, by what becomes of its message
-  pub send-by : (read : ℕ → ℕ → Value) (m : Manager) (f : Frame) (a b c l x y : ℕ) (t : Fate) → m .level ≡ l → x ≡ levelOf s (f .object) → y ≡ levelOf s c → fateOf (length masks) (dominates masks) l x y ≡ t → operated (programOf s) read m f (Send a b c) ≡ sent m f a b c t
+  pub send-by : (read : ℕ → ℕ → Value) (m : Manager) (f : Frame) (a b c l x y : ℕ) (t : Fate) → m .level ≡ l → x ≡ levelOf s (f .object) → y ≡ levelOf s c → fateOf (length masks) (dominates masks) l x y ≡ t → operated (programOf s) read m f (Send a b c) ≡ sent read m f a b c t
   unfolding operated programOf
   send-by read m f a b c l x y t el ex ey e =
-      ap (sent m f a b c) (rw (el, sym ex, sym ey) (sym (lent-fate l x y) ∙ e))
+      ap (sent read m f a b c) (rw (el, sym ex, sym ey) (sym (lent-fate l x y) ∙ e))

@@ -17,6 +17,7 @@ use Rattle.session.proofs.Laws.Lists.{holds, fails, truth}
 use Rattle.filter.specs.Filter.{fateOf}
 use Rattle.filter.specs.declared.Fate.{Fate}
 use Rattle.filter.specs.declared.Fate.the-variants as fate
+use Rattle.scripts.specs.Existence.{scriptSeen}
 use Rattle.scripts.specs.Limits.{maxFrames, maxWrites, maxForks}
 use Rattle.scripts.specs.Value.{isNilOr0}
 use Rattle.scripts.specs.Frame.{frameFor, register, withRegister, atStep}
@@ -36,17 +37,24 @@ Runs fate.Discard X = X
 Runs fate.Block X = Unit
 Runs (fate.Fork u) X = Unit
 
+-- it may be shown for every message
+pub runs-any : {X : Type 0} (t : Fate) → X → Runs t X
+runs-any fate.Call x = x
+runs-any fate.Discard x = x
+runs-any fate.Block x = tt
+runs-any (fate.Fork u) x = tt
+
 -- what is asked of a step: its jump keeps the property, and the frame that it makes has it
-abbrev pub Preserves : (Frame → Type 0) → Program → Manager → Frame → Step → Type 0
-Preserves P p m f End = Unit
-Preserves P p m f (Set a n) = Unit
-Preserves P p m f (Add a b) = Unit
-Preserves P p m f (Jump a b) = P (atStep f b)
-Preserves P p m f (Read a b) = Unit
-Preserves P p m f (Write a b) = Unit
-Preserves P p m f (Send a b c) =
-    Runs (fateOf (p .levels) (p .dom) (m .level) (p .level (f .object)) (p .level c)) ((r : Bool) (v : Value) → P (frameFor c b a r v))
-Preserves P p m f (Quit a) = Unit
+abbrev pub Preserves : (Frame → Type 0) → Program → (ℕ → ℕ → Value) → Manager → Frame → Step → Type 0
+Preserves P p read m f End = Unit
+Preserves P p read m f (Set a n) = Unit
+Preserves P p read m f (Add a b) = Unit
+Preserves P p read m f (Jump a b) = P (atStep f b)
+Preserves P p read m f (Read a b) = Unit
+Preserves P p read m f (Write a b) = Unit
+Preserves P p read m f (Send a b c) =
+    Runs (fateOf (p .levels) (p .dom) (m .level) (p .level (f .object)) (p .level c)) ((r : Bool) (v : Value) → P (frameFor c (scriptSeen read c) b a r v))
+Preserves P p read m f (Quit a) = Unit
 
 below-length : (fs : List Frame) → length (belowOf fs) ≡ length fs - 1
 below-length [] = refl
@@ -136,14 +144,14 @@ module _ (P : Frame → Type 0) (kept : (f : Frame) (k : ℕ) (v : Value) → P 
         | fails e ↦ rw e t
       ]
 
-  sent-stack : (m : Manager) (f : Frame) (a b c : ℕ) (t : Fate) → Stacked P m → P f → Runs t ((r : Bool) (v : Value) → P (frameFor c b a r v)) → Stacked P (sent m f a b c t .manager)
+  sent-stack : (read : ℕ → ℕ → Value) (m : Manager) (f : Frame) (a b c : ℕ) (t : Fate) → Stacked P m → P f → Runs t ((r : Bool) (v : Value) → P (frameFor c (scriptSeen read c) b a r v)) → Stacked P (sent read m f a b c t .manager)
   unfolding sent
-  sent-stack m f a b c fate.Call s d x = called-stack m f a _ s d (x true _)
-  sent-stack m f a b c fate.Discard s d x = called-stack m f a _ s d (x false _)
-  sent-stack m f a b c fate.Block s d x = replaced-stack P m (withRegister f a Nil) s (kept f a Nil d)
-  sent-stack m f a b c (fate.Fork u) s d x = forked-stack m f a u _ s d
+  sent-stack read m f a b c fate.Call s d x = called-stack m f a _ s d (x true _)
+  sent-stack read m f a b c fate.Discard s d x = called-stack m f a _ s d (x false _)
+  sent-stack read m f a b c fate.Block s d x = replaced-stack P m (withRegister f a Nil) s (kept f a Nil d)
+  sent-stack read m f a b c (fate.Fork u) s d x = forked-stack m f a u _ s d
 
-  pub operated-stack : (p : Program) (read : ℕ → ℕ → Value) (m : Manager) (f : Frame) (i : Step) → Stacked P m → (isEnd i ≡ false → P f) → Preserves P p m f i → Stacked P (operated p read m f i .manager)
+  pub operated-stack : (p : Program) (read : ℕ → ℕ → Value) (m : Manager) (f : Frame) (i : Step) → Stacked P m → (isEnd i ≡ false → P f) → Preserves P p read m f i → Stacked P (operated p read m f i .manager)
   unfolding operated
   operated-stack p read m f End s b x = s
   operated-stack p read m f (Set a n) s b x = replaced-stack P m _ s (kept f a _ (b refl))
@@ -154,7 +162,7 @@ module _ (P : Frame → Type 0) (kept : (f : Frame) (k : ℕ) (v : Value) → P 
   ]
   operated-stack p read m f (Read a c) s b x = replaced-stack P m _ s (kept f a _ (b refl))
   operated-stack p read m f (Write a c) s b x = written-stack p m f c (register f a) s (b refl)
-  operated-stack p read m f (Send a n c) s b x = sent-stack m f a n c _ s (b refl) x
+  operated-stack p read m f (Send a n c) s b x = sent-stack read m f a n c _ s (b refl) x
   operated-stack p read m f (Quit a) s b x = popped-stack (withTop m f) _ (replaced-stack P m f s (b refl))
 
   -- a script step keeps the stack

@@ -9,6 +9,7 @@ use Rattle.session.specs.Program.{Program, programOf}
 use Rattle.session.specs.declared.Value.{Value}
 use Rattle.session.specs.declared.Message.{Message}
 use Rattle.session.specs.declared.Verdict.the-variants.{Accepted}
+use Rattle.scripts.specs.Existence.{scriptSeen}
 use Rattle.scripts.specs.Limits.{maxWrites, maxForks}
 use Rattle.scripts.specs.Frame.{frameFor, atStep}
 use Rattle.scripts.specs.Ending.{isRunning}
@@ -18,10 +19,10 @@ use Rattle.scripts.specs.State.{Manager}
 use Rattle.scripts.specs.Effect.{Effect}
 use Rattle.scripts.specs.Effect as effect
 use Rattle.scripts.proofs.Laws.Counts.{Counts, counts, grown, oneMore, started-counts, stepped-counts}
-use Rattle.scripts.proofs.Laws.Effects.{Fits, stepped-fits}
+use Rattle.scripts.proofs.Laws.Effects.{Legible, Fits, stepped-fits}
 use Rattle.scripts.proofs.Laws.Endings.{concluded-live, concluded-few, running-live, running-few}
 use Rattle.scripts.proofs.Laws.Stack.{Stacked, top-each, first-stack, concluded-stack, operated-stack, stepped-stack}
-use Rattle.scripts.proofs.Laws.Accepted.{EffectPresent, known-register, program-sound, passed-known, next-preserves, next-present}
+use Rattle.scripts.proofs.Laws.Accepted.{EffectPresent, known-register, legible-low, program-sound, passed-known, next-preserves, next-present}
 
 -- counts within their limits, at a level and with a first write stamp
 record Limited (level first steps : ℕ) (c : Counts) : Type 0 where
@@ -42,13 +43,13 @@ grown-limited p m (effect.Fork u message) f w k e =
 
 module _ (s : List ℕ) (a : verdictOf s ≡ Accepted) where
   -- a manager that starts is valid
-  pub started-valid : (level stamp : ℕ) (message : Message) → Startable s level stamp message → Valid s (started (programOf s) level stamp message)
+  pub started-valid : (read : ℕ → ℕ → Value) → Legible (programOf s) read → (level stamp : ℕ) (message : Message) → Startable s level stamp message → Valid s (started (programOf s) read level stamp message)
   unfolding started
-  started-valid level stamp message h =
+  started-valid read g level stamp message h =
       let p = programOf s in
-      let e = started-counts p level stamp message in
-      let f = frameFor (message .object) (message .name) 0 true (message .parameter) in
-      let k : Known s f = record { present = h .present; named = h .named; near = omega arith } in
+      let e = started-counts p read level stamp message in
+      let f = frameFor (message .object) (scriptSeen read (message .object)) (message .name) 0 true (message .parameter) in
+      let k : Known s f = record { present = h .present; scripted = legible-low s read g (message .object); named = h .named; near = omega arith } in
       let t = concluded-stack (Known s) (known-register s) p _ (first-stack (Known s) f k) in
       record {
         placed = rw (ap (λ c. c .level) e) (h .placed);
@@ -63,16 +64,16 @@ module _ (s : List ℕ) (a : verdictOf s ≡ Accepted) where
       }
 
   -- the stack after the operation of a script step
-  pub done-stack : (read : ℕ → ℕ → Value) (m : Manager) → Valid s m → isRunning (m .ending) ≡ true → Stacked (Known s) (operated (programOf s) read m (atStep (top m) (top m .next + 1)) (nextStep (programOf s) (top m)) .manager)
-  done-stack read m v r =
+  pub done-stack : (read : ℕ → ℕ → Value) → Legible (programOf s) read → (m : Manager) → Valid s m → isRunning (m .ending) ≡ true → Stacked (Known s) (operated (programOf s) read m (atStep (top m) (top m .next + 1)) (nextStep (programOf s) (top m)) .manager)
+  done-stack read g m v r =
       let p = programOf s in
       let f = top m in
       let h = top-each (Known s) m (v .stack) (v .live r) in
-      operated-stack (Known s) (known-register s) p read m (atStep f (f .next + 1)) (nextStep p f) (v .stack) (passed-known s a f h) (next-preserves s a m f h)
+      operated-stack (Known s) (known-register s) p read m (atStep f (f .next + 1)) (nextStep p f) (v .stack) (passed-known s a f h) (next-preserves s a read g m f h)
 
   -- a script step leaves a valid manager
-  pub stepped-valid : (read : ℕ → ℕ → Value) (m : Manager) → Valid s m → isRunning (m .ending) ≡ true → Valid s (stepped (programOf s) read m .manager)
-  stepped-valid read m v r =
+  pub stepped-valid : (read : ℕ → ℕ → Value) → Legible (programOf s) read → (m : Manager) → Valid s m → isRunning (m .ending) ≡ true → Valid s (stepped (programOf s) read m .manager)
+  stepped-valid read t m v r =
       let p = programOf s in
       let x = stepped p read m .effect in
       let e = stepped-counts p read m in
@@ -81,7 +82,7 @@ module _ (s : List ℕ) (a : verdictOf s ≡ Accepted) where
       let steps = v .few r in
       record {
         placed = rw (ap (λ c. c .level) e ∙ g .level-is) (v .placed);
-        stack = stepped-stack (Known s) (known-register s) p read m (done-stack read m v r);
+        stack = stepped-stack (Known s) (known-register s) p read m (done-stack read t m v r);
         live = running-live p read m;
         few = running-few p read m;
         made = omega (arith, ap (λ c. c .steps) e, g .steps-are);

@@ -4,8 +4,10 @@ use Prim.Native.Nat.{ℕ, zero, suc, _+_, _<_}
 use mathlib.Core.Path.{_≡_, refl, ap}
 use mathlib.Core.Bool.{Bool, true}
 use mathlib.Core.List.{List, [], _∷_}
+use native.Mathlib.Omega.{arith}
 use lib.Dec.{eqb, ltb}
 use lib.ListN.{length}
+use Rattle.session.specs.Limits.{fields}
 use Rattle.session.specs.Program.{Program, seenBy}
 use Rattle.session.specs.declared.Value.{Value}
 use Rattle.session.specs.declared.Value.the-variants.{Nil}
@@ -17,21 +19,24 @@ use Rattle.filter.specs.Filter.{fateOf}
 use Rattle.filter.specs.declared.Fate.{Fate}
 use Rattle.filter.specs.declared.Fate.the-variants as fate
 use Rattle.filter.proofs.Laws.Fate.{Covers, fate-covers}
+use Rattle.scripts.specs.Existence.{existence, scriptSeen}
 use Rattle.scripts.specs.Limits.{maxWrites, maxForks}
+use Rattle.scripts.specs.Value.{numberIn}
 use Rattle.scripts.specs.Frame.{frameFor, withRegister, atStep}
 use Rattle.scripts.specs.Ending.{isRunning}
-use Rattle.scripts.specs.Manager.{top, isEnd, nextStep, settled, settledFrom, concluded, started, written, called, forked, sent, operated, stepped}
+use Rattle.scripts.specs.Manager.{top, isEnd, scriptStep, nextStep, settled, settledFrom, concluded, started, written, called, forked, sent, operated, stepped}
 use Rattle.scripts.specs.Valid.{Each, Stack}
 use Rattle.scripts.specs.State.{Frame, Manager}
 use Rattle.scripts.specs.Effect.{Effect}
 use Rattle.scripts.specs.Effect as effect
-use Rattle.scripts.proofs.Laws.Effects.{Sound}
+use Rattle.scripts.proofs.Laws.Effects.{Readable, Legible, Fielded, Sound}
 use Rattle.scripts.proofs.Laws.Endings.{concluded-live, running-live}
+use Rattle.scripts.proofs.Laws.Reads.{sent-reads}
 use Rattle.scripts.proofs.Laws.Stack.{Stacked, Runs, Preserves, top-each, first-stack, concluded-stack, operated-stack, stepped-stack}
 
--- level l dominates the object of a frame
+-- level l dominates the object of a frame, and may read its script
 abbrev pub Below : Program → ℕ → Frame → Type 0
-Below p l f = p .dom l (p .level (f .object)) ≡ true
+Below p l f = (p .dom l (p .level (f .object)) ≡ true) × Readable p l (f .script)
 
 -- each frame of the stack is of an object whose level l dominates, and a manager that runs has a frame
 pub record Within (p : Program) (l : ℕ) (m : Manager) : Type 0 where
@@ -50,50 +55,67 @@ concluded-within : (p : Program) (l : ℕ) (m : Manager) → Stacked (Below p l)
 concluded-within p l m s =
     record { stack = concluded-stack (Below p l) (register-below p l) p m s; live = concluded-live p m }
 
--- a manager starts within a level that dominates its message's object
-pub started-within : (p : Program) (level stamp : ℕ) (message : Message) → p .dom level (p .level (message .object)) ≡ true → Within p level (started p level stamp message)
-unfolding started
-started-within p level stamp message b = concluded-within p level _ (first-stack (Below p level) _ b)
+-- a level may read what a level that it dominates may read
+readable-up : (p : Program) (l j w : ℕ) → Sound p → l < p .levels → j < p .levels → p .dom l j ≡ true → Readable p j w → Readable p l w
+readable-up p l j zero so hl hj d r = tt
+readable-up p l j (suc w) so hl hj d r =
+    (r .0, so .lattice .order .through l j (p .level w) hl hj (so .placed w) d (r .1))
 
--- a frame is made only of an object that the manager's level dominates
-runs-below : (p : Program) (l : ℕ) (f : Frame) (a b c : ℕ) (t : Fate) → Sound p → l < p .levels → Below p l f → Covers (p .dom) l (p .level (f .object)) (p .level c) t → Runs t ((r : Bool) (v : Value) → Below p l (frameFor c b a r v))
-runs-below p l f a b c fate.Call so h d x =
-    λ r v. so .lattice .order .through l (p .level (f .object)) (p .level c) h (so .placed (f .object)) (so .placed c) d x
-runs-below p l f a b c fate.Discard so h d x = λ r v. x
-runs-below p l f a b c fate.Block so h d x = tt
-runs-below p l f a b c (fate.Fork u) so h d x = tt
+-- so it may read the script of an object that it dominates
+module _ (p : Program) (so : Sound p) (read : ℕ → ℕ → Value) (g : Legible p read) where
+  frame-below : (l o name into : ℕ) (r : Bool) (v : Value) → l < p .levels → p .dom l (p .level o) ≡ true → Below p l (frameFor o (scriptSeen read o) name into r v)
+  frame-below l o name into r v h d = (d, readable-up p l (p .level o) (scriptSeen read o) so h (so .placed o) d (g o))
 
-preserves-below : (p : Program) (l : ℕ) (m : Manager) (f : Frame) (i : Step) → Sound p → l < p .levels → m .level ≡ l → Below p l f → Preserves (Below p l) p m f i
-preserves-below p l m f End so h q b = tt
-preserves-below p l m f (Set a n) so h q b = tt
-preserves-below p l m f (Add a c) so h q b = tt
-preserves-below p l m f (Jump a c) so h q b = b
-preserves-below p l m f (Read a c) so h q b = tt
-preserves-below p l m f (Write a c) so h q b = tt
-preserves-below p l m f (Send a n c) so h q b =
-    runs-below p l f a n c (fateOf (p .levels) (p .dom) (m .level) (p .level (f .object)) (p .level c)) so h b
-    (rw q (fate-covers (p .levels) (p .dom) (so .lattice) l (p .level (f .object)) (p .level c) h (so .placed c)))
-preserves-below p l m f (Quit a) so h q b = tt
+  -- a manager starts within a level that dominates its message's object
+  pub started-within : (level stamp : ℕ) (message : Message) → level < p .levels → p .dom level (p .level (message .object)) ≡ true → Within p level (started p read level stamp message)
+  unfolding started
+  started-within level stamp message h b =
+      concluded-within p level _ (first-stack (Below p level) _ (frame-below level (message .object) (message .name) 0 true (message .parameter) h b))
 
--- the stack after the operation of a script step
-done-stack : (p : Program) (read : ℕ → ℕ → Value) (l : ℕ) (m : Manager) → Sound p → l < p .levels → m .level ≡ l → isRunning (m .ending) ≡ true → Within p l m → Stacked (Below p l) (operated p read m (atStep (top m) (top m .next + 1)) (nextStep p (top m)) .manager)
-done-stack p read l m so h q r w =
-    let g = atStep (top m) (top m .next + 1) in
-    let b = top-each (Below p l) m (w .stack) (w .live r) in
-    operated-stack (Below p l) (register-below p l) p read m g (nextStep p (top m)) (w .stack) (λ _. b) (preserves-below p l m g (nextStep p (top m)) so h q b)
+  -- a frame is made only of an object that the manager's level dominates
+  runs-below : (l : ℕ) (f : Frame) (a b c : ℕ) (t : Fate) → l < p .levels → Below p l f → Covers (p .dom) l (p .level (f .object)) (p .level c) t → Runs t ((r : Bool) (v : Value) → Below p l (frameFor c (scriptSeen read c) b a r v))
+  runs-below l f a b c fate.Call h d x =
+      let e = so .lattice .order .through l (p .level (f .object)) (p .level c) h (so .placed (f .object)) (so .placed c) (d .0) x in
+      λ r v. frame-below l c b a r v h e
+  runs-below l f a b c fate.Discard h d x = λ r v. frame-below l c b a r v h x
+  runs-below l f a b c fate.Block h d x = tt
+  runs-below l f a b c (fate.Fork u) h d x = tt
 
--- a script step keeps a manager within the level
-pub stepped-within : (p : Program) (read : ℕ → ℕ → Value) (l : ℕ) (m : Manager) → Sound p → l < p .levels → m .level ≡ l → isRunning (m .ending) ≡ true → Within p l m → Within p l (stepped p read m .manager)
-stepped-within p read l m so h q r w =
-    record {
-      stack = stepped-stack (Below p l) (register-below p l) p read m (done-stack p read l m so h q r w);
-      live = running-live p read m;
-    }
+  preserves-below : (l : ℕ) (m : Manager) (f : Frame) (i : Step) → l < p .levels → m .level ≡ l → Below p l f → Preserves (Below p l) p read m f i
+  preserves-below l m f End h q b = tt
+  preserves-below l m f (Set a n) h q b = tt
+  preserves-below l m f (Add a c) h q b = tt
+  preserves-below l m f (Jump a c) h q b = b
+  preserves-below l m f (Read a c) h q b = tt
+  preserves-below l m f (Write a c) h q b = tt
+  preserves-below l m f (Send a n c) h q b =
+      runs-below l f a n c (fateOf (p .levels) (p .dom) (m .level) (p .level (f .object)) (p .level c)) h b
+      (rw q (fate-covers (p .levels) (p .dom) (so .lattice) l (p .level (f .object)) (p .level c) h (so .placed c)))
+  preserves-below l m f (Quit a) h q b = tt
 
--- of an object that level l dominates, l sees the method
-next-seen : (p : Program) (l : ℕ) (f : Frame) → Below p l f → nextStep (seenBy l p) f ≡ nextStep p f
+  -- the stack after the operation of a script step
+  done-stack : (l : ℕ) (m : Manager) → l < p .levels → m .level ≡ l → isRunning (m .ending) ≡ true → Within p l m → Stacked (Below p l) (operated p read m (atStep (top m) (top m .next + 1)) (nextStep p (top m)) .manager)
+  done-stack l m h q r w =
+      let g = atStep (top m) (top m .next + 1) in
+      let b = top-each (Below p l) m (w .stack) (w .live r) in
+      operated-stack (Below p l) (register-below p l) p read m g (nextStep p (top m)) (w .stack) (λ _. b) (preserves-below l m g (nextStep p (top m)) h q b)
+
+  -- a script step keeps a manager within the level
+  pub stepped-within : (l : ℕ) (m : Manager) → l < p .levels → m .level ≡ l → isRunning (m .ending) ≡ true → Within p l m → Within p l (stepped p read m .manager)
+  stepped-within l m h q r w =
+      record {
+        stack = stepped-stack (Below p l) (register-below p l) p read m (done-stack l m h q r w);
+        live = running-live p read m;
+      }
+
+-- of an object that level l dominates, l sees the methods
+script-seen : (p : Program) (l w name j : ℕ) → Readable p l w → scriptStep (seenBy l p) w name j ≡ scriptStep p w name j
 unfolding seenBy
-next-seen p l f b = rw b
+script-seen p l zero name j d = refl
+script-seen p l (suc w) name j d = rw (d .1)
+
+next-seen : (p : Program) (l : ℕ) (f : Frame) → Below p l f → nextStep (seenBy l p) f ≡ nextStep p f
+next-seen p l f b = script-seen p l (f .script) (f .name) (f .next) (b .1)
 
 settled-seen : (p : Program) (l : ℕ) (m : Manager) (f : Frame) (gs : List Frame) → Below p l f → Each (Below p l) gs → settled (seenBy l p) m f gs ≡ settled p m f gs
 unfolding settled
@@ -111,33 +133,46 @@ concluded-seen : (p : Program) (l : ℕ) (m : Manager) → Stacked (Below p l) m
 unfolding concluded
 concluded-seen p l m s = rw (from-seen p l m (m .frames) (s .each))
 
--- a manager that starts takes nothing of objects that its level does not dominate
-pub started-seen : (p : Program) (level stamp : ℕ) (message : Message) → p .dom level (p .level (message .object)) ≡ true → started (seenBy level p) level stamp message ≡ started p level stamp message
+-- a manager that starts takes nothing of objects that its level does not dominate, where the reads of the dominated objects agree
+pub started-seen : (p : Program) (read read' : ℕ → ℕ → Value) (level stamp : ℕ) (message : Message) → Sound p → Legible p read' → level < p .levels → p .dom level (p .level (message .object)) ≡ true → read (message .object) existence ≡ read' (message .object) existence → started (seenBy level p) read level stamp message ≡ started p read' level stamp message
 unfolding started
-started-seen p level stamp message b = concluded-seen p level _ (first-stack (Below p level) _ b)
+started-seen p read read' level stamp message so g h b e =
+    rw e (concluded-seen p level _ (first-stack (Below p level) _ (frame-below p so read' g level (message .object) (message .name) 0 true (message .parameter) h b)))
+
+-- a frame is made only of an object that the manager's level dominates, so what else is read of existence does not matter
+runs-seen : (p : Program) (l : ℕ) (f : Frame) (c : ℕ) (t : Fate) {X : Type 0} → Sound p → l < p .levels → Below p l f → Covers (p .dom) l (p .level (f .object)) (p .level c) t → (p .dom l (p .level c) ≡ true → X) → Runs t X
+runs-seen p l f c fate.Call so h d x e =
+    e (so .lattice .order .through l (p .level (f .object)) (p .level c) h (so .placed (f .object)) (so .placed c) (d .0) x)
+runs-seen p l f c fate.Discard so h d x e = e x
+runs-seen p l f c fate.Block so h d x e = tt
+runs-seen p l f c (fate.Fork u) so h d x e = tt
 
 -- an operation takes of the program only levels
-operated-seen : (p : Program) (read read' : ℕ → ℕ → Value) (l : ℕ) (m : Manager) (f : Frame) (i : Step) → ((k : ℕ) → read (f .object) k ≡ read' (f .object) k) → operated (seenBy l p) read m f i ≡ operated p read' m f i
+operated-seen : (p : Program) (read read' : ℕ → ℕ → Value) (l : ℕ) (m : Manager) (f : Frame) (i : Step) → Sound p → l < p .levels → m .level ≡ l → Below p l f → ((o k : ℕ) → p .dom l (p .level o) ≡ true → read o k ≡ read' o k) → operated (seenBy l p) read m f i ≡ operated p read' m f i
 unfolding operated written seenBy
-operated-seen p read read' l m f End e = refl
-operated-seen p read read' l m f (Set a n) e = refl
-operated-seen p read read' l m f (Add a c) e = refl
-operated-seen p read read' l m f (Jump a c) e = refl
-operated-seen p read read' l m f (Read a c) e = rw (e c)
-operated-seen p read read' l m f (Write a c) e = refl
-operated-seen p read read' l m f (Send a n c) e = refl
-operated-seen p read read' l m f (Quit a) e = refl
+operated-seen p read read' l m f End so h q b e = refl
+operated-seen p read read' l m f (Set a n) so h q b e = refl
+operated-seen p read read' l m f (Add a c) so h q b e = refl
+operated-seen p read read' l m f (Jump a c) so h q b e = refl
+operated-seen p read read' l m f (Read a c) so h q b e = rw (e (f .object) c (b .0))
+operated-seen p read read' l m f (Write a c) so h q b e = refl
+operated-seen p read read' l m f (Send a n c) so h q b e =
+    sent-reads read read' m f a n c (fateOf (p .levels) (p .dom) (m .level) (p .level (f .object)) (p .level c))
+    (runs-seen p l f c (fateOf (p .levels) (p .dom) (m .level) (p .level (f .object)) (p .level c)) so h b
+    (rw q (fate-covers (p .levels) (p .dom) (so .lattice) l (p .level (f .object)) (p .level c) h (so .placed c)))
+    (e c existence))
+operated-seen p read read' l m f (Quit a) so h q b e = refl
 
 -- nor does a script step, where the reads of the dominated objects agree
-pub stepped-seen : (p : Program) (read read' : ℕ → ℕ → Value) (l : ℕ) (m : Manager) → Sound p → l < p .levels → m .level ≡ l → isRunning (m .ending) ≡ true → Within p l m → ((o k : ℕ) → p .dom l (p .level o) ≡ true → read o k ≡ read' o k) → stepped (seenBy l p) read m ≡ stepped p read' m
+pub stepped-seen : (p : Program) (read read' : ℕ → ℕ → Value) (l : ℕ) (m : Manager) → Sound p → Legible p read' → l < p .levels → m .level ≡ l → isRunning (m .ending) ≡ true → Within p l m → ((o k : ℕ) → p .dom l (p .level o) ≡ true → read o k ≡ read' o k) → stepped (seenBy l p) read m ≡ stepped p read' m
 unfolding stepped
-stepped-seen p read read' l m so h q r w same =
+stepped-seen p read read' l m so legible h q r w same =
     let f = top m in
     let g = atStep f (f .next + 1) in
     let b = top-each (Below p l) m (w .stack) (w .live r) in
     let done = operated p read' m g (nextStep p f) in
-    let t = done-stack p read' l m so h q r w in
-    rw (next-seen p l f b, operated-seen p read read' l m g (nextStep p f) (λ k. same (f .object) k b)) (
+    let t = done-stack p so read' legible l m h q r w in
+    rw (next-seen p l f b, operated-seen p read read' l m g (nextStep p f) so h q b same) (
     elim (truth (isRunning (done .manager .ending))) [
       | holds e ↦ rw e (ap (λ n. record { manager = n; effect = done .effect }) (concluded-seen p l _ t))
       | fails e ↦ rw e refl
@@ -166,12 +201,12 @@ forked-reaches p m f a u message d = elim (truth (ltb (m .forks) maxForks)) [
   | fails e ↦ rw e tt
 ]
 
-sent-reaches : (p : Program) (m : Manager) (f : Frame) (a b c : ℕ) (t : Fate) → Covers (p .dom) (m .level) (p .level (f .object)) (p .level c) t → Reaches p (sent m f a b c t .effect)
+sent-reaches : (p : Program) (read : ℕ → ℕ → Value) (m : Manager) (f : Frame) (a b c : ℕ) (t : Fate) → Covers (p .dom) (m .level) (p .level (f .object)) (p .level c) t → Reaches p (sent read m f a b c t .effect)
 unfolding sent called
-sent-reaches p m f a b c fate.Call r = tt
-sent-reaches p m f a b c fate.Discard r = tt
-sent-reaches p m f a b c fate.Block r = tt
-sent-reaches p m f a b c (fate.Fork u) r = forked-reaches p m f a u _ r
+sent-reaches p read m f a b c fate.Call r = tt
+sent-reaches p read m f a b c fate.Discard r = tt
+sent-reaches p read m f a b c fate.Block r = tt
+sent-reaches p read m f a b c (fate.Fork u) r = forked-reaches p m f a u _ r
 
 operated-reaches : (p : Program) (read : ℕ → ℕ → Value) (m : Manager) (f : Frame) (i : Step) → Sound p → m .level < p .levels → Reaches p (operated p read m f i .effect)
 unfolding operated
@@ -182,10 +217,97 @@ operated-reaches p read m f (Jump a c) so h = tt
 operated-reaches p read m f (Read a c) so h = tt
 operated-reaches p read m f (Write a c) so h = written-reaches p m f c _
 operated-reaches p read m f (Send a n c) so h =
-    sent-reaches p m f a n c _ (fate-covers (p .levels) (p .dom) (so .lattice) (m .level) (p .level (f .object)) (p .level c) h (so .placed c))
+    sent-reaches p read m f a n c _ (fate-covers (p .levels) (p .dom) (so .lattice) (m .level) (p .level (f .object)) (p .level c) h (so .placed c))
 operated-reaches p read m f (Quit a) so h = tt
 
 pub stepped-reaches : (p : Program) (read : ℕ → ℕ → Value) (m : Manager) → Sound p → m .level < p .levels → Reaches p (stepped p read m .effect)
 unfolding stepped
 stepped-reaches p read m so h =
     operated-reaches p read m (atStep (top m) (top m .next + 1)) (nextStep p (top m)) so h
+
+-- a value of a field of an object of level l names a script that l may read, if the field is the object's existence
+abbrev pub Lawful : Program → ℕ → ℕ → Value → Type 0
+Lawful p l k v = k ≡ existence → Readable p l (numberIn v)
+
+-- and so does what a script step writes
+abbrev pub Lawfully : Program → ℕ → Effect → Type 0
+Lawfully p l effect.Nothing = Unit
+Lawfully p l (effect.Write object k v) = Lawful p l k v
+Lawfully p l (effect.Fork u message) = Unit
+
+written-lawful : (p : Program) (l : ℕ) (m : Manager) (f : Frame) (k : ℕ) (v : Value) → Lawful p l k v → Lawfully p l (written p m f k v .effect)
+unfolding written
+written-lawful p l m f k v w = elim (truth (eqb (p .level (f .object)) (m .level))) [
+  | fails e ↦ rw e tt
+  | holds e ↦ elim (truth (ltb (m .writes) maxWrites)) [
+    | holds q ↦ rw (e, q) w
+    | fails q ↦ rw (e, q) tt
+  ]
+]
+
+sent-lawful : (p : Program) (l : ℕ) (read : ℕ → ℕ → Value) (m : Manager) (f : Frame) (a b c : ℕ) (t : Fate) → Lawfully p l (sent read m f a b c t .effect)
+unfolding sent called forked
+sent-lawful p l read m f a b c fate.Call = tt
+sent-lawful p l read m f a b c fate.Discard = tt
+sent-lawful p l read m f a b c fate.Block = tt
+sent-lawful p l read m f a b c (fate.Fork u) = elim (truth (ltb (m .forks) maxForks)) [
+  | holds e ↦ rw e tt
+  | fails e ↦ rw e tt
+]
+
+operated-lawful : (p : Program) (l : ℕ) (read : ℕ → ℕ → Value) (m : Manager) (f : Frame) (i : Step) → Fielded i → Lawfully p l (operated p read m f i .effect)
+unfolding operated
+operated-lawful p l read m f End w = tt
+operated-lawful p l read m f (Set a n) w = tt
+operated-lawful p l read m f (Add a c) w = tt
+operated-lawful p l read m f (Jump a c) w = tt
+operated-lawful p l read m f (Read a c) w = tt
+operated-lawful p l read m f (Write a c) w = written-lawful p l m f c _ (λ e. absurd (omega (arith, w, e)))
+operated-lawful p l read m f (Send a n c) w = sent-lawful p l read m f a n c _
+operated-lawful p l read m f (Quit a) w = tt
+
+next-fielded : (p : Program) → Sound p → (w name j : ℕ) → Fielded (scriptStep p w name j)
+next-fielded p so zero name j = tt
+next-fielded p so (suc w) name j = so .fielded w name j
+
+pub stepped-lawful : (p : Program) (l : ℕ) (read : ℕ → ℕ → Value) (m : Manager) → Sound p → Lawfully p l (stepped p read m .effect)
+unfolding stepped
+stepped-lawful p l read m so =
+    operated-lawful p l read m (atStep (top m) (top m .next + 1)) (nextStep p (top m)) (next-fielded p so (top m .script) (top m .name) (top m .next))
+
+-- what a script step writes is a field
+abbrev pub WritesFields : Effect → Type 0
+WritesFields effect.Nothing = Unit
+WritesFields (effect.Write object k v) = k < fields
+WritesFields (effect.Fork u message) = Unit
+
+operated-fields : (p : Program) (read : ℕ → ℕ → Value) (m : Manager) (f : Frame) (i : Step) → Fielded i → WritesFields (operated p read m f i .effect)
+unfolding operated
+operated-fields p read m f End w = tt
+operated-fields p read m f (Set a n) w = tt
+operated-fields p read m f (Add a c) w = tt
+operated-fields p read m f (Jump a c) w = tt
+operated-fields p read m f (Read a c) w = tt
+operated-fields p read m f (Write a c) w = unfold written in elim (truth (eqb (p .level (f .object)) (m .level))) [
+  | fails e ↦ rw e tt
+  | holds e ↦ elim (truth (ltb (m .writes) maxWrites)) [
+    | holds q ↦ rw (e, q) w
+    | fails q ↦ rw (e, q) tt
+  ]
+]
+operated-fields p read m f (Send a n c) w = sent-fields read m f a n c _
+  where
+    sent-fields : (read : ℕ → ℕ → Value) (m : Manager) (f : Frame) (a b c : ℕ) (t : Fate) → WritesFields (sent read m f a b c t .effect)
+    sent-fields read m f a b c fate.Call = unfold sent called in tt
+    sent-fields read m f a b c fate.Discard = unfold sent called in tt
+    sent-fields read m f a b c fate.Block = unfold sent in tt
+    sent-fields read m f a b c (fate.Fork u) = unfold sent forked in elim (truth (ltb (m .forks) maxForks)) [
+      | holds e ↦ rw e tt
+      | fails e ↦ rw e tt
+    ]
+operated-fields p read m f (Quit a) w = tt
+
+pub stepped-fields : (p : Program) (read : ℕ → ℕ → Value) (m : Manager) → Sound p → WritesFields (stepped p read m .effect)
+unfolding stepped
+stepped-fields p read m so =
+    operated-fields p read m (atStep (top m) (top m .next + 1)) (nextStep p (top m)) (next-fielded p so (top m .script) (top m .name) (top m .next))

@@ -1,26 +1,26 @@
 -- What acceptance says of what a session says: every number read is within its bounds. Assumes nothing.
-use Prim.Native.Nat.{ℕ, _≤_, _<_}
+use Prim.Native.Nat.{ℕ, _-_, _/_, _≤_, _<_}
 use mathlib.Core.Path.{_≡_, sym, _∙_, ap}
 use mathlib.Core.Bool.{true, _&&_}
 use mathlib.Core.List.{List, []}
 use native.Mathlib.Decide.{decLt}
 use native.Mathlib.Omega.{arith}
 use borrow.Author.Tests.{leb-true, ltb-true, eqb-true}
-use lib.Dec.{eqb, leb}
+use lib.Dec.{eqb, leb, ltb}
 use lib.ListN.{length, getD, List·getD-map}
 use Rattle.lattice.specs.Join.{JoinSemilattice}
 use Rattle.lattice.specs.Table.{dominates}
 use Rattle.lattice.proofs.Laws.Range.{and-left, and-right}
 use Rattle.lattice.proofs.Laws.Join.{semilattice}
 use Rattle.lattice.proofs.Laws.Table.{is-order}
-use Rattle.session.specs.Limits.{maxMethod, names}
+use Rattle.session.specs.Limits.{maxObjects, madeObjects, maxMethod, names}
 use Rattle.session.specs.Record.{objectOf, nameOf, levelByte, stepOf, zeroAt}
 use Rattle.session.specs.Parts.{objectRecords, stepRecords, levelCount, objectCount, masksOf, key, keyOf, ofMethod, methodRecords}
 use Rattle.session.specs.Questions.{objectValid, question6, operandsFit, unusedBytes, stepValid, scriptValid, rootValid, verdictOf}
-use Rattle.session.specs.Meaning.{levelOf, methodOf, stepAt, rootObject, rootName}
+use Rattle.session.specs.Meaning.{ownerOf, levelOf, methodOf, stepAt, rootObject, rootName}
 use Rattle.session.specs.declared.Step.the-variants.{End}
 use Rattle.session.specs.declared.Verdict.the-variants.{Accepted}
-use Rattle.session.proofs.Laws.Lists.{every-each, every-select, select-passes}
+use Rattle.session.proofs.Laws.Lists.{holds, fails, truth, every-each, every-select, select-passes}
 use Rattle.session.proofs.Laws.Verdict.{accepted}
 use Rattle.session.proofs.Laws.Contents.{masks-length, method-length}
 use Rattle.session.proofs.Laws.Emptied.{steps-valid, method-is, method-none}
@@ -32,10 +32,10 @@ module _ (s : List ℕ) (a : verdictOf s ≡ Accepted) where
       rw (masks-length s a) at
       (semilattice (length (masksOf s)) (dominates (masksOf s)) (is-order (masksOf s) (accepted s a .four)) (accepted s a .five))
 
-  -- each object's level is present
-  pub level-present : (o : ℕ) → o < objectCount s → levelOf s o < levelCount s
+  -- the level of each object of the session is present
+  own-present : (o : ℕ) → o < objectCount s → levelByte (getD (objectRecords s) o []) < levelCount s
   unfolding question6 objectValid
-  level-present o h =
+  own-present o h =
       let rec = getD (objectRecords s) o [] in
       let v : objectValid (levelCount s) rec ≡ true = every-each (objectValid (levelCount s)) [] (objectRecords s) (accepted s a .six) o h in
       ltb-true (levelByte rec) (levelCount s) (search (and-left, and-right, v))
@@ -48,6 +48,24 @@ module _ (s : List ℕ) (a : verdictOf s ≡ Accepted) where
   pub root-named : rootName s < names
   unfolding rootValid
   root-named = ltb-true (rootName s) names (search (and-left, and-right, accepted s a .eight))
+
+  some-level : 0 < levelCount s
+  some-level = omega (arith, own-present (rootObject s) root-present)
+
+  owner-present : (o : ℕ) → ownerOf (levelCount s) o < levelCount s
+  unfolding ownerOf
+  owner-present o = elim (truth (ltb ((o - maxObjects) / madeObjects) (levelCount s))) [
+    | holds e ↦ rw e (ltb-true ((o - maxObjects) / madeObjects) (levelCount s) e)
+    | fails e ↦ rw e some-level
+  ]
+
+  -- whatever its number, an object's level is present
+  pub level-present : (o : ℕ) → levelOf s o < levelCount s
+  unfolding levelOf
+  level-present o = elim (truth (ltb o (objectCount s))) [
+    | holds e ↦ rw e (own-present o (ltb-true o (objectCount s) e))
+    | fails e ↦ rw e (owner-present o)
+  ]
 
   -- each step of a method is valid as one of the method's steps
   step-of-method : (k j : ℕ) → j < length (methodRecords s k) →

@@ -1,11 +1,11 @@
 -- Laws of the session emptied for a level: what its records, parts, fields and methods are. Assumes nothing.
 use Prim.Native.Nat.{ℕ, zero, suc, _*_, _≤_, _<_}
-use mathlib.Core.Path.{_≡_, refl, sym, _∙_, ap, fun-ext}
-use mathlib.Core.Bool.{Bool, true, false, not, _&&_, and-comm}
+use mathlib.Core.Path.{_≡_, refl, sym, _∙_, ap, ap₂, fun-ext}
+use mathlib.Core.Bool.{Bool, true, false, not, cond, _&&_, and-comm}
 use mathlib.Core.List.{List, [], _∷_, _++_, map}
 use native.Mathlib.Decide.{decLt}
 use native.Mathlib.Omega.{arith}
-use borrow.Author.Tests.{eqb-true, eqb-false, eq-eqb, ne-eqb, ltb-true}
+use borrow.Author.Tests.{eqb-true, eqb-false, eq-eqb, ne-eqb, ltb-true, lt-ltb}
 use lib.Dec.{eqb, ltb}
 use lib.Pow.{pow-pos}
 use lib.ListN.{length, getD, take, replicate, length-append, length-take, length-replicate, length-map, List·getD-map, List·getD-eq-default}
@@ -16,7 +16,7 @@ use Rattle.session.specs.Lists.{every, select, risingFrom}
 use Rattle.session.specs.Record.{Record, recordsOf, byteOf, kindOf, numberOf, objectOf, maskOf, levelByte, nameOf, fieldIn, stepOf, parameterOf}
 use Rattle.session.specs.Parts.{ofKind, objectRecords, stepRecords, levelCount, objectCount, masksOf, key, keyOf, methodRecords, rootRecord}
 use Rattle.session.specs.Questions.{stepValid, scriptValid, methodsValid, scriptsValid}
-use Rattle.session.specs.Meaning.{levelOf, fieldOf, methodOf, rootOf}
+use Rattle.session.specs.Meaning.{ownerOf, levelOf, fieldOf, methodOf, rootOf}
 use Rattle.session.specs.Emptied.{hides, stays, blanked, emptied}
 use Rattle.session.specs.declared.Value.the-variants.{Nil}
 use Rattle.session.proofs.Laws.Lists.{holds, fails, truth, every-each, every-select, select-all, select-none, select-passes}
@@ -112,6 +112,11 @@ module _ (s : List ℕ) where
           eq-eqb (numberOf rec) o
           (key-object (numberOf rec) (nameOf rec) o m (omega arith) h
           (eqb-true (keyOf rec) (key o m) (and-left (eqb (keyOf rec) (key o m)) (scriptValid (objectCount s) (stepRecords s) rec) e)))
+
+-- the level of an object of the session is in its record
+pub own-level : (s : List ℕ) (o : ℕ) → o < objectCount s → levelOf s o ≡ levelByte (getD (objectRecords s) o [])
+unfolding levelOf
+own-level s o h = rw (lt-ltb o (objectCount s) h) refl
 
 module _ (s : List ℕ) (c : ℕ) where
   -- an object's record that is to be blanked
@@ -229,7 +234,15 @@ module _ (s : List ℕ) (c : ℕ) where
   emptied-object o = ap (λ l. getD l o []) emptied-objects ∙ List·getD-map (blanked s c) (objectRecords s) o []
 
   pub emptied-level : (o : ℕ) → levelOf (emptied c s) o ≡ levelOf s o
-  emptied-level o = ap levelByte (emptied-object o) ∙ blanked-byte 2 (omega arith) (getD (objectRecords s) o [])
+  unfolding levelOf
+  emptied-level o =
+      ap₂ (λ n l. cond (ltb o n) (levelByte (getD (objectRecords (emptied c s)) o [])) (ownerOf l o)) emptied-count emptied-level-count
+      ∙ ap (λ b. cond (ltb o (objectCount s)) b (ownerOf (levelCount s) o)) (ap levelByte (emptied-object o) ∙ blanked-byte 2 (omega arith) (getD (objectRecords s) o []))
+
+  -- the others have no fields
+  no-field : (o k : ℕ) → objectCount s ≤ o → fieldOf (emptied c s) o k ≡ Nil
+  no-field o k g =
+      nil-field (getD (objectRecords (emptied c s)) o []) k (ap (λ rec. byteOf rec 3) (List·getD-eq-default (objectRecords (emptied c s)) [] (omega (arith, emptied-count, g))))
 
   pub emptied-root : rootRecord (emptied c s) ≡ rootRecord s
   emptied-root = ap (λ l. getD l 0 []) emptied-roots
@@ -239,18 +252,23 @@ module _ (s : List ℕ) (c : ℕ) where
 
   -- the fields of an object that the level dominates, and of one that it does not
   pub emptied-field : (o k : ℕ) → dominates (masksOf s) c (levelOf s o) ≡ true → fieldOf (emptied c s) o k ≡ fieldOf s o k
-  emptied-field o k e =
-      ap (λ rec. fieldIn rec k)
-      (emptied-object o ∙ blanked-not (getD (objectRecords s) o []) (and-fails-right (eqb (kindOf (getD (objectRecords s) o [])) 2) _ (ap not e)))
+  emptied-field o k e = elim (decLt o (objectCount s)) [
+    | yes l ↦
+        ap (λ rec. fieldIn rec k)
+        (emptied-object o ∙ blanked-not (getD (objectRecords s) o []) (and-fails-right (eqb (kindOf (getD (objectRecords s) o [])) 2) _ (ap not (rw (own-level s o l) at e))))
+    | no g ↦
+        no-field o k (omega (arith, g))
+        ∙ sym (nil-field (getD (objectRecords s) o []) k (ap (λ rec. byteOf rec 3) (List·getD-eq-default (objectRecords s) [] (omega (arith, g)))))
+  ]
 
   pub emptied-field-hidden : (o k : ℕ) → dominates (masksOf s) c (levelOf s o) ≡ false → fieldOf (emptied c s) o k ≡ Nil
-  emptied-field-hidden o k e = nil-field (getD (objectRecords (emptied c s)) o []) k (elim (decLt o (objectCount s)) [
-    | yes l ↦
+  emptied-field-hidden o k e = elim (decLt o (objectCount s)) [
+    | yes l ↦ nil-field (getD (objectRecords (emptied c s)) o []) k (
         ap (λ rec. byteOf rec 3) (emptied-object o)
         ∙ blanked-zero (getD (objectRecords s) o [])
-        (and-both _ _ (every-each (λ rec. eqb (kindOf rec) 2) [] (objectRecords s) (kinds s 2) o l) (ap not e)) 3 (omega arith)
-    | no g ↦ ap (λ rec. byteOf rec 3) (List·getD-eq-default (objectRecords (emptied c s)) [] (omega (arith, emptied-count)))
-  ])
+        (and-both _ _ (every-each (λ rec. eqb (kindOf rec) 2) [] (objectRecords s) (kinds s 2) o l) (ap not (rw (own-level s o l) at e))) 3 (omega arith))
+    | no g ↦ no-field o k (omega (arith, g))
+  ]
 
   -- the steps of a method of the emptied session are those of them that stay
   pub emptied-method-stays : (k : ℕ) → methodRecords (emptied c s) k ≡ select (stays s c) (methodRecords s k)

@@ -31,10 +31,10 @@ use Rattle.managers.specs.declared.Manager as code
 use Rattle.model.specs.Limits.{maxSchedule}
 use Rattle.model.specs.Step.{State, stepAt}
 use Rattle.model.specs.Schedule.{initialState, finished, question14, stepRefusal, runFrom, runOf}
-use Rattle.model.proofs.Laws.Order.Accepted.{sound}
-use Rattle.model.proofs.Laws.Order.PlainRun.{read-in-total}
-use Rattle.model.proofs.Laws.Invariant.Bounded.{total, step-less}
-use Rattle.model.proofs.Laws.Code.Progress.{allowed, run-made, run-stops, run-ends, run-unended}
+use Rattle.theorems.proofs.Laws.Order.Accepted.{sound}
+use Rattle.theorems.proofs.Laws.Order.PlainRun.{read-in-total}
+use Rattle.theorems.proofs.Laws.Invariant.Bounded.{total, step-less}
+use Rattle.theorems.proofs.Laws.Code.Progress.{allowed, run-made, run-stops, run-ends, run-unended}
 use Rattle.tallies.specs.Places.{busyPlace, tallyNumbers}
 use Rattle.level_managers.specs.Representation.{Words, RunInvariant, placed}
 use Rattle.tallies.specs.Permits.{numberOfPermit, busyIn, endedOf, permitOf, Askable}

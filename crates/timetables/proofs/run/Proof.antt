@@ -39,7 +39,7 @@ none =
         height = 0;
         ending = Running;
         reply = Nil;
-        top = record { object = 0; name = 0; next = 0; start = 0; count = 0; answer = 0; r0 = Nil; r1 = Nil; r2 = Nil; r3 = Nil };
+        top = record { object = 0; slot = 0; next = 0; start = 0; count = 0; answer = 0; r0 = Nil; r1 = Nil; r2 = Nil; r3 = Nil };
         effect = Nothing;
       };
       waiting = [];

@@ -15,7 +15,7 @@ use Rattle.operations.specs.declared.Effect.the-variants.{Nothing, End, Write, 
 use Rattle.operations.proofs.Effect.{the-type}
 use Rattle.depth_first.specs.Representation.{Words}
 use Rattle.depth_first.proofs.Laws.Perform.{perform-nothing, write-there, perform-writes, fork-some, fork-stamps, fork-runs, perform-forks}
-use Rattle.depth_first.proofs.Laws.Run.{Looped, stepsLeft, level-small, next-there, next-fits, fork-kept, fork-dropped, run-none, last-fits, fork-starts, run-starts, run-preserves, run-able, run-performable, run-again, run-less, run-room, run-ends}
+use Rattle.depth_first.proofs.Laws.Run.{Looped, stepsLeft, object-small, level-small, next-there, next-fits, fork-kept, fork-dropped, run-none, last-fits, fork-starts, run-starts, run-preserves, run-able, run-performable, run-again, run-less, run-room, run-ends}
 use borrow.Author.Needs.{needs}
 use borrow.Fn.Kinds.{In}
 use borrow.Fn.PlainCycle.{Measures, is, falls, and}
@@ -100,7 +100,7 @@ other End h = refl
 other (Write object field value) h = absurd (miss (0 ∷ 1 ∷ 3 ∷ 5 ∷ 6 ∷ []) 2 tt h)
 other (Read object field) h = refl
 other (Fork level object name parameter) h = absurd (miss (0 ∷ 1 ∷ 3 ∷ 5 ∷ 6 ∷ []) 4 tt h)
-other (Call object name answer parameter) h = refl
+other (Call object way parameter) h = refl
 other (Pop reply) h = refl
 
 perform-enum-known-effect : (t : ℕ) → perform-lts.Need-enum-known-effect (perform-claims t) (perform-at t) perform.Post
@@ -214,7 +214,7 @@ run-kept-returns-2 t c =
     fork-dropped (z .pre .1 .1 .1) w (sym (c .before .has-room .ensures) ∙ c .if1 .left)
 
 abbrev run-manager-Inv-loop : run-manager-lts.InvT-loop
-run-manager-Inv-loop session masks index current₀ ended₀ tallies₀ left fork level next m₀ limit ending₀ current ended tallies m ending =
+run-manager-Inv-loop session masks index current₀ ended₀ tallies₀ left fork level next script m₀ limit ending₀ current ended tallies m ending =
     (ending ≡ m .core .ending)
     × Looped session left fork (words current₀ ended₀ tallies₀) (words current ended tallies) m
     × (length current ≡ length current₀)
@@ -222,7 +222,7 @@ run-manager-Inv-loop session masks index current₀ ended₀ tallies₀ left for
     × (length tallies ≡ length tallies₀)
 
 abbrev run-manager-μ-loop : run-manager-lts.MeasureT-loop
-run-manager-μ-loop session masks index current₀ ended₀ tallies₀ left fork level next m₀ limit ending₀ current ended tallies m ending =
+run-manager-μ-loop session masks index current₀ ended₀ tallies₀ left fork level next script m₀ limit ending₀ current ended tallies m ending =
     stepsLeft m
 
 run-manager-cast-level : (t : ℕ) → run-manager-lts.Need-cast-level (run-manager-claims t) (run-manager-at t) run-manager.Post run-manager-Inv-loop run-manager-μ-loop
@@ -246,10 +246,15 @@ run-manager-cast-next t c =
     let z = c .before .before .before .before .before .before .before .before .before in
     record { fits = omega (arith, next-fits (z .pre .1 .0) (z .args .fork .level) (z .pre .1 .1 .1 .0 .placed) (z .pre .1 .1 .0)) }
 
+run-manager-add-script : (t : ℕ) → run-manager-lts.Need-add-script (run-manager-claims t) (run-manager-at t) run-manager.Post run-manager-Inv-loop run-manager-μ-loop
+run-manager-add-script t c =
+    let z = c .before .before .before .before .before .before .before .before .before .before in
+    omega (arith, object-small (z .pre .1 .0) (z .args .fork .message .object) (z .pre .1 .1 .1 .0 .present))
+
 run-manager-start-requires : (t : ℕ) → run-manager-lts.Need-start-requires (run-manager-claims t) (run-manager-at t) run-manager.Post run-manager-Inv-loop run-manager-μ-loop
 run-manager-start-requires t c κs =
-    let z = c .before .before .before .before .before .before .before .before .before in
-    (record { accepted = z .pre .1 .0 .accepted; index-is = z .pre .1 .0 .index-is }, fork-starts (z .pre .1 .0) (z .pre .1 .1 .1 .0) (z .pre .1 .1 .0))
+    let z = c .before .before .before .before .before .before .before .before .before .before in
+    (record { accepted = z .pre .1 .0 .accepted; index-is = z .pre .1 .0 .index-is }, fork-starts (z .pre .1 .0) (z .pre .1 .1 .1 .0) (z .pre .1 .1 .0), omega (arith, z .pre .1 .1 .1 .0 .present))
 
 run-manager-ended-requires : (t : ℕ) → run-manager-lts.Need-ended-requires (run-manager-claims t) (run-manager-at t) run-manager.Post run-manager-Inv-loop run-manager-μ-loop
 run-manager-ended-requires t c κs =
@@ -257,13 +262,13 @@ run-manager-ended-requires t c κs =
 
 run-manager-returns : (t : ℕ) → run-manager-lts.Need-returns (run-manager-claims t) (run-manager-at t) run-manager.Post run-manager-Inv-loop run-manager-μ-loop
 run-manager-returns t c =
-    let z = c .before .before .before .before .before .before .before .before .before .before .before .before .before in
+    let z = c .before .before .before .before .before .before .before .before .before .before .before .before .before .before in
     let w = words (z .args .current .now) (z .args .ended .now) (z .args .tallies .now) in
     run-none (z .args .session .now) (z .args .left) (z .args .fork) w (c .ended .result) (c .before .if1 .taken)
 
 run-manager-loop-holds : (t : ℕ) → run-manager-lts.Need-loop-holds (run-manager-claims t) (run-manager-at t) run-manager.Post run-manager-Inv-loop run-manager-μ-loop
 run-manager-loop-holds t c =
-    let z = c .before .before .before .before .before .before .before .before .before .before .before .before in
+    let z = c .before .before .before .before .before .before .before .before .before .before .before .before .before in
     let w = words (z .args .current .now) (z .args .ended .now) (z .args .tallies .now) in
     (refl, run-starts (z .pre .1 .0) (z .pre .1 .1 .1 .0) (c .if1 .left) w (c .before .before .start .result) (z .pre .1 .1 .0) (c .before .before .start .ensures), refl, refl, refl)
 
@@ -272,7 +277,7 @@ run-manager-is-running-requires t c κs = search needs
 
 run-manager-advance-requires : (t : ℕ) → run-manager-lts.Need-advance-requires (run-manager-claims t) (run-manager-at t) run-manager.Post run-manager-Inv-loop run-manager-μ-loop
 run-manager-advance-requires t c κs =
-    let z = c .before .before .before .before .before .before .before .before .before .before .before .before .before .before .before .before in
+    let z = c .before .before .before .before .before .before .before .before .before .before .before .before .before .before .before .before .before in
     let l = c .before .before .before .loop in
     run-able (z .pre .1 .0) (z .pre .1 .1 .1 .0) (c .before .before .before .before .if1 .left) (l .inv .1) (z .pre .1 .1 .0) (ap isRunning (sym (l .inv .0)) ∙ sym (c .before .before .is-running .ensures) ∙ c .before .if2 .taken)
 
@@ -282,19 +287,19 @@ run-manager-sub-perform t c =
 
 run-manager-perform-requires : (t : ℕ) → run-manager-lts.Need-perform-requires (run-manager-claims t) (run-manager-at t) run-manager.Post run-manager-Inv-loop run-manager-μ-loop
 run-manager-perform-requires t c κs =
-    let z = c .before .before .before .before .before .before .before .before .before .before .before .before .before .before .before .before .before .before .before .before .before in
+    let z = c .before .before .before .before .before .before .before .before .before .before .before .before .before .before .before .before .before .before .before .before .before .before in
     let l = c .before .before .before .before .before .before .before .before .loop in
     (omega (arith, z .pre .0, c .before .before .before .before .before .before .before .before .before .if1 .left), (z .pre .1 .0, (run-preserves (z .pre .1 .0) (z .pre .1 .1 .1 .0) (c .before .before .before .before .before .before .before .before .before .if1 .left) (l .inv .1) (z .pre .1 .1 .0), run-performable (z .pre .1 .0) (z .pre .1 .1 .1 .0) (c .before .before .before .before .before .before .before .before .before .if1 .left) (l .inv .1) (z .pre .1 .1 .0) (c .before .before .before .before .advance .ensures))))
 
 run-manager-loop-less : (t : ℕ) → run-manager-lts.Need-loop-less (run-manager-claims t) (run-manager-at t) run-manager.Post run-manager-Inv-loop run-manager-μ-loop
 run-manager-loop-less t c =
-    let z = c .before .before .before .before .before .before .before .before .before .before .before .before .before .before .before .before .before .before .before .before .before .before .before .before .before .before .before .before in
+    let z = c .before .before .before .before .before .before .before .before .before .before .before .before .before .before .before .before .before .before .before .before .before .before .before .before .before .before .before .before .before in
     let l = c .before .before .before .before .before .before .before .before .before .before .before .before .before .before .before .loop in
     run-less (z .pre .1 .0) (z .pre .1 .1 .1 .0) (c .before .before .before .before .before .before .before .before .before .before .before .before .before .before .before .before .if1 .left) (l .inv .1) (z .pre .1 .1 .0) (c .before .before .before .before .before .before .before .before .before .before .before .advance .ensures) (ap isRunning (sym (l .inv .0)) ∙ sym (c .before .before .before .before .before .before .before .before .before .before .before .before .before .before .is-running .ensures) ∙ c .before .before .before .before .before .before .before .before .before .before .before .before .before .if2 .taken)
 
 run-manager-loop-again : (t : ℕ) → run-manager-lts.Need-loop-again (run-manager-claims t) (run-manager-at t) run-manager.Post run-manager-Inv-loop run-manager-μ-loop
 run-manager-loop-again t c =
-    let z = c .before .before .before .before .before .before .before .before .before .before .before .before .before .before .before .before .before .before .before .before .before .before .before .before .before .before .before .before in
+    let z = c .before .before .before .before .before .before .before .before .before .before .before .before .before .before .before .before .before .before .before .before .before .before .before .before .before .before .before .before .before in
     let l = c .before .before .before .before .before .before .before .before .before .before .before .before .before .before .before .loop in
     let r = c .before .before .before .before .before .before .perform in
     let w' = words (r .last .1 .1 .1 .0) (r .last .1 .1 .1 .1 .0) (r .last .1 .1 .1 .1 .1 .0) in
@@ -306,7 +311,7 @@ run-manager-ended-requires-2 t c κs =
 
 run-manager-close-requires : (t : ℕ) → run-manager-lts.Need-close-requires (run-manager-claims t) (run-manager-at t) run-manager.Post run-manager-Inv-loop run-manager-μ-loop
 run-manager-close-requires t c κs =
-    let z = c .before .before .before .before .before .before .before .before .before .before .before .before .before .before .before .before .before .before .before in
+    let z = c .before .before .before .before .before .before .before .before .before .before .before .before .before .before .before .before .before .before .before .before in
     let l = c .before .before .before .before .before .before .loop in
     run-room (z .pre .1 .0) (z .pre .1 .1 .1 .0) (c .before .before .before .before .before .before .before .if1 .left) (l .inv .1) (z .pre .1 .1 .0) (z .pre .1 .1 .1 .1) (ap isRunning (sym (l .inv .0)) ∙ sym (c .before .before .before .before .before .is-running .ensures) ∙ c .before .before .before .before .if2 .left) (c .before .before .ended3 .ensures)
 
@@ -324,7 +329,7 @@ run-manager-same-length-3 t c =
 
 run-manager-returns-2 : (t : ℕ) → run-manager-lts.Need-returns-2 (run-manager-claims t) (run-manager-at t) run-manager.Post run-manager-Inv-loop run-manager-μ-loop
 run-manager-returns-2 t c =
-    let z = c .before .before .before .before .before .before .before .before .before .before .before .before .before .before .before .before .before .before .before .before .before .before .before .before in
+    let z = c .before .before .before .before .before .before .before .before .before .before .before .before .before .before .before .before .before .before .before .before .before .before .before .before .before in
     let l = c .before .before .before .before .before .before .before .before .before .before .before .loop in
     run-ends (z .pre .1 .0) (z .pre .1 .1 .1 .0) (c .before .before .before .before .before .before .before .before .before .before .before .before .if1 .left) (l .inv .1) (z .pre .1 .1 .0) (z .pre .1 .1 .1 .1) (ap isRunning (sym (l .inv .0)) ∙ sym (c .before .before .before .before .before .before .before .before .before .before .is-running .ensures) ∙ c .before .before .before .before .before .before .before .before .before .if2 .left) (c .before .before .before .before .before .before .before .ended3 .ensures) (c .before .before .before .before .close .last .0) (c .before .before .before .before .close .last .1 .0) (c .before .before .before .before .close .ensures)
 
@@ -364,6 +369,7 @@ pub +perform+run-kept+run-manager-spec : {M : Type 1} → statement M
     (run-manager-mul-next t)
     (run-manager-slice-read-next t)
     (run-manager-cast-next t)
+    (run-manager-add-script t)
     (run-manager-start-requires t)
     (run-manager-ended-requires t)
     (run-manager-returns t)

@@ -5,8 +5,8 @@ use borrow.Author.Needs.{needs}
 use Rattle.frames.proofs.Frame.new.Statement.{statement}
 use Rattle.frames.proofs.Frame.new.Tie as tie
 
-method-of-requires : tie.Need-method-of-requires
-method-of-requires c κs = search needs
+method-in-requires : tie.Need-method-in-requires
+method-in-requires c κs = search needs
 
 nil-requires : tie.Need-nil-requires
 nil-requires c κs = search needs
@@ -21,9 +21,9 @@ returns : tie.Need-returns
 returns c =
     let at = c .before .before .before in (
       rw (c .nil3 .ensures, c .before .nil2 .ensures, c .before .before .nil .ensures) refl,
-      record { method = search needs; at = at .method-of .ensures; near = omega arith },
+      record { called = search needs; at = at .method-in .ensures; near = omega arith },
     )
 
 pub new-spec : {M : Type 1} → statement M
 new-spec =
-    tie.close (tie.spec method-of-requires nil-requires nil-requires-2 nil-requires-3 returns)
+    tie.close (tie.spec method-in-requires nil-requires nil-requires-2 nil-requires-3 returns)

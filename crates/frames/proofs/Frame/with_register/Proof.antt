@@ -17,19 +17,19 @@ last f (suc (suc (suc k))) v h = refl
 
 returns : tie.Need-returns
 unfolding withRegister
-returns c = rw (c .match .keys1) (record { frame = refl; same = record { object = refl; name = refl; start = refl; count = refl; answer = refl } })
+returns c = rw (c .match .keys1) (record { frame = refl; same = record { object = refl; slot = refl; start = refl; count = refl; answer = refl } })
 
 returns-2 : tie.Need-returns-2
 unfolding withRegister
-returns-2 c = rw (c .match .keys2) (record { frame = refl; same = record { object = refl; name = refl; start = refl; count = refl; answer = refl } })
+returns-2 c = rw (c .match .keys2) (record { frame = refl; same = record { object = refl; slot = refl; start = refl; count = refl; answer = refl } })
 
 returns-3 : tie.Need-returns-3
 unfolding withRegister
-returns-3 c = rw (c .match .keys3) (record { frame = refl; same = record { object = refl; name = refl; start = refl; count = refl; answer = refl } })
+returns-3 c = rw (c .match .keys3) (record { frame = refl; same = record { object = refl; slot = refl; start = refl; count = refl; answer = refl } })
 
 returns-4 : tie.Need-returns-4
 unfolding withRegister
-returns-4 c = record { frame = sym (last _ _ _ (c .match .rest)); same = record { object = refl; name = refl; start = refl; count = refl; answer = refl } }
+returns-4 c = record { frame = sym (last _ _ _ (c .match .rest)); same = record { object = refl; slot = refl; start = refl; count = refl; answer = refl } }
 
 pub with-register-spec : {M : Type 1} → statement M
 with-register-spec = tie.close (tie.spec returns returns-2 returns-3 returns-4)

@@ -28,7 +28,7 @@ other act.End h = refl
 other (act.Write object field value) h = absurd (miss (0 ∷ 1 ∷ 3 ∷ 5 ∷ 6 ∷ []) 2 tt h)
 other (act.Read object field) h = refl
 other (act.Fork level object name parameter) h = absurd (miss (0 ∷ 1 ∷ 3 ∷ 5 ∷ 6 ∷ []) 4 tt h)
-other (act.Call object name answer parameter) h = refl
+other (act.Call object way parameter) h = refl
 other (act.Pop reply) h = refl
 
 enum-known-effect : tie.Need-enum-known-effect

@@ -3,8 +3,9 @@ use mathlib.Core.Path.{_∙_}
 use native.Mathlib.Omega.{arith}
 use lib.ListN.{length-set}
 use borrow.Author.Needs.{needs}
+use Rattle.session.proofs.Laws.Contents.{object-limit}
 use Rattle.managers.specs.Manager.{managerOf}
-use Rattle.level_managers.proofs.Laws.Made.{start-asks, begun-settles, begun, settled-of, held-fits}
+use Rattle.level_managers.proofs.Laws.Made.{start-asks, own-script, begun-settles, begun, settled-of, held-fits}
 use Rattle.level_managers.proofs.steps.start.Statement.{statement}
 use Rattle.level_managers.proofs.steps.start.Tie as tie
 
@@ -32,10 +33,16 @@ cast-next c = search needs
 cast-start : tie.Need-cast-start
 cast-start c = search needs
 
+add-script : tie.Need-add-script
+add-script c =
+    let z = c .before .before .before .before .before .before .before .before .before in
+    let asks = start-asks (z .args .session .now) (z .args .index .now) (z .args .ended .now) (z .args .tallies .now) (z .args .queue .now) (z .args .level) (c .before .before .message-at .result) (z .pre) (c .before .before .message-at .ensures) in
+    omega (arith, asks .2, object-limit (z .args .session .now) (z .pre .indexed .accepted))
+
 start-requires : tie.Need-start-requires
 start-requires c κs =
-    let z = c .before .before .before .before .before .before .before .before in
-    start-asks (z .args .session .now) (z .args .index .now) (z .args .ended .now) (z .args .tallies .now) (z .args .queue .now) (z .args .level) (c .before .message-at .result) (z .pre) (c .before .message-at .ensures)
+    let z = c .before .before .before .before .before .before .before .before .before in
+    start-asks (z .args .session .now) (z .args .index .now) (z .args .ended .now) (z .args .tallies .now) (z .args .queue .now) (z .args .level) (c .before .before .message-at .result) (z .pre) (c .before .before .message-at .ensures)
 
 add-tallies : tie.Need-add-tallies
 add-tallies c = search needs
@@ -69,7 +76,7 @@ slice-write-tallies-2 c = simp length-set (omega arith)
 
 settle-requires : tie.Need-settle-requires
 settle-requires c κs =
-    let at = c .before .before .before .before .before .before in
+    let at = c .before .before .before .before .before .before .before in
     let z = at .before .before .before .before .before .before .before in
     (begun-settles (z .args .session .now) (z .args .index .now) (z .args .ended .now) (z .args .tallies .now) (z .args .queue .now) (z .args .level) (at .message-at .result) (z .pre) (at .message-at .ensures), held-fits (c .before .before .before .before .start .ensures .1))
 
@@ -83,9 +90,9 @@ returns : tie.Need-returns
 returns c =
     let called = c .before .before .before .before .settle in
     let made = c .before .before .before .before .before .before .before .before .before .start in
-    let at = c .before .before .before .before .before .before .before .before .before .before .before in
+    let at = c .before .before .before .before .before .before .before .before .before .before .before .before in
     let z = at .before .before .before .before .before .before .before in (
-      begun (z .args .session .now) (z .args .index .now) (z .args .ended .now) (z .args .tallies .now) (z .args .queue .now) (z .args .level) (at .message-at .result) (z .pre) (at .message-at .ensures) (called .last .0) (called .last .1 .0) (managerOf (made .result)) (made .ensures .0) (settled-of (made .result) (called .ensures)),
+      begun (z .args .session .now) (z .args .index .now) (z .args .ended .now) (z .args .tallies .now) (z .args .queue .now) (z .args .level) (at .message-at .result) (z .pre) (at .message-at .ensures) (called .last .0) (called .last .1 .0) (managerOf (made .result)) (λ read there. made .ensures .0 read (own-script (z .args .session .now) (z .args .index .now) (z .args .ended .now) (z .args .tallies .now) (z .args .queue .now) (z .args .level) (at .message-at .result) (z .pre) (at .message-at .ensures) read there)) (settled-of (made .result) (called .ensures)),
       made .ensures .1,
     )
 
@@ -100,6 +107,7 @@ start-spec =
     mul-next
     slice-read-next
     cast-next
+    add-script
     cast-start
     start-requires
     add-tallies

@@ -109,8 +109,8 @@ sub-at : tie.Need-sub-at Inv-loop μ-loop Inv-loop2 μ-loop2
 sub-at c = made (c .before .before .before .before .before) .sits .some (ap isOver (c .before .before .before .effect .given .1))
 
 -- there is room for the frame that a call makes, and a frame below the one that pops
-room-above : (x : tie.After-operate Inv-loop μ-loop Inv-loop2 μ-loop2) (o n i : ℕ) (v : Value) → x .operate .result .effect ≡ Call o n i v → x .operate .result .height < maxFrames
-room-above x o n i v e = subst (λ z. Tall z (x .operate .result .height)) e (made x .sits .tall)
+room-above : (x : tie.After-operate Inv-loop μ-loop Inv-loop2 μ-loop2) (o w : ℕ) (v : Value) → x .operate .result .effect ≡ Call o w v → x .operate .result .height < maxFrames
+room-above x o w v e = subst (λ z. Tall z (x .operate .result .height)) e (made x .sits .tall)
 
 frames-below : (x : tie.After-operate Inv-loop μ-loop Inv-loop2 μ-loop2) (v : Value) → x .operate .result .effect ≡ Pop v → 1 < x .operate .result .height
 frames-below x v e = subst (λ z. Tall z (x .operate .result .height)) e (made x .sits .tall)
@@ -129,7 +129,7 @@ mul-waiting c = search needs
 array-set-from-waiting : tie.Need-array-set-from-waiting Inv-loop μ-loop Inv-loop2 μ-loop2
 array-set-from-waiting c =
     let x = c .before .before .before .before in
-    let room = room-above (x .before .before) _ _ _ _ (x .effect .given .1) in
+    let room = room-above (x .before .before) _ _ _ (x .effect .given .1) in
     let some = made (x .before .before) .sits .some (ap isOver (x .effect .given .1)) in
     omega (arith, room, some)
 
@@ -137,21 +137,21 @@ array-set-from-waiting c =
 pushed-requires : tie.Need-pushed-requires Inv-loop μ-loop Inv-loop2 μ-loop2
 pushed-requires c κs =
     let x = c .before .before .before .before in
-    (made (x .before .before) .able .indexed, subst (Present (start (x .before .before .before .before .before .before .before .before) .args .session .now)) (x .effect .given .1) (made (x .before .before) .present), room-above (x .before .before) _ _ _ _ (x .effect .given .1))
+    (made (x .before .before) .able .indexed, subst (Present (start (x .before .before .before .before .before .before .before .before) .args .session .now)) (x .effect .given .1) (made (x .before .before) .present), room-above (x .before .before) _ _ _ (x .effect .given .1))
 
 -- src/lib.rt:189:9
 loop-less : tie.Need-loop-less Inv-loop μ-loop Inv-loop2 μ-loop2
 loop-less c =
     let x = c .before .before .before .before .before in
     let at = x .before .before .before .before .before .before in
-    pushed-less _ _ _ _ _ _ _ _ _ _ _ (at .before .before .loop .inv .0) (go at .0) (go at .1) _ (operated (x .before .before)) _ _ _ _ (x .effect .given .1) _ (c .before .set-aside .ensures) _ (c .pushed .ensures)
+    pushed-less _ _ _ _ _ _ _ _ _ _ _ (at .before .before .loop .inv .0) (go at .0) (go at .1) _ (operated (x .before .before)) _ _ _ (x .effect .given .1) _ (c .before .set-aside .ensures) _ (c .pushed .ensures)
 
 -- src/lib.rt:189:9
 loop-again : tie.Need-loop-again Inv-loop μ-loop Inv-loop2 μ-loop2
 loop-again c =
     let x = c .before .before .before .before .before in
     let at = x .before .before .before .before .before .before in
-    (turning-pushed _ _ _ _ _ _ _ _ _ _ _ (at .before .before .loop .inv .0) (go at .0) (go at .1) _ (operated (x .before .before)) _ _ _ _ (x .effect .given .1) _ (c .before .set-aside .ensures) _ (c .pushed .ensures), ap (λ z. isDone (z .effect)) (c .pushed .ensures .core-is))
+    (turning-pushed _ _ _ _ _ _ _ _ _ _ _ (at .before .before .loop .inv .0) (go at .0) (go at .1) _ (operated (x .before .before)) _ _ _ (x .effect .given .1) _ (c .before .set-aside .ensures) _ (c .pushed .ensures), ap (λ z. isDone (z .effect)) (c .pushed .ensures .core-is))
 
 -- src/lib.rt:206:39
 enum-known-effect-2 : tie.Need-enum-known-effect-2 Inv-loop μ-loop Inv-loop2 μ-loop2
@@ -204,7 +204,7 @@ other End h k = refl
 other (Write object field value) h k = refl
 other (Read object field) h k = refl
 other (Fork level object name parameter) h k = refl
-other (Call object name answer parameter) h k = absurd (miss (0 ∷ 1 ∷ 2 ∷ 3 ∷ 4 ∷ 6 ∷ []) 5 tt h)
+other (Call object way parameter) h k = absurd (miss (0 ∷ 1 ∷ 2 ∷ 3 ∷ 4 ∷ 6 ∷ []) 5 tt h)
 other (Pop reply) h k = absurd (miss (0 ∷ 1 ∷ 2 ∷ 3 ∷ 4 ∷ 5 ∷ []) 6 tt k)
 
 loop-less-3 : tie.Need-loop-less-3 Inv-loop μ-loop Inv-loop2 μ-loop2

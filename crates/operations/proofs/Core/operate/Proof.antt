@@ -118,7 +118,7 @@ returns-2 c =
     let e = sym (s .pre .1) ∙ g .1 in
     let i = op.Set (g .0 .0) (g .0 .1 .0) in
     operated-made (s .args .session .now) (s .args .current .now) (s .args .cache .now) (s .args .all) (s .args .self) (c .put .result) i
-    (operation-moved (s .args .session .now) i (s .args .self) (c .put .result) _ (able-next (s .args .session .now) (s .args .masks .now) (s .args .current .now) (s .args .cache .now) (s .args .self) o (op.Set (g .0 .0) (g .0 .1 .0)) e refl) (o .sits) (c .put .ensures) (λ read gs. refl))
+    (operation-moved (s .args .session .now) i (s .args .self) (c .put .result) _ (able-next (s .args .session .now) (s .args .masks .now) (s .args .current .now) (s .args .cache .now) (s .args .self) o (op.Set (g .0 .0) (g .0 .1 .0)) e refl) (o .sits) (c .put .ensures) (λ read there gs. refl))
     e refl
 
 returns-3 : tie.Need-returns-3
@@ -132,7 +132,7 @@ returns-3 c =
     let m = s .args .self in
     operated-made (s .args .session .now) (s .args .current .now) (s .args .cache .now) (s .args .all) (s .args .self) (c .put2 .result) i
     (operation-moved (s .args .session .now) i m (c .put2 .result) (withRegister (pastOf m) (g .0 .0) (c .before .sum .result)) (able-next (s .args .session .now) (s .args .masks .now) (s .args .current .now) (s .args .cache .now) (s .args .self) o (op.Add (g .0 .0) (g .0 .1 .0)) e refl) (o .sits) (c .put2 .ensures)
-    (λ read gs. ap (λ v. record { manager = withTop (standing m gs) (withRegister (pastOf m) (g .0 .0) v); effect = effect.Nothing }) (c .before .sum .ensures ∙ rw (c .before .before .before .register .ensures, c .before .before .register2 .ensures))))
+    (λ read there gs. ap (λ v. record { manager = withTop (standing m gs) (withRegister (pastOf m) (g .0 .0) v); effect = effect.Nothing }) (c .before .sum .ensures ∙ rw (c .before .before .before .register .ensures, c .before .before .register2 .ensures))))
     e refl
 
 returns-4 : tie.Need-returns-4
@@ -144,7 +144,7 @@ returns-4 c =
     let e = sym (s .pre .1) ∙ g .1 in
     let i = op.Jump (g .0 .0) (g .0 .1 .0) in
     operated-made (s .args .session .now) (s .args .current .now) (s .args .cache .now) (s .args .all) (s .args .self) (c .jump .result) i
-    (operation-moved (s .args .session .now) i (s .args .self) (c .jump .result) _ (able-next (s .args .session .now) (s .args .masks .now) (s .args .current .now) (s .args .cache .now) (s .args .self) o (op.Jump (g .0 .0) (g .0 .1 .0)) e refl) (o .sits) (c .jump .ensures) (λ read gs. refl))
+    (operation-moved (s .args .session .now) i (s .args .self) (c .jump .result) _ (able-next (s .args .session .now) (s .args .masks .now) (s .args .current .now) (s .args .cache .now) (s .args .self) o (op.Jump (g .0 .0) (g .0 .1 .0)) e refl) (o .sits) (c .jump .ensures) (λ read there gs. refl))
     e refl
 
 returns-5 : tie.Need-returns-5
@@ -180,7 +180,7 @@ returns-8 c =
     let e = sym (s .pre .1) ∙ g .1 in
     let i = op.Quit (g .0 .0) in
     operated-made (s .args .session .now) (s .args .current .now) (s .args .cache .now) (s .args .all) (s .args .self) (c .quit .result) i
-    (operation-made (s .args .session .now) i (λ _. Unit) (s .args .self) (c .quit .result) _ (c .quit .ensures) (o .sits) tt (λ read gs. refl))
+    (operation-made (s .args .session .now) i (λ _. Unit) (s .args .self) (c .quit .result) _ (c .quit .ensures) (o .sits) tt (λ read there gs. refl))
     e refl
 
 pub operate-spec : {M : Type 1} → statement M

@@ -22,7 +22,7 @@ get-requires c κs =
     let o = s .pre .1 in
     record {
       room = o .fields-there;
-      object = omega (arith, o .sits .top .method .0, object-limit (s .args .session .now) (o .leveled .accepted));
+      object = omega (arith, o .sits .top .called .0, object-limit (s .args .session .now) (o .leveled .accepted));
       field = s .pre .2;
     }
 
@@ -43,7 +43,7 @@ is-known-requires c κs =
     let o = s .pre .1 in
     record {
       room = o .cache-there;
-      object = omega (arith, o .sits .top .method .0, object-limit (s .args .session .now) (o .leveled .accepted));
+      object = omega (arith, o .sits .top .called .0, object-limit (s .args .session .now) (o .leveled .accepted));
       field = s .pre .2;
     }
 
@@ -53,7 +53,7 @@ get-requires-2 c κs =
     let o = s .pre .1 in
     record {
       room = o .cache-there;
-      object = omega (arith, o .sits .top .method .0, object-limit (s .args .session .now) (o .leveled .accepted));
+      object = omega (arith, o .sits .top .called .0, object-limit (s .args .session .now) (o .leveled .accepted));
       field = s .pre .2;
     }
 
@@ -73,7 +73,7 @@ returns-2 c =
 cast-t21 : tie.Need-cast-t21
 cast-t21 c =
     let s = c .before .before .before .before .before .before .before .before .before .before .before in
-    omega (arith, s .pre .1 .sits .top .method .0, object-limit (s .args .session .now) (s .pre .1 .leveled .accepted))
+    omega (arith, s .pre .1 .sits .top .called .0, object-limit (s .args .session .now) (s .pre .1 .leveled .accepted))
 
 causing-requires : tie.Need-causing-requires
 causing-requires c κs = search needs

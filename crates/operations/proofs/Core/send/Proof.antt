@@ -1,13 +1,17 @@
 -- `operations::Core::send` meets its contract. Assumes nothing.
-use mathlib.Core.Path.{refl, sym, _∙_}
+use mathlib.Core.Path.{refl, sym, _∙_, ap}
+use mathlib.Core.Bool.{true, false}
 use native.Mathlib.Omega.{arith}
 use borrow.Author.Needs.{needs}
 use Rattle.session.proofs.Laws.Verdict.{accepted}
+use Rattle.session.proofs.Laws.Contents.{object-limit}
 use Rattle.session.proofs.Laws.Numbering.{few-levels}
 use Rattle.filter.specs.declared.Fate.the-variants as fate
-use Rattle.scripts.specs.Manager.{sent}
+use Rattle.scripts.specs.Manager.{called, sent}
 use Rattle.scripts.proofs.Laws.Send.{lent-ordered, fork-present}
-use Rattle.operations.proofs.Laws.Operations.{send-made, send-blocked}
+use Rattle.operations.specs.Core.{standing}
+use Rattle.operations.specs.Moves.{pastOf}
+use Rattle.operations.proofs.Laws.Operations.{send-made, send-blocked, own-frame}
 use Rattle.operations.proofs.Core.send.Statement.{statement}
 use Rattle.operations.proofs.Core.send.Tie as tie
 
@@ -28,11 +32,21 @@ fate-of-requires c κs =
 enum-told : tie.Need-enum-told
 enum-told c = search needs
 
+add-call : tie.Need-add-call
+add-call c =
+    let s = c .before .before .before .before .before .before .before .before .before in
+    omega (arith, s .pre .4 .0, object-limit (s .args .session .now) (s .pre .1 .accepted))
+
 call-requires : tie.Need-call-requires
 call-requires c κs = search needs
 
 enum-told-2 : tie.Need-enum-told-2
 enum-told-2 c = search needs
+
+add-call-2 : tie.Need-add-call-2
+add-call-2 c =
+    let s = c .before .before .before .before .before .before .before .before .before in
+    omega (arith, s .pre .4 .0, object-limit (s .args .session .now) (s .pre .1 .accepted))
 
 call-requires-2 : tie.Need-call-requires-2
 call-requires-2 c κs = search needs
@@ -66,7 +80,8 @@ returns c =
     let s = c .before .before .before .before .before .before .before .before .before .before in
     send-made (s .args .session .now) (s .args .masks .now) (s .pre .1) (s .args .self) (c .call .result) (s .args .a) (s .args .b) (s .args .c) (c .before .before .before .before .before .before .level-of .result) (c .before .before .before .before .before .level-of2 .result)
     (s .pre .2) (c .before .before .before .before .before .before .level-of .ensures) (c .before .before .before .before .before .level-of2 .ensures) fate.Call _ _
-    (sym (c .before .before .before .fate-of .ensures) ∙ c .before .enum-told .given .1) (c .call .ensures) (s .pre .4) (λ gs. refl)
+    (sym (c .before .before .before .fate-of .ensures) ∙ c .before .enum-told .given .1) (c .call .ensures) (s .pre .4 .0, omega (arith, s .pre .4 .0))
+    (λ read there gs. ap (λ f. called (standing (s .args .self) gs) (pastOf (s .args .self)) (s .args .a) f) (own-frame (s .args .session .now) read (s .args .c) (s .args .b) (s .args .a) true _ there (s .pre .4 .0)))
 
 returns-2 : tie.Need-returns-2
 unfolding sent
@@ -74,7 +89,8 @@ returns-2 c =
     let s = c .before .before .before .before .before .before .before .before .before .before in
     send-made (s .args .session .now) (s .args .masks .now) (s .pre .1) (s .args .self) (c .call2 .result) (s .args .a) (s .args .b) (s .args .c) (c .before .before .before .before .before .before .level-of .result) (c .before .before .before .before .before .level-of2 .result)
     (s .pre .2) (c .before .before .before .before .before .before .level-of .ensures) (c .before .before .before .before .before .level-of2 .ensures) fate.Discard _ _
-    (sym (c .before .before .before .fate-of .ensures) ∙ c .before .enum-told2 .given .1) (c .call2 .ensures) (s .pre .4) (λ gs. refl)
+    (sym (c .before .before .before .fate-of .ensures) ∙ c .before .enum-told2 .given .1) (c .call2 .ensures) (s .pre .4 .0, omega (arith, s .pre .4 .0))
+    (λ read there gs. ap (λ f. called (standing (s .args .self) gs) (pastOf (s .args .self)) (s .args .a) f) (own-frame (s .args .session .now) read (s .args .c) (s .args .b) (s .args .a) false _ there (s .pre .4 .0)))
 
 returns-3 : tie.Need-returns-3
 returns-3 c =
@@ -92,7 +108,7 @@ returns-4 c =
     let there = fork-present (s .args .session .now) (s .args .masks .now) (s .pre .1) _ _ (s .args .c) u (s .pre .2 .level) (s .pre .4 .0) (rw (c .before .before .before .before .before .before .level-of2 .ensures) at e) in
     send-made (s .args .session .now) (s .args .masks .now) (s .pre .1) (s .args .self) (c .fork .result) (s .args .a) (s .args .b) (s .args .c) (c .before .before .before .before .before .before .before .level-of .result) (c .before .before .before .before .before .before .level-of2 .result)
     (s .pre .2) (c .before .before .before .before .before .before .before .level-of .ensures) (c .before .before .before .before .before .before .level-of2 .ensures) (fate.Fork u) _ _
-    e (c .fork .ensures) (there, s .pre .4) (λ gs. refl)
+    e (c .fork .ensures) (there, s .pre .4) (λ read there gs. refl)
 
 pub send-spec : {M : Type 1} → statement M
 send-spec =
@@ -103,8 +119,10 @@ send-spec =
     cast-fate-of
     fate-of-requires
     enum-told
+    add-call
     call-requires
     enum-told-2
+    add-call-2
     call-requires-2
     enum-told-3
     put-requires

@@ -23,19 +23,19 @@ returns c =
     let s = c .before .before .before .before .before .before .before in
     let m = s .args .self in
     operation-moved (s .args .session .now) (op.Write (s .args .a) (s .args .b)) m (c .pass .result) (pastOf m) (s .pre .0) (s .pre .2) (c .pass .ensures)
-    (λ read gs. write-apart-is (s .args .session .now) m (s .args .a) (s .args .b) read gs (λ e. c .before .if1 .taken (c .before .before .before .level-of .ensures ∙ e)))
+    (λ read there gs. write-apart-is (s .args .session .now) m (s .args .a) (s .args .b) read gs (λ e. c .before .if1 .taken (c .before .before .before .level-of .ensures ∙ e)))
 
 write-own-requires : tie.Need-write-own-requires
 write-own-requires c κs =
     let s = c .before .before .before .before .before .before in
-    (s .pre .0, omega (arith, s .pre .2 .top .method .0, object-limit (s .args .session .now) (s .pre .1 .accepted)))
+    (s .pre .0, omega (arith, s .pre .2 .top .called .0, object-limit (s .args .session .now) (s .pre .1 .accepted)))
 
 returns-2 : tie.Need-returns-2
 returns-2 c =
     let s = c .before .before .before .before .before .before .before in
     let m = s .args .self in
-    operation-made (s .args .session .now) (op.Write (s .args .a) (s .args .b)) _ m (c .write-own .result) _ (c .write-own .ensures) (s .pre .2) (s .pre .2 .top .method .0, s .pre .3)
-    (λ read gs. write-own-is (s .args .session .now) m (s .args .a) (s .args .b) read gs (sym (c .before .before .before .level-of .ensures) ∙ c .before .if1 .left))
+    operation-made (s .args .session .now) (op.Write (s .args .a) (s .args .b)) _ m (c .write-own .result) _ (c .write-own .ensures) (s .pre .2) (s .pre .2 .top .called .0, s .pre .3)
+    (λ read there gs. write-own-is (s .args .session .now) m (s .args .a) (s .args .b) read gs (sym (c .before .before .before .level-of .ensures) ∙ c .before .if1 .left))
 
 pub write-spec : {M : Type 1} → statement M
 write-spec =

@@ -20,7 +20,7 @@ object-record-requires c κs =
     let s = c .before .before .before .before .before .before .before in
     let t = s .args .session .now in
     let a = s .pre .0 .accepted in
-    omega (arith, s .pre .0 .room, object-limit t a, level-limit t a, level-present t a (s .args .object) (s .pre .1), c .before .before .level-of .ensures)
+    omega (arith, s .pre .0 .room, object-limit t a, level-limit t a, level-present t a (s .args .object), c .before .before .level-of .ensures)
 
 put-requires : tie.Need-put-requires
 put-requires c κs = search needs
