@@ -12,7 +12,7 @@
  *   17        a pair of its levels has no greatest lower bound; put after 5
  *    9        the clearance is no present level
  *   10        the work slice has fewer than 8,192 numbers
- *   11        the result buffer has fewer than 4,624 bytes
+ *   11        the result buffer has fewer than 5,136 bytes
  *   12 to 14  a step of the timetable
  *   15        at the timetable's end a manager has not ended
  *   16        the page buffer has fewer than 7,420 bytes; put after 11
@@ -45,10 +45,10 @@
  * the same time where none of them writes to a slice of another.
  *
  * Stack: lupinpause_check takes less than 1 KB, lupinpause_run_timetable and
- * lupinpause_run_plain some 32 KB, lupinpause_run_depth_first and
- * lupinpause_run_page some 18 KB. In a first call the loader may take more, to
- * find memcpy and memset: 3 KB where it was measured. All this is measured of the
- * compiled library, on the sessions that take most, and is not proved. With
+ * lupinpause_run_plain some 36 KB, lupinpause_run_depth_first and
+ * lupinpause_run_page some 25 KB. In a first call the loader may take
+ * more, to find memcpy and memset: 3 KB where it was measured. All this is measured
+ * of the compiled library, on the sessions that take most, and is not proved. With
  * LUPINPAUSE_STACK bytes left every call can be made.
  */
 #ifndef LUPINPAUSE_H
@@ -60,7 +60,7 @@
 /* What a run asks for: numbers of `work`, bytes of `result`, bytes of `page`,
  * numbers of `place_and_count`, numbers of `place_and_counts`. */
 #define LUPINPAUSE_WORK 8192
-#define LUPINPAUSE_RESULT 4624
+#define LUPINPAUSE_RESULT 5136
 #define LUPINPAUSE_PAGE 7420
 #define LUPINPAUSE_PLACE_AND_COUNT 2
 #define LUPINPAUSE_PLACE_AND_COUNTS 3

@@ -1,6 +1,6 @@
 /* Calls the library from C by way of its header: session W of document 01, by
- * all runs and the check, with a page; refusals; empty slices that are NULL; and
- * how much stack the calls take. */
+ * all runs and the check, with a page; a session that makes and withdraws objects;
+ * refusals; empty slices that are NULL; and how much stack the calls take. */
 
 #define _XOPEN_SOURCE 700
 
@@ -198,9 +198,9 @@ static void put_record(int kind, int b1, int b2, int b3, int b6)
     length += sizeof record;
 }
 
-/* Eight levels, each over the one before, with an object each. Every object sends
- * to the one above it, and the last to the first: the depth-first run is as deep
- * as it can be. */
+/* Eight levels, each over the one before, with an object each. Every object makes
+ * another and sends to the one above it, and the last to the first: the depth-first
+ * run is as deep as it can be. */
 static void put_chain(void)
 {
     length = 0;
@@ -208,8 +208,10 @@ static void put_chain(void)
         put_record(1, i, (2 << i) - 1, 0, 0);
     for (int i = 0; i < 8; i++)
         put_record(2, i, i, 0, 0);
-    for (int i = 0; i < 8; i++)
+    for (int i = 0; i < 8; i++) {
+        put_record(3, i, 0, 8, 0);
         put_record(3, i, 0, 6, (i + 1) % 8);
+    }
     put_record(4, 0, 0, 0, 0);
 }
 
@@ -256,6 +258,31 @@ static void expect_no_lower_bound(void)
     expect_kept("work, no lower bound", (const uint8_t *)work, 0, sizeof work);
 }
 
+/* One level. Object 0 makes object 32 and withdraws itself: 5 writes, 2 steps. */
+static void expect_made(void)
+{
+    static const uint8_t made[] = {
+        0x05, 0x20, 0x00, 0x00, 0x00, 0, 0, 0, 0, 0, 0, 0, 0, 0, 0, 0,
+        0x06, 0x00, 0x00, 0x05, 0x00, 0, 0, 0, 1, 0, 1, 0, 2, 0, 0, 0,
+        0x07, 0x00, 0x00, 0x00, 0x00, 0, 0, 0, 0, 0, 0, 0, 0, 0, 0, 0,
+    };
+    length = 0;
+    put_record(1, 0, 1, 0, 0);
+    put_record(2, 0, 0, 0, 0);
+    put_record(3, 0, 0, 8, 0);
+    put_record(3, 0, 0, 9, 0);
+    put_record(4, 0, 0, 0, 0);
+    memset(result, 0xa5, sizeof result);
+    expect("result bytes asked for", LUPINPAUSE_RESULT, 5136);
+    expect("check, made object", lupinpause_check(SESSION), 0);
+    expect_run("made object", lupinpause_run_plain(SESSION, 0, WORK, RESULT, ANSWER),
+        0, 0, sizeof made);
+    if (memcmp(result, made, sizeof made) != 0) {
+        fprintf(stderr, "made object: other records\n");
+        failures++;
+    }
+}
+
 static uint32_t number;
 
 static void check(void)
@@ -267,7 +294,7 @@ static void run_timetable(void)
 {
     /* The root's level is 1 or 0; 15 while the forks wait. */
     static const uint8_t ones[] = {1, 1, 1, 1, 1, 1, 1};
-    static const uint8_t zeros[] = {0, 0};
+    static const uint8_t zeros[] = {0, 0, 0};
     number = session[length - 15] == 1
         ? lupinpause_run_timetable(SESSION, ones, sizeof ones, 7, WORK, RESULT, ANSWER)
         : lupinpause_run_timetable(SESSION, zeros, sizeof zeros, 7, WORK, RESULT, ANSWER);
@@ -347,5 +374,6 @@ int main(int count, char **arguments)
     expect_empty();
     expect_pages();
     expect_no_lower_bound();
+    expect_made();
     return failures != 0;
 }

@@ -1,12 +1,12 @@
-//! How often each answer, each length of a lent buffer, each number of a lowest level,
-//! each clearance, each broken rule and each limit occurred.
+//! How often each answer, each length of a lent buffer, each number of a lowest level and
+//! of a made object, each clearance, each broken rule and each limit occurred.
 
 use crate::clearances;
 use crate::limits::*;
 use crate::record::{records, LEVEL};
 use crate::request::{Lengths, Outcome, Request, Run};
 use crate::sessions::rules::Rule;
-use crate::tally::{Totals, PAGES};
+use crate::tally::{Totals, OBJECTS, PAGES};
 use std::collections::BTreeMap;
 
 const CHECK: &str = "check, answer";
@@ -36,6 +36,9 @@ const OFTEN: [&str; 5] = [
 const ENTRIES: [&str; 5] = [CHECK, DEPTH_FIRST, PLAIN, TIMETABLED, PAGE];
 const LOWEST: &str = "lowest level of an accepted session, its number";
 const SEVERAL: &str = "lowest levels of a session that question 17 refuses";
+
+/// Results that show a made object of this number.
+const MADE: &str = "made object shown, its number";
 
 /// How often question 17 must be answered no, and each level be the lowest.
 const MEETS: u64 = 200;
@@ -86,6 +89,7 @@ fn least() -> BTreeMap<(&'static str, usize), u64> {
     let mut least: BTreeMap<_, u64> = least.collect();
     least.extend(ENTRIES.map(|entry| ((entry, 17), MEETS)));
     least.extend((0..LEVELS_MAX).map(|level| ((LOWEST, level), MEETS)));
+    least.extend((OBJECTS_MAX..NUMBERS).map(|number| ((MADE, number), OBJECTS)));
     least.extend((2..LEVELS_MAX).map(|levels| ((SEVERAL, levels), BROKEN)));
     least
 }
@@ -149,6 +153,11 @@ impl Counts {
             (17, several) => self.add_call(SEVERAL, several.len()),
             _ => {}
         }
+    }
+
+    /// A made object that a result shows.
+    pub fn add_made(&mut self, number: u8) {
+        self.add_call(MADE, usize::from(number));
     }
 
     /// A call with a clearance that is no present level.

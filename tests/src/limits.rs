@@ -21,10 +21,18 @@ pub const FORKS_MAX: u32 = 15;
 /// Forks that a level keeps.
 pub const KEPT_MAX: usize = 32;
 
+/// Objects that a level can make: it owns so many numbers, those after the
+/// session's objects in the order of the levels.
+pub const MADE_MAX: usize = 4;
+/// Numbers of objects, of the session or made.
+pub const NUMBERS: usize = OBJECTS_MAX + LEVELS_MAX * MADE_MAX;
+/// As so many writes counts a CREATE that works: three fields and existence.
+pub const CREATE_WRITES: u32 = 4;
+
 /// Numbers of the work slice that a scheduled run asks for and clears.
 pub const WORK_LENGTH: usize = 8192;
 /// Bytes of the result buffer that a run asks for.
-pub const RESULT_LENGTH: usize = 4624;
+pub const RESULT_LENGTH: usize = 5136;
 /// Bytes of a page's line: 27 columns and a line feed.
 pub const PAGE_LINE: usize = 28;
 /// Bytes of the page buffer that a run with a page asks for.

@@ -1,4 +1,4 @@
-//! Padding: the bytes of session records that document 01 leaves unused. In small
+//! Padding: the bytes of session records that documents 01 and 02 leave unused. In small
 //! sessions each byte of each record gets another value alone, and each two bytes of
 //! a record do together. The library must answer as the reference and the tuned
 //! variant do. Where no more than padding and numbers changed, the table below says
@@ -9,7 +9,8 @@ use crate::library::Library;
 use crate::limits::FIELDS;
 use crate::record::Operation::{self, *};
 use crate::record::{Record, Value};
-use crate::record::{ADD, JUMP, LEVEL, OBJECT, QUIT, READ, ROOT, SEND, SET, STEP, WRITE};
+use crate::record::{ADD, CREATE, JUMP, QUIT, READ, SEND, SET, WITHDRAW, WRITE};
+use crate::record::{LEVEL, OBJECT, ROOT, STEP};
 use crate::reference::Reference;
 use crate::request::{perform, Fill, Request, Run};
 use crate::sessions::Draft;
@@ -41,7 +42,7 @@ pub struct Tried {
     pub stated: usize,
 }
 
-/// Document 01's records: the question that asks for the padding, and each byte. `0`
+/// Documents 01 and 02's records: the question that asks for the padding, and each byte. `0`
 /// is padding, `n` is part of a number, where any value will do, and `r` has some
 /// other rule.
 fn layout(record: &Record) -> (u32, &'static [u8; 16]) {
@@ -62,6 +63,8 @@ fn layout(record: &Record) -> (u32, &'static [u8; 16]) {
         (STEP, WRITE) => (7, b"rrrrrr0000000000"),
         (STEP, SEND) => (7, b"rrrrrrr000000000"),
         (STEP, QUIT) => (7, b"rrrrr00000000000"),
+        (STEP, CREATE) => (7, b"rrrrr00000000000"),
+        (STEP, WITHDRAW) => (7, b"rrrr000000000000"),
         (ROOT, 0) => (8, b"rrrr000000000000"),
         (ROOT, 1) => (8, b"rrrrnnnn00000000"),
         _ => unreachable!("no accepted session has such a record"),
@@ -121,7 +124,7 @@ fn agree(
     guard: usize,
 ) -> Result<(), String> {
     let fill = Fill {
-        bytes: &[0xa5; 5_000],
+        bytes: &[0xa5; 6_000],
         words: &[0xdead_beef; 100],
         place_and_count: &[0xdead_beef; 100],
         guard,
@@ -189,6 +192,7 @@ fn session(parameter: Value) -> Vec<Record> {
         ..Draft::default()
     };
     draft.put(0, 0, steps());
+    draft.put(0, 1, more_steps());
     draft.records()
 }
 
@@ -210,5 +214,22 @@ fn steps() -> Vec<Operation> {
         send(3, 15, 7),
         Quit { a: 0 },
         Quit { a: 3 },
+    ]
+}
+
+/// Those of document 02, apart: a method has at most 16 steps.
+fn more_steps() -> Vec<Operation> {
+    let send = |object| Send {
+        a: 0,
+        name: 0,
+        object,
+    };
+    vec![
+        Create { a: 0 },
+        Create { a: 3 },
+        Withdraw,
+        // The least and the largest number that the four levels own.
+        send(32),
+        send(47),
     ]
 }

@@ -1,4 +1,4 @@
-//! The layout of document 01's records: the only list of kinds and operations,
+//! The layout of documents 01 and 02's records: the only list of kinds and operations,
 //! for both implementations and the generator.
 
 use crate::limits::FIELDS;
@@ -28,6 +28,8 @@ pub const READ: u8 = 4;
 pub const WRITE: u8 = 5;
 pub const SEND: u8 = 6;
 pub const QUIT: u8 = 7;
+pub const CREATE: u8 = 8;
+pub const WITHDRAW: u8 = 9;
 
 /// A script step's operation with its operands.
 #[derive(Clone, Copy, Debug, PartialEq, Eq)]
@@ -39,6 +41,8 @@ pub enum Operation {
     Write { a: u8, field: u8 },
     Send { a: u8, name: u8, object: u8 },
     Quit { a: u8 },
+    Create { a: u8 },
+    Withdraw,
 }
 
 impl Operation {
@@ -52,6 +56,8 @@ impl Operation {
             Operation::Write { a, field } => (WRITE, [a, field, 0], 0),
             Operation::Send { a, name, object } => (SEND, [a, name, object], 0),
             Operation::Quit { a } => (QUIT, [a, 0, 0], 0),
+            Operation::Create { a } => (CREATE, [a, 0, 0], 0),
+            Operation::Withdraw => (WITHDRAW, [0, 0, 0], 0),
         };
         let mut record = [0; 16];
         record[..7].copy_from_slice(&[STEP, object, name, code, a, b, c]);
@@ -77,6 +83,8 @@ impl Operation {
                 object: c,
             },
             QUIT => Operation::Quit { a },
+            CREATE => Operation::Create { a },
+            WITHDRAW => Operation::Withdraw,
             _ => unreachable!("no accepted session has operation {code}"),
         }
     }

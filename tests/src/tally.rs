@@ -86,9 +86,63 @@ events! {
     NilOfNinthUpward "NIL seen in place of a number sent upward to a 9th frame",
     NilOfNinth "NIL seen in place of a number sent to a 9th frame",
     NilOfIncomparable "NIL seen in place of a number sent to an incomparable level",
+    Made "object made",
+    MadeByMade "object made by a made one",
+    MadeIntoField "object made, its number into a register that is one of its fields",
+    MadeAfterWithdrawn "object made where an earlier one of its level is withdrawn",
+    MadeAfterRefused "object made at a level where a CREATE passed 16 writes before",
+    CreateAtTwelve "object made at 12 writes",
+    CreateAtThirteen "CREATE at 13 writes, not made",
+    CreateAtFourteen "CREATE at 14 writes, not made",
+    CreateAtFifteen "CREATE at 15 writes, not made",
+    CreateAtSixteen "CREATE at 16 writes, not made",
+    FewerWrites "ending 2 with fewer than 16 writes",
+    FifthCreate "CREATE with all numbers of its level used",
+    FifthCreateAtLimit "CREATE with all numbers of its level used, at 13 writes or more",
+    FifthCreateAfterWithdrawn "CREATE with all numbers of its level used, one of them withdrawn",
+    CreateBelow "CREATE below the manager's level",
+    WithdrawBelow "WITHDRAW below the manager's level",
+    WithdrawnGiven "object of the session withdrawn",
+    WithdrawnMade "made object withdrawn",
+    WithdrawnWaiting "object withdrawn while other frames of it wait",
+    ExistenceReplaced "object made and withdrawn under one write stamp",
+    WithdrawAtFifteen "WITHDRAW as 16th write",
+    WithdrawAtSixteen "WITHDRAW at 16 writes, not made",
+    WithdrawnRead "READ of a withdrawn object",
+    WithdrawnWrite "WRITE of a withdrawn object",
+    WithdrawnSend "SEND of a withdrawn object",
+    WithdrawnQuit "QUIT of a withdrawn object",
+    WithdrawnCreate "CREATE of a withdrawn object",
+    WithdrawnAgain "second WITHDRAW of an object",
+    WithdrawnAtLimit "WRITE, CREATE or WITHDRAW of a withdrawn object at 16 writes",
+    SentToMade "message inside a manager to a made object",
+    SentToNeverMade "message inside a manager to a number never made",
+    SentToWithdrawn "message inside a manager to a withdrawn object",
+    UpwardToMade "upward send inside a manager to a number that a level owns",
+    IncomparableToMade "send to a number of an incomparable level",
+    ForkToMade "manager of a made object",
+    ForkToNeverMade "manager of a number never made",
+    ForkToWithdrawn "manager of a withdrawn object",
+    MadeBeforeStart "manager of an object made after the fork",
+    WithdrawnBeforeStart "manager of an object withdrawn after the fork",
+    MadeReadAbove "field of a made object read at a level above",
+    WithdrawnReadAbove "field read at a level above, of an object withdrawn later",
+    NotYetMade "message to an object made later than is seen",
+    StillThere "message to an object withdrawn later than is seen",
+    MakerWithdrawn "message to an object whose maker's methods it has, the maker being withdrawn",
+    NilOfCreate "NIL seen in place of a number after a CREATE without effect",
+    NilOfFifthCreate "NIL seen in place of a number after a CREATE with all numbers used",
+    NilOfWithdrawnRead "NIL seen in place of a number after a READ of a withdrawn object",
+    MadeShown "made object shown",
+    MadeHidden "made object not shown, of a level above or aside",
+    WithdrawnAmong "object of the session withdrawn, among shown ones of lower and higher number",
+    WithdrawnAbove "object of the session withdrawn at a level not shown",
+    FourShown "four made objects of one level shown",
+    LevelsShown "made objects of two levels shown or more",
 }
 
-/// What document 02 changes must occur in many sessions, all else in one.
+/// What document 02 changes must occur in many sessions, all else in one. Besides
+/// these, whatever concerns objects made and withdrawn.
 const FREQUENT: [(Event, u64); 17] = [
     (Event::EarlyFinished, 1_000),
     (Event::HeldBack, 1_000),
@@ -111,6 +165,10 @@ const FREQUENT: [(Event, u64); 17] = [
 
 /// How often whatever concerns the page must occur.
 pub const PAGES: u64 = 200;
+
+/// How often whatever concerns objects made and withdrawn must occur. All of it stands
+/// at the end of the events.
+pub const OBJECTS: u64 = 200;
 
 /// How often each event occurred.
 #[derive(Clone)]
@@ -185,6 +243,7 @@ impl Totals {
         for (event, times) in FREQUENT {
             least[event as usize] = times;
         }
+        least[Event::Made as usize..].fill(OBJECTS);
         let counts = self.sessions.counts.iter().zip(least).zip(NAMES);
         counts
             .filter(|((&count, least), _)| count < *least)

@@ -17,12 +17,16 @@
 //! that are not refused, `prints` the page of those with a page, a bar for each line
 //! feed. WORK, RESULT and LENGTH, of the page, are the lengths of the lent buffers.
 //! LIST has levels with a comma between, 7x3 being three times 7.
+//!
+//! Calls that lend a result buffer of 4,624 bytes, once enough, are refused by 11; each
+//! is there with 5,136 bytes too.
 
 use crate::library::Answer;
 use crate::request::{Lengths, Outcome, Request, Run};
 use std::fs;
 
 /// A call with its recorded outcome.
+#[derive(Clone)]
 pub struct Vector {
     pub session: Vec<u8>,
     pub request: Request,

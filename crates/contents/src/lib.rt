@@ -7,6 +7,8 @@ use session::Step;
 use session::Value;
 use session::Verdict;
 use session::kinds;
+use session::limits::FIRST_MADE;
+use session::limits::MADE_OBJECTS;
 use session::limits::MAX_METHODS;
 use session::limits::NAMES;
 use session::limits::RECORD_BYTES;
@@ -19,7 +21,7 @@ ghost use lib.ListN.{length, drop};
 ghost use Rattle.session.specs.Limits.{maxMethods, names, fields};
 ghost use Rattle.session.specs.Parts.{levelCount, objectCount, stepCount, masksOf};
 ghost use Rattle.session.specs.Questions.{verdictOf};
-ghost use Rattle.session.specs.Meaning.{levelOf, fieldOf, stepAt, rootOf};
+ghost use Rattle.session.specs.Meaning.{Numbered, levelOf, fieldOf, stepAt, rootOf};
 ghost use Rattle.contents.specs.Reading.{methodStart, indexOf, MethodAt, IsMethod};
 
 // Where the steps of a method stand: the record of the first, and how many there are.
@@ -72,15 +74,19 @@ pub fn index_methods(session: &[u8], index: &mut [u16])
     }
 }
 
-// The level of an object.
+// The level of an object: one of the session's has it in its record, one that a level can make in its number.
 pub fn level_of(session: &[u8], masks: &[u16], object: usize) -> usize
-    requires { ⌜ (verdictOf (now session) ≡ Verdict.Accepted) × (now masks ≡ masksOf (now session)) × (object < objectCount (now session)) ⌝ }
+    requires { ⌜ (verdictOf (now session) ≡ Verdict.Accepted) × (now masks ≡ masksOf (now session)) × Numbered (now session) object ⌝ }
     ensures { λ r. ⌜ r ≡ levelOf (now (session .entry)) object ⌝ }
 {
-    record::byte_at(session, masks.len() + object, places::LEVEL) as usize
+    if object < FIRST_MADE {
+        record::byte_at(session, masks.len() + object, places::LEVEL) as usize
+    } else {
+        (object - FIRST_MADE) / MADE_OBJECTS
+    }
 }
 
-// What field `k` of an object holds at first.
+// What field `k` of an object of the session holds at first.
 pub fn field_of(session: &[u8], masks: &[u16], object: usize, k: usize) -> Value
     requires { ⌜ (verdictOf (now session) ≡ Verdict.Accepted) × (now masks ≡ masksOf (now session)) × (object < objectCount (now session)) × (k < fields) ⌝ }
     ensures { λ r. ⌜ r ≡ fieldOf (now (session .entry)) object k ⌝ }

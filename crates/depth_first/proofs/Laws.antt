@@ -1,6 +1,8 @@
 -- Laws of the depth-first run.
+pub mod Reads
 pub mod Representation
 pub mod Spared
+pub mod Changes
 pub mod Step
 pub mod Perform
 pub mod Run

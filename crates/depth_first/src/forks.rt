@@ -1,9 +1,10 @@
 // The run of a fork: a script step calls fork, fork runs a manager, a manager makes script steps. With
 // each manager the levels left above fall.
 //
-// What a run keeps is lent: `current` holds the fields, as in `words`; `ended` the histories, as in `records`;
-// `tallies` how many managers of each level have ended and the write stamp of its next one, as in the crate
-// of that name.
+// What a run keeps is lent: `current` holds the fields and the existence of objects, as in `words`; `ended` the
+// histories, as in `records`; `tallies` how many managers of each level have ended, the write stamp of its next one,
+// and whether existence was written, as in the crate of that name.
+use crate::changes;
 use managers::Manager;
 use operations::Effect;
 use scripts::Ended;
@@ -13,7 +14,7 @@ use words::fields;
 ghost use Prim.Native.Nat.{_<_};
 ghost use lib.ListN.{getD};
 ghost use Rattle.model.specs.Limits.{maxManagers};
-ghost use Rattle.depth_first.specs.Representation.{Tables, RepresentsSome, Runnable, Performable, Performed, ForkDone, RunDone};
+ghost use Rattle.depth_first.specs.Representation.{Tables, RepresentsSome, Runnable, StartReady, StartDone, Performable, Performed, ForkDone, RunDone};
 
 // A fork that is about to run, or runs: its level, its fork stamp, how many forks deep it is, and its
 // message.
@@ -75,6 +76,18 @@ fn perform(
     }
 }
 
+// The manager of a fork starts: with the next write stamp of its level, and with the methods that its object has
+// then.
+fn start(session: &[u8], index: &[u16], current: &[u32], tallies: &[usize], fork: Fork) -> Manager
+    requires { ⌜ StartReady (now session) (now index) (now current) (now tallies) fork ⌝ }
+    ensures { λ r. ⌜ StartDone (now (session .entry)) (now (current .entry)) (now (tallies .entry)) fork r ⌝ }
+{
+    let message = fork.message;
+    let next = tallies[NEXT + fork.level as usize] as u16;
+    let script = fields::script_in(current, message.object as usize) as u8;
+    Manager::start(session, index, fork.level, next, message, script)
+}
+
 // Runs a fork that is made, if its level keeps it.
 fn run_kept(
     session: &[u8],
@@ -114,11 +127,7 @@ pub fn run_manager(
     ensures { λ r. ⌜ RunDone (now (session .entry)) left fork (record { current = now (current .entry); ended = now (ended .entry); tallies = now (tallies .entry) }) (record { current = now (current .exit); ended = now (ended .exit); tallies = now (tallies .exit) }) r ⌝ }
 {
     let level = fork.level as usize;
-    let message = fork.message;
-    let next = tallies[NEXT + level] as u16;
-    // Its object's own methods.
-    let script = message.object + 1;
-    let mut m = Manager::start(session, index, fork.level, next, message, script);
+    let mut m = start(session, index, current, tallies, fork);
     let core = m.core;
     if left == 0 {
         return core.ended(fork.stamp);
@@ -127,9 +136,16 @@ pub fn run_manager(
     let mut ending = core.ending;
     while scripts::is_running(ending) {
         // Every READ is answered by the fields: what was read before is never asked.
-        m = m.advance(session, masks, index, current, current, true, limit);
+        let same = tallies::is_unchanged(tallies);
+        m = m.advance(session, masks, index, current, current, true, same, limit);
         let core = m.core;
         let effect = core.effect;
+        if let Effect::Change = effect {
+            m = changes::change(session, masks, index, current, tallies, m);
+            let changed = m.core;
+            ending = changed.ending;
+            continue;
+        }
         perform(
             session,
             masks,

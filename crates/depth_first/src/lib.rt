@@ -1,4 +1,5 @@
 // The depth-first run: a fork that is made and kept runs whole, before its sender continues.
+mod changes;
 mod forks;
 
 use entries::Answer;

@@ -55,7 +55,7 @@ pub extern "C" fn lupinpause_check(session: &[u8]) -> u32
     session::number_of(session::check(session))
 }
 
-// The timetabled run. `work` has at least 8,192 numbers and `result` at least 4,624 bytes, or the run is
+// The timetabled run. `work` has at least 8,192 numbers and `result` at least 5,136 bytes, or the run is
 // refused.
 #[no_mangle]
 pub extern "C" fn lupinpause_run_timetable(

@@ -8,6 +8,7 @@ use lib.Dec.{leb}
 use lib.ListN.{length, getD}
 use Rattle.session.specs.Limits.{names, registers}
 use Rattle.session.specs.Parts.{objectCount}
+use Rattle.session.specs.Meaning.{Numbered}
 use Rattle.contents.specs.Reading.{MethodAt}
 use Rattle.session.specs.declared.Value.{Value}
 use Rattle.session.specs.declared.Value.the-variants.{Nil}
@@ -154,20 +155,20 @@ pub record Becomes (f r : Frame) (g : defined.Frame) : Type 0 where
   pub frame : frameOf r ≡ g
   pub same : Same f r
 
--- a method of a present object
+-- a message to an object that has a number, by a name
 abbrev pub Method : ℕ → ℕ → List ℕ → Type 0
-Method o b s = (o < objectCount s) × (b < names)
+Method o b s = Numbered s o × (b < names)
 
--- a message to a present object that finds a method of one, or none
+-- a message to an object that has a number, that finds a method, or none
 abbrev pub Called : ℕ → ℕ → List ℕ → Type 0
-Called o slot s = (o < objectCount s) × (scriptIn slot ≤ objectCount s)
+Called o slot s = Numbered s o × (scriptIn slot ≤ objectCount s)
 
 -- where the steps of a script's method stand: the record of the first, if there is one, and how many there are
 pub record ScriptAt (s : List ℕ) (script name start count : ℕ) : Type 0 where
   pub own : (w : ℕ) → script ≡ ownScript w → MethodAt s w name start count
   pub count-is : count ≡ length (scriptMethod s script name)
 
--- the frame on top is of a present object and runs a method of one, or none, knows where that stands, and is within it
+-- the frame on top is of an object that has a number and runs a method of one, or none, knows where that stands, and is within it
 pub record Placed (s : List ℕ) (f : Frame) : Type 0 where
   pub called : Called (f .object) (f .slot) s
   pub at : ScriptAt s (scriptIn (f .slot)) (nameIn (f .slot)) (f .start) (f .count)
@@ -175,6 +176,6 @@ pub record Placed (s : List ℕ) (f : Frame) : Type 0 where
 
 -- so does a frame that waits
 pub record Waits (s : List ℕ) (f : defined.Frame) : Type 0 where
-  pub present : f .object < objectCount s
+  pub present : Numbered s (f .object)
   pub scripted : f .script ≤ objectCount s
   pub near : f .next ≤ length (scriptMethod s (f .script) (f .name))

@@ -1,6 +1,7 @@
 -- Laws of the words of a run and of a scheduler step: what the proofs of this crate and of the runs cite.
 pub mod Representation
 pub mod Write
+pub mod Writes
 pub mod Arrive
 pub mod Settle
 pub mod Begin
@@ -9,7 +10,11 @@ pub mod Ready
 pub mod Step
 pub mod Reads
 pub mod Recall
-pub mod Script
+pub mod Seen
+pub mod Pauses
 pub mod Asks
+pub mod Script
+pub mod Told
 pub mod Made
+pub mod Changes
 pub mod Asked

@@ -6,25 +6,26 @@ use mathlib.Core.Bool.{cond}
 use mathlib.Core.List.{List}
 use lib.Dec.{eqb}
 use lib.ListN.{length, getD}
-use Rattle.session.specs.Limits.{maxLevels, fields}
-use Rattle.session.specs.Parts.{levelCount, objectCount}
+use Rattle.session.specs.Limits.{maxLevels, maxNumbers, fields}
+use Rattle.session.specs.Parts.{levelCount}
 use Rattle.session.specs.Meaning.{rootOf}
 use Rattle.session.specs.Program.{programOf}
-use Rattle.scripts.specs.Existence.{initially}
+use Rattle.scripts.specs.Existence.{existence, initially}
 use Rattle.scripts.specs.State.{Manager}
+use Rattle.scripts.specs.Valid.{Each}
 use Rattle.words.specs.Limits.{fieldWords}
 use Rattle.words.specs.Fields.{fieldAt}
 use Rattle.model.specs.Limits.{maxManagers, workNumbers}
-use Rattle.model.specs.Level.{Activity, idle, busy, Level, startedCount, newest}
+use Rattle.model.specs.Level.{Version, Activity, idle, busy, Level, startedCount, newest}
 use Rattle.model.specs.Step.{State, levelAt}
 use Rattle.model.specs.Schedule.{readIn, Leads}
 use Rattle.records.specs.Limits.{historyWords}
 use Rattle.records.specs.Histories.{historiesAt, InOrder}
-use Rattle.tallies.specs.Places.{nextPlace, waitingPlace, versionsPlace, busyPlace, tallyNumbers}
+use Rattle.tallies.specs.Places.{nextPlace, waitingPlace, versionsPlace, busyPlace, changesPlace, allChangesPlace, tallyNumbers}
 use Rattle.queues.specs.Queue.{queueWords, forkAt, forksAt, ForksRise}
 use Rattle.versions.specs.Log.{logStart, logOf}
 
--- a run's words: the newest fields, the histories, what is counted of each level, the forks, and the versions
+-- a run's words: the newest fields and existence of objects, the histories, what is counted of each level, the forks, and the versions
 pub record Words : Type 0 where
   pub current : List ℕ
   pub ended : List ℕ
@@ -36,6 +37,10 @@ pub record Words : Type 0 where
 abbrev pub Runs : ℕ → Words → ℕ → Manager → ℕ → Activity → Type 0
 Runs n w l m i idle = getD (w .tallies) (busyPlace l) 0 ≡ 0
 Runs n w l m i (busy x m') = (getD (w .tallies) (busyPlace l) 0 ≡ 1) × ((m ≡ m') × (forkAt n (w .queue) l i ≡ x))
+
+-- a version of a field, and not of existence
+abbrev pub OfField : Version → Type 0
+OfField w = w .field < fields
 
 -- the words of level l, one of n, represent v, with m for the manager that runs there
 pub record LevelRepresents (n : ℕ) (w : Words) (l : ℕ) (m : Manager) (v : Level) : Type 0 where
@@ -49,6 +54,9 @@ pub record LevelRepresents (n : ℕ) (w : Words) (l : ℕ) (m : Manager) (v : Le
   pub version-count : getD (w .tallies) (versionsPlace l) 0 ≡ length (v .versions)
   pub versions : logOf (w .work) (logStart l) (length (v .versions)) ≡ v .versions
   pub activity : Runs n w l m (length (v .ended)) (v .activity)
+  -- as long as no existence was written at the level, or at any, its versions are of fields
+  pub unchanged-own : getD (w .tallies) (changesPlace l) 0 ≡ 0 → Each OfField (v .versions)
+  pub unchanged-any : getD (w .tallies) allChangesPlace 0 ≡ 0 → Each OfField (v .versions)
 
 -- the words have room for every run
 pub record Roomy (w : Words) : Type 0 where
@@ -63,7 +71,7 @@ pub record Represents (s : List ℕ) (w : Words) (ms : ℕ → Manager) (st : St
   pub roomy : Roomy w
   pub counts-few : (l : ℕ) → l < maxLevels → getD (w .tallies) l 0 ≤ maxManagers
   pub levels : length st ≡ levelCount s
-  pub field : (o k : ℕ) → o < objectCount s → k < fields → fieldAt (w .current) o k ≡ newest (initially (programOf s) o k) o k (levelAt st (programOf s .level o) .versions)
+  pub field : (o k : ℕ) → o < maxNumbers → k ≤ existence → fieldAt (w .current) o k ≡ newest (initially (programOf s) o k) o k (levelAt st (programOf s .level o) .versions)
   pub level : (l : ℕ) → l < levelCount s → LevelRepresents (levelCount s) w l (ms l) (levelAt st l)
 
 -- some list of allowed steps leads to the state st from the session as read in

@@ -4,3 +4,4 @@ pub mod Turns
 pub mod Advance
 pub mod Closing
 pub mod Done
+pub mod Changes

@@ -4,7 +4,7 @@
 -- the core comes to is the manager handed back (`Done`). One script step is the same with a limit of one more (`Leads`: `leads-one`).
 use Prim.Native.Nat.{ℕ, zero, suc, _+_, _-_, _≤_, _<_}
 use mathlib.Core.Path.{_≡_}
-use mathlib.Core.Bool.{Bool, true, false, not}
+use mathlib.Core.Bool.{Bool, true, false}
 use mathlib.Core.List.{List}
 use lib.ListN.{length, getD, replicate}
 use Rattle.session.specs.Parts.{levelCount}
@@ -12,8 +12,6 @@ use Rattle.session.specs.Program.{Program, programOf}
 use Rattle.session.specs.declared.Value.{Value}
 use Rattle.session.specs.declared.Value.the-variants.{Nil}
 use Rattle.session.specs.declared.Message.{Message}
-use Rattle.session.specs.declared.Step.{Step}
-use Rattle.session.specs.declared.Step.the-variants as op
 use Rattle.scripts.specs.Existence.{scriptSeen}
 use Rattle.scripts.specs.Limits.{maxFrames, maxScriptSteps, maxWrites, maxForks, writeStamps}
 use Rattle.scripts.specs.Ending.{isRunning}
@@ -23,14 +21,16 @@ use Rattle.scripts.specs.Manager.{nextStep, started, stepped}
 use Rattle.scripts.specs.Valid.{Indexed, Leveled}
 use Rattle.scripts.specs.declared.Ending.the-variants.{Finished}
 use Rattle.words.specs.Limits.{fieldWords}
-use Rattle.words.specs.Reads.{isAvailable, Agrees}
+use Rattle.words.specs.Reads.{Scripted, Agrees}
 use Rattle.frames.specs.Frames.{frameOf, asideOf, noWaiting, topFrom, Placed, Waits}
 use Rattle.operations.specs.Core.{isNothing, isAsking, isDone, Present}
-use Rattle.operations.specs.Moves.{Asks}
+use Rattle.operations.specs.Moves.{isPause, pauseOf, asking}
+use Rattle.operations.specs.Changes.{isChange, changeOf, OwnExistence}
 use Rattle.operations.specs.declared.Core.{Core}
-use Rattle.operations.specs.declared.Effect.the-variants.{Nothing, End, Read}
+use Rattle.operations.specs.declared.Effect.the-variants.{Nothing, End}
 use Rattle.managers.specs.Manager.{managerOf, steppedOf}
 use Rattle.managers.specs.declared.Manager.{Manager}
+use Rattle.managers.specs.declared.Changed.{Changed}
 
 -- so many script steps lead from one manager to another, and concern nobody else
 unfoldable pub InternalSteps : Program → (ℕ → ℕ → Value) → ℕ → defined.Manager → defined.Manager → Type 0
@@ -93,33 +93,25 @@ pub record Advanceable (s masks index current cache : List ℕ) (m : Manager) : 
   pub leveled : Leveled s masks
   pub fields-there : fieldWords ≤ length current
   pub cache-there : fieldWords ≤ length cache
+  pub current-scripted : Scripted s current
+  pub cache-scripted : Scripted s cache
   pub held : WellFormed s m
   pub running : isRunning (m .core .ending) ≡ true
 
--- is the next step a READ of what is not at hand
-abbrev pub pausesOn : List ℕ → List ℕ → Bool → ℕ → ℕ → Step → Bool
-pausesOn s cache all level object op.End = false
-pausesOn s cache all level object (op.Set a n) = false
-pausesOn s cache all level object (op.Add a b) = false
-pausesOn s cache all level object (op.Jump a b) = false
-pausesOn s cache all level object (op.Read a b) = not (isAvailable s cache all level object b)
-pausesOn s cache all level object (op.Write a b) = false
-pausesOn s cache all level object (op.Send a b c) = false
-pausesOn s cache all level object (op.Quit a) = false
-
-abbrev pub isPaused : List ℕ → List ℕ → Bool → Core → Bool
-isPaused s cache all c = pausesOn s cache all (c .level) (c .top .object) (nextStep (programOf s) (frameOf (c .top)))
+-- does the next step wait
+abbrev pub isPaused : List ℕ → List ℕ → List ℕ → Bool → Bool → Core → Bool
+isPaused s current cache all unchanged c = isPause (pauseOf s current cache all unchanged c)
 
 -- script steps in a row, up to one that concerns others or asks, the manager's end, or a limit
-pub record Advanced (s current cache : List ℕ) (all : Bool) (limit : ℕ) (m r : Manager) : Type 0 where
-  pub leads : (read : ℕ → ℕ → Value) → Agrees s current cache all (m .core .level) read → Leads (programOf s) read (managerOf m) (steppedOf r)
+pub record Advanced (s current cache : List ℕ) (all unchanged : Bool) (limit : ℕ) (m r : Manager) : Type 0 where
+  pub leads : (read : ℕ → ℕ → Value) → Agrees s current cache all unchanged (m .core .level) read → Leads (programOf s) read (managerOf m) (steppedOf r)
   pub held : WellFormed s r
   pub level-is : r .core .level ≡ m .core .level
   pub first-is : r .core .first ≡ m .core .first
   pub present : Present s (r .core .effect)
   pub done : isDone (r .core .effect) ≡ true
-  -- a READ is asked for only where it is not at hand, and the manager stands before it
-  pub asks : (o k : ℕ) → r .core .effect ≡ Read o k → (isRunning (r .core .ending) ≡ true) × Asks s cache all (r .core) o k
+  -- a step waits only for what it needs, and the manager stands before it
+  pub asks : isAsking (r .core .effect) ≡ true → (isRunning (r .core .ending) ≡ true) × (pauseOf s current cache all unchanged (r .core) ≡ asking (r .core .effect))
   pub waits : isAsking (r .core .effect) ≡ true → r .core .steps < limit
   -- one that a step has ended has ended
   pub over : r .core .effect ≡ End → isRunning (r .core .ending) ≡ false
@@ -127,15 +119,32 @@ pub record Advanced (s current cache : List ℕ) (all : Bool) (limit : ℕ) (m r
   -- a manager that runs on stops at the limit alone, or by what its last step did
   pub at-limit : isNothing (r .core .effect) ≡ true → isRunning (r .core .ending) ≡ true → r .core .steps ≡ limit
   -- no step is made only where the first asks
-  pub early : r .core .steps ≡ m .core .steps → isPaused s cache all (m .core) ≡ true
+  pub early : r .core .steps ≡ m .core .steps → isPaused s current cache all unchanged (m .core) ≡ true
 
--- one script step; or, before a READ that is not at hand, none
-pub record Stepped (s current cache : List ℕ) (m r : Manager) : Type 0 where
-  pub is : isAsking (r .core .effect) ≡ false → (read : ℕ → ℕ → Value) → Agrees s current cache false (m .core .level) read → steppedOf r ≡ stepped (programOf s) read (managerOf m)
-  pub asks : (o k : ℕ) → r .core .effect ≡ Read o k → (managerOf r ≡ managerOf m) × Asks s cache false (m .core) o k
-  pub still : (o k : ℕ) → r .core .effect ≡ Read o k → (isRunning (r .core .ending) ≡ true) × Asks s cache false (r .core) o k
+-- one script step; or, before one that waits, none
+pub record Stepped (s current cache : List ℕ) (unchanged : Bool) (m r : Manager) : Type 0 where
+  pub is : isAsking (r .core .effect) ≡ false → (read : ℕ → ℕ → Value) → Agrees s current cache false unchanged (m .core .level) read → steppedOf r ≡ stepped (programOf s) read (managerOf m)
+  pub asks : isAsking (r .core .effect) ≡ true → (managerOf r ≡ managerOf m) × (pauseOf s current cache false unchanged (m .core) ≡ asking (r .core .effect))
+  pub still : isAsking (r .core .effect) ≡ true → (isRunning (r .core .ending) ≡ true) × (pauseOf s current cache false unchanged (r .core) ≡ asking (r .core .effect))
   pub held : WellFormed s r
   pub level-is : r .core .level ≡ m .core .level
   pub first-is : r .core .first ≡ m .core .first
   pub present : Present s (r .core .effect)
   pub done : isDone (r .core .effect) ≡ true
+
+-- a manager whose next step is a CREATE or WITHDRAW, with what that needs
+pub record Changeable (s masks index current : List ℕ) (m : Manager) : Type 0 where
+  pub indexed : Indexed s index
+  pub leveled : Leveled s masks
+  pub fields-there : fieldWords ≤ length current
+  pub scripted : Scripted s current
+  pub held : WellFormed s m
+  pub running : isRunning (m .core .ending) ≡ true
+  pub next : isChange (nextStep (programOf s) (frameOf (m .core .top)))
+
+-- it is made, pops and ending included
+pub record ChangedFrom (s current : List ℕ) (m : Manager) (r : Changed) : Type 0 where
+  pub is : (read : ℕ → ℕ → Value) → OwnExistence s current (m .core .level) read → record { manager = managerOf (r .manager); effect = changeOf (frameOf (m .core .top)) (r .change) } ≡ stepped (programOf s) read (managerOf m)
+  pub held : WellFormed s (r .manager)
+  pub level-is : r .manager .core .level ≡ m .core .level
+  pub first-is : r .manager .core .first ≡ m .core .first

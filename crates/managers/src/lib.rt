@@ -2,6 +2,7 @@
 use frames::FIRST_ANSWER;
 use frames::Frame;
 use frames::Waiting;
+use operations::Change;
 use operations::Core;
 use operations::Effect;
 use scripts::Ending;
@@ -13,7 +14,7 @@ ghost use mathlib.Core.Path.{_≡_};
 ghost use Rattle.session.specs.Parts.{objectCount};
 ghost use Rattle.scripts.specs.Limits.{maxScriptSteps};
 ghost use Rattle.scripts.specs.Valid.{Indexed, Startable};
-ghost use Rattle.managers.specs.Steps.{noManager, Starts, WellFormed, Advanceable, Advanced, Stepped};
+ghost use Rattle.managers.specs.Steps.{noManager, Starts, WellFormed, Advanceable, Advanced, Stepped, Changeable, ChangedFrom};
 
 // How many frames of a manager wait below its top, at most.
 pub const MAX_WAITING: usize = MAX_FRAMES as usize - 1;
@@ -29,6 +30,12 @@ pub struct Manager {
     pub core: Core,
     // The frames that wait below the top, the first first.
     pub waiting: [Waiting; MAX_WAITING],
+}
+
+// A manager after a CREATE or WITHDRAW, and what that does outside it.
+pub struct Changed {
+    pub manager: Manager,
+    pub change: Change,
 }
 
 impl Manager {
@@ -114,11 +121,12 @@ impl Manager {
         current: &[u32],
         cache: &[u32],
         all: bool,
+        unchanged: bool,
         limit: u16,
     ) -> Manager
         requires { ⌜ Advanceable (now session) (now masks) (now index) (now current) (now cache) self ⌝ }
         requires { ⌜ (self .core .steps < limit) × (limit ≤ maxScriptSteps) ⌝ }
-        ensures { λ r. ⌜ Advanced (now (session .entry)) (now (current .entry)) (now (cache .entry)) all limit self r ⌝ }
+        ensures { λ r. ⌜ Advanced (now (session .entry)) (now (current .entry)) (now (cache .entry)) all unchanged limit self r ⌝ }
     {
         let mut core = self.core.causing(Effect::Nothing);
         let mut waiting = self.waiting;
@@ -127,7 +135,7 @@ impl Manager {
             let step = f.next_step(session);
             // Nothing is left to do: said once more, so that nothing of an effect is carried along.
             let quiet = core.causing(Effect::Nothing);
-            core = quiet.operate(session, masks, current, cache, all, step);
+            core = quiet.operate(session, masks, current, cache, all, unchanged, step);
             let effect = core.effect;
             if let Effect::Call {
                 object,
@@ -153,8 +161,30 @@ impl Manager {
         Manager { core, waiting }
     }
 
-    // One script step of a manager that runs, pops and ending included. A READ that the words at hand do not
-    // answer is asked for, and not made.
+    // A CREATE or WITHDRAW of a manager that runs, pops and ending included.
+    pub fn change(self, session: &[u8], masks: &[u16], index: &[u16], current: &[u32]) -> Changed
+        requires { ⌜ Changeable (now session) (now masks) (now index) (now current) self ⌝ }
+        ensures { λ r. ⌜ ChangedFrom (now (session .entry)) (now (current .entry)) self r ⌝ }
+    {
+        let quiet = self.core.causing(Effect::Nothing);
+        let waiting = self.waiting;
+        let f = quiet.top;
+        let changed = quiet.change(session, masks, current, f.next_step(session));
+        let change = changed.change;
+        let mut core = changed.core;
+        while core.pops() {
+            let at = core.height as usize - BELOW_TOP;
+            let effect = core.effect;
+            let lower = core.popped(session, index, waiting[at], Value::Nil);
+            core = lower.causing(effect);
+        }
+        core = core.closed();
+        let manager = Manager { core, waiting };
+        Changed { manager, change }
+    }
+
+    // One script step of a manager that runs, pops and ending included. One that needs what the words at hand do not
+    // say asks for it, and a CREATE or WITHDRAW waits for `change`: neither is made.
     pub fn step(
         self,
         session: &[u8],
@@ -162,11 +192,21 @@ impl Manager {
         index: &[u16],
         current: &[u32],
         cache: &[u32],
+        unchanged: bool,
     ) -> Manager
         requires { ⌜ Advanceable (now session) (now masks) (now index) (now current) (now cache) self ⌝ }
-        ensures { λ r. ⌜ Stepped (now (session .entry)) (now (current .entry)) (now (cache .entry)) self r ⌝ }
+        ensures { λ r. ⌜ Stepped (now (session .entry)) (now (current .entry)) (now (cache .entry)) unchanged self r ⌝ }
     {
         let limit = self.core.steps + 1;
-        self.advance(session, masks, index, current, cache, false, limit)
+        self.advance(
+            session,
+            masks,
+            index,
+            current,
+            cache,
+            false,
+            unchanged,
+            limit,
+        )
     }
 }

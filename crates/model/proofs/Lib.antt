@@ -6,3 +6,5 @@ pub mod Layouts
 pub mod Refusals
 pub mod Runs
 pub mod Orders
+pub mod Existence
+pub mod ExistenceShown

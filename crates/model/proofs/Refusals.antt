@@ -63,24 +63,24 @@ finishedRun = byTimetable (replicate 6 0 ++ replicate 6 1)
 
 pub record Refusals : Type 0 where
   -- 9. "Is the clearance a present level?"
-  nine : answered (plain (lentW 2 8192 4624)) ≡ 9 ∷ 0 ∷ 0 ∷ []
-  nine-timetabled : answered (timetabled (lentW 2 8192 4624) []) ≡ 9 ∷ 0 ∷ 0 ∷ []
-  nine-depth-first : answered (deep (lentW 2 0 4624)) ≡ 9 ∷ 0 ∷ 0 ∷ []
+  nine : answered (plain (lentW 2 8192 5136)) ≡ 9 ∷ 0 ∷ 0 ∷ []
+  nine-timetabled : answered (timetabled (lentW 2 8192 5136) []) ≡ 9 ∷ 0 ∷ 0 ∷ []
+  nine-depth-first : answered (deep (lentW 2 0 5136)) ≡ 9 ∷ 0 ∷ 0 ∷ []
   -- 10. "Is the work slice at least 8,192 numbers of 32 bits?"
-  ten : answered (plain (lentW 1 8191 4624)) ≡ 10 ∷ 0 ∷ 0 ∷ []
-  ten-enough : plain (lentW 1 8192 4624) .number ≡ 0
-  ten-not-asked : deep (lentW 1 0 4624) .number ≡ 0
-  -- 11. "Is the result buffer at least 4,624 bytes?"
-  eleven : answered (plain (lentW 1 8192 4623)) ≡ 11 ∷ 0 ∷ 0 ∷ []
-  eleven-depth-first : answered (deep (lentW 1 0 4623)) ≡ 11 ∷ 0 ∷ 0 ∷ []
+  ten : answered (plain (lentW 1 8191 5136)) ≡ 10 ∷ 0 ∷ 0 ∷ []
+  ten-enough : plain (lentW 1 8192 5136) .number ≡ 0
+  ten-not-asked : deep (lentW 1 0 5136) .number ≡ 0
+  -- 11. "Is the result buffer at least 5,136 bytes?"
+  eleven : answered (plain (lentW 1 8192 5135)) ≡ 11 ∷ 0 ∷ 0 ∷ []
+  eleven-depth-first : answered (deep (lentW 1 0 5135)) ≡ 11 ∷ 0 ∷ 0 ∷ []
   -- "Questions 1 to 11 are each put of the whole input before the next"
   four-before-nine : answered (plain (lending unordered 2 0 0)) ≡ 4 ∷ 0 ∷ 0 ∷ []
-  nine-before-ten : answered (plain (lentW 2 8191 4624)) ≡ 9 ∷ 0 ∷ 0 ∷ []
-  nine-before-eleven : answered (plain (lentW 2 8192 4623)) ≡ 9 ∷ 0 ∷ 0 ∷ []
-  ten-before-eleven : answered (plain (lentW 1 8191 4623)) ≡ 10 ∷ 0 ∷ 0 ∷ []
-  nine-to-eleven : answered (timetabled (lentW 2 8191 4623) (2 ∷ [])) ≡ 9 ∷ 0 ∷ 0 ∷ []
-  nine-before-eleven-depth-first : answered (deep (lentW 2 0 4623)) ≡ 9 ∷ 0 ∷ 0 ∷ []
-  ten-before-twelve : answered (timetabled (lentW 1 8191 4624) (2 ∷ [])) ≡ 10 ∷ 0 ∷ 0 ∷ []
+  nine-before-ten : answered (plain (lentW 2 8191 5136)) ≡ 9 ∷ 0 ∷ 0 ∷ []
+  nine-before-eleven : answered (plain (lentW 2 8192 5135)) ≡ 9 ∷ 0 ∷ 0 ∷ []
+  ten-before-eleven : answered (plain (lentW 1 8191 5135)) ≡ 10 ∷ 0 ∷ 0 ∷ []
+  nine-to-eleven : answered (timetabled (lentW 2 8191 5135) (2 ∷ [])) ≡ 9 ∷ 0 ∷ 0 ∷ []
+  nine-before-eleven-depth-first : answered (deep (lentW 2 0 5135)) ≡ 9 ∷ 0 ∷ 0 ∷ []
+  ten-before-twelve : answered (timetabled (lentW 1 8191 5136) (2 ∷ [])) ≡ 10 ∷ 0 ∷ 0 ∷ []
   -- 12. "Per timetable byte: is it a present level?" Session W has levels 0 and 1
   twelve-first : ranW (2 ∷ []) ≡ refused 12 0
   twelve-later : ranW (0 ∷ 0 ∷ 0 ∷ 2 ∷ 1 ∷ []) ≡ refused 12 3
@@ -99,8 +99,8 @@ pub record Refusals : Type 0 where
   fifteen-empty : ranW [] ≡ refused 15 0
   fifteen : ranW (replicate 6 0 ++ replicate 5 1) ≡ refused 15 0
   -- "Up to 11, both buffers stay untouched"
-  ten-untouched : isUntouched (plain (lentW 1 8191 4626)) ≡ true
-  eleven-untouched-depth-first : isUntouched (deep (lentW 1 8194 4623)) ≡ true
+  ten-untouched : isUntouched (plain (lentW 1 8191 5138)) ≡ true
+  eleven-untouched-depth-first : isUntouched (deep (lentW 1 8194 5135)) ≡ true
   -- "After 12 to 15 the result buffer is untouched; then .. the work slice's first 8,192 numbers are 0"
   twelve-answered : answered stoppedRun ≡ 12 ∷ 1 ∷ 0 ∷ []
   twelve-cleared : isCleared stoppedRun ≡ true
@@ -110,7 +110,7 @@ pub record Refusals : Type 0 where
   finished-answered : answered finishedRun ≡ 0 ∷ 0 ∷ 80 ∷ []
   finished-work : isZeroed finishedRun ≡ true
   finished-beyond : every (eqb 9) (drop 80 (finishedRun .buffer)) ≡ true
-  finished-length : length (finishedRun .buffer) ≡ 4625
+  finished-length : length (finishedRun .buffer) ≡ 5137
   finished-work-depth-first : every (eqb 7) (deep (lent sessionW 1) .work) ≡ true
   finished-beyond-depth-first : every (eqb 9) (drop 80 (deep (lent sessionW 1) .buffer)) ≡ true
 

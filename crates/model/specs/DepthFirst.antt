@@ -3,7 +3,7 @@
 -- its fields, histories and reply (`Root`: `same-result`). The run step by step: `Laws/Code/DepthFirst`.
 use Prim.Native.Nat.{ℕ, zero, suc, _+_}
 use mathlib.Core.Bool.{cond, _&&_}
-use mathlib.Core.List.{List, [], _∷_}
+use mathlib.Core.List.{List, [], _∷_, _++_}
 use lib.Dec.{eqb, ltb}
 use lib.ListN.{length, getD, replicate}
 use Rattle.session.specs.Program.{Program}
@@ -14,24 +14,18 @@ use Rattle.scripts.specs.Limits.{maxScriptSteps}
 use Rattle.scripts.specs.Ending.{isRunning}
 use Rattle.scripts.specs.Manager.{started, stepped}
 use Rattle.scripts.specs.State.{Manager}
-use Rattle.scripts.specs.Effect.{Effect, Nothing, Write, Fork}
+use Rattle.scripts.specs.Effect.{Written, Effect, Nothing, Write, Fork}
 use Rattle.model.specs.Limits.{maxManagers}
 use Rattle.model.specs.Lists.{inserted, modify}
 use Rattle.model.specs.Fork as fork
 use Rattle.model.specs.History.{History, historyOf}
-
--- a field's value, as written
-pub record Written : Type 0 where
-  pub object : ℕ
-  pub field : ℕ
-  pub value : Value
 
 -- what is counted at a level: the histories, by rising stamp, and the write stamp of the next manager
 pub record Tally : Type 0 where
   pub ended : List History
   pub next : ℕ
 
--- the fields written, newest first, and each level's counts
+-- what is written, newest first, and each level's counts
 pub record Progress : Type 0 where
   pub written : List Written
   pub levels : List Tally
@@ -67,8 +61,7 @@ RunFork = ℕ → fork.Fork → Progress → Progress
 -- its sender continues"; "A level keeps the 32 forks of smallest stamp": here, the first ones
 unfoldable pub effected : RunFork → ℕ → fork.Fork → Manager → Effect → Progress → Progress
 effected run l x m Nothing g = g
-effected run l x m (Write object k v) g =
-    record { written = record { object = object; field = k; value = v } ∷ g .written; levels = g .levels }
+effected run l x m (Write written) g = record { written = written ++ g .written; levels = g .levels }
 effected run l x m (Fork u message) g =
     let ran = run u (fork.childOf l x m message) g in
     cond (ltb (length (tallyAt g u .ended)) maxManagers) ran g

@@ -39,7 +39,7 @@ question9 q = ltb (q .clearance) (levelCount (q .session))
 abbrev pub question10 : Request → Bool
 question10 q = leb workNumbers (length (q .work))
 
--- 11. Is the result buffer at least 4,624 bytes?
+-- 11. Is the result buffer at least 5,136 bytes?
 abbrev pub question11 : Request → Bool
 question11 q = leb resultBytes (length (q .buffer))
 

@@ -8,18 +8,23 @@ use lib.Dec.{eqb, leb}
 use lib.ListN.{length, take}
 use Rattle.session.specs.declared.Value.{Value}
 use Rattle.scripts.specs.Ending.{isRunning}
+use Rattle.scripts.specs.Effect.{Written}
 use Rattle.scripts.specs.State.{Manager}
 use Rattle.model.specs.Limits.{maxManagers}
 use Rattle.model.specs.Lists.{inserted}
 use Rattle.model.specs.Fork.{Fork}
 use Rattle.model.specs.History.{History, historyOf}
 
--- "Versions written carry it": a field's value under a write stamp
+-- "Versions written carry it": a value of a field, or of existence, under a write stamp
 pub record Version : Type 0 where
   pub stamp : ℕ
   pub object : ℕ
   pub field : ℕ
   pub value : Value
+
+-- what is written under a write stamp
+abbrev pub versionOf : ℕ → Written → Version
+versionOf stamp w = record { stamp = stamp; object = w .object; field = w .field; value = w .value }
 
 -- the manager that runs at a level, with its fork, if one does
 pub data Activity : Type 0 where

@@ -1,6 +1,6 @@
 -- The numbers that documents 01 and 02 fix for runs. Assumes nothing.
 use Prim.Native.Nat.{ℕ, _+_, _*_}
-use Rattle.session.specs.Limits.{recordBytes, maxLevels, maxObjects}
+use Rattle.session.specs.Limits.{recordBytes, maxLevels, maxNumbers}
 use Rattle.scripts.specs.Limits.{maxScriptSteps, maxWrites}
 
 -- "A level keeps the 32 forks of smallest stamp"
@@ -15,9 +15,9 @@ stampDigits = 7
 abbrev pub workNumbers : ℕ
 workNumbers = maxLevels * maxManagers * maxWrites * 2
 
--- question 11: a record for each object, each manager and the reply
+-- question 11: a record for each number of an object, each manager and the reply; "question 11 wants 5,136 bytes" (document 02, job 7)
 abbrev pub resultBytes : ℕ
-resultBytes = recordBytes * (maxObjects + maxLevels * maxManagers + 1)
+resultBytes = recordBytes * (maxNumbers + maxLevels * maxManagers + 1)
 
 -- document 02, job 3: "27 columns and a line feed each"
 abbrev pub lineBytes : ℕ

@@ -2,15 +2,16 @@
 -- Laws, in `theorems` (`Laws/Reader/Bytes`): what a reader finds in the bytes of a result (`objects-found`, `histories-found`, `reply-found`), and
 -- that they are made of it (`made-of-records`); what is read off a history's record (`Reader/Fields`).
 use Prim.Native.Nat.{ℕ, _+_, _*_, _/_, _%_, _^_}
-use mathlib.Core.Bool.{cond}
+use mathlib.Core.Bool.{Bool, cond, _&&_}
 use mathlib.Core.List.{List, [], _∷_, _++_, map}
 use lib.ListN.{replicate}
+use Rattle.session.specs.Limits.{maxObjects, madeObjects}
 use Rattle.session.specs.Lists.{tab, select, joined}
 use Rattle.session.specs.Record.{Record, byteOf, wordOf}
 use Rattle.session.specs.Program.{Program}
 use Rattle.session.specs.declared.Value.{Value}
 use Rattle.session.specs.declared.Value.the-variants.{Nil}
-use Rattle.scripts.specs.Existence.{initially}
+use Rattle.scripts.specs.Existence.{existence, initially, isThere}
 use Rattle.scripts.specs.Value.{tag, numberIn}
 use Rattle.scripts.specs.Ending.{numberOfEnding}
 use Rattle.model.specs.History.{History}
@@ -18,7 +19,7 @@ use Rattle.model.specs.Level.{newest}
 use Rattle.model.specs.Step.{State, levelAt}
 use Rattle.model.specs.DepthFirst.{Progress, tallyAt, fieldNow}
 
--- what a run leaves: the fields, and the histories of each level in stamp order
+-- what a run leaves: the fields and the existence of objects, and the histories of each level in stamp order
 pub record Result : Type 0 where
   pub field : ℕ → ℕ → Value
   pub ended : ℕ → List History
@@ -90,10 +91,16 @@ stepsIn rec = halfOf rec 12
 unfoldable pub replyRecord : ℕ → Value → Record
 replyRecord level v = 7 ∷ level ∷ 0 ∷ tag v ∷ [] ++ bytes4 (numberIn v) ++ replicate 8 0
 
--- "Kind 5: objects by number", "For levels the clearance dominates"
+-- "Kind 5: objects by number": those of the session; "Existing made cards are shown after the others by number" (document 02, job 7)
+abbrev pub numbersOf : Program → List ℕ
+numbersOf p = tab (p .objects) (λ o. o) ++ tab (madeObjects * p .levels) (λ i. maxObjects + i)
+
+-- "For levels the clearance dominates"; "A card withdrawn by the end is not shown", nor is one that was never made
+abbrev pub isShown : Program → Result → ℕ → ℕ → Bool
+isShown p r c o = p .dom c (p .level o) && isThere (r .field o existence)
+
 unfoldable pub objectsShown : Program → Result → ℕ → List Record
-objectsShown p r c =
-    map (λ o. objectRecord o (p .level o) (r .field o)) (select (λ o. p .dom c (p .level o)) (tab (p .objects) (λ o. o)))
+objectsShown p r c = map (λ o. objectRecord o (p .level o) (r .field o)) (select (isShown p r c) (numbersOf p))
 
 -- the levels that clearance c is shown, by rising number
 abbrev pub levelsShown : Program → ℕ → List ℕ

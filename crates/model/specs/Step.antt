@@ -4,7 +4,7 @@
 -- the whole program and the whole state: `Laws/Code/Direct`.
 use Prim.Native.Nat.{ℕ}
 use mathlib.Core.Bool.{cond}
-use mathlib.Core.List.{List, [], _∷_}
+use mathlib.Core.List.{List, [], _∷_, _++_, map}
 use lib.Dec.{eqb}
 use lib.ListN.{getD}
 use Rattle.session.specs.Lists.{tab}
@@ -17,7 +17,7 @@ use Rattle.scripts.specs.Effect.{Effect, Nothing, Write, Fork}
 use Rattle.model.specs.Lists.{modify}
 use Rattle.model.specs.Fork as fork
 use Rattle.model.specs.History.{endBefore}
-use Rattle.model.specs.Level.{Version, Activity, idle, busy, Level, newLevel, arrived, after, newest, newestTo}
+use Rattle.model.specs.Level.{Version, versionOf, Activity, idle, busy, Level, newLevel, arrived, after, newest, newestTo}
 
 -- all levels, each at its number
 abbrev pub State : Type 0
@@ -59,13 +59,13 @@ pub record Moved : Type 0 where
 -- one stamp replacing the earlier", since it is found first
 abbrev pub versionsAfter : Manager → Effect → List Version → List Version
 versionsAfter m Nothing ws = ws
-versionsAfter m (Write object k v) ws = record { stamp = m .stamp; object = object; field = k; value = v } ∷ ws
+versionsAfter m (Write written) ws = map (versionOf (m .stamp)) written ++ ws
 versionsAfter m (Fork u message) ws = ws
 
 -- the fork that it makes
 abbrev pub arrivalOf : ℕ → fork.Fork → Manager → Effect → Arrival
 arrivalOf l x m Nothing = none
-arrivalOf l x m (Write object k v) = none
+arrivalOf l x m (Write written) = none
 arrivalOf l x m (Fork u message) = at u (fork.childOf l x m message)
 
 -- "makes one script step of the running one"

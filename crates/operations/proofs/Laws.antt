@@ -2,3 +2,4 @@
 pub mod Closed
 pub mod Makes
 pub mod Operations
+pub mod Changes

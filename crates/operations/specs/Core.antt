@@ -8,8 +8,10 @@ use mathlib.Core.Path.{_≡_}
 use mathlib.Core.Bool.{Bool, true, false}
 use mathlib.Core.List.{List, [], _∷_}
 use Rattle.session.specs.Limits.{fields}
-use Rattle.session.specs.Parts.{levelCount, objectCount}
+use Rattle.session.specs.Parts.{levelCount}
+use Rattle.session.specs.Meaning.{Numbered}
 use Rattle.session.specs.Program.{Program}
+use Rattle.scripts.specs.Existence.{existence}
 use Rattle.scripts.specs.Limits.{maxFrames, maxScriptSteps, maxWrites, maxForks, writeStamps}
 use Rattle.scripts.specs.Ending.{isRunning}
 use Rattle.scripts.specs.Effect as effect
@@ -20,7 +22,7 @@ use Rattle.scripts.specs.declared.Ended.{Ended}
 use Rattle.frames.specs.Frames.{intoOf, returnsOf, slotOn, answerOn, scriptIn, nameIn, frameOf, Method, Called, Placed}
 use Rattle.operations.specs.declared.Core.{Core}
 use Rattle.operations.specs.declared.Effect.{Effect}
-use Rattle.operations.specs.declared.Effect.the-variants.{Nothing, End, Write, Read, Fork, Call, Pop}
+use Rattle.operations.specs.declared.Effect.the-variants.{Nothing, End, Write, Read, Change, Fork, Call, Pop}
 
 -- a manager with these frames
 abbrev pub bare : Core → List defined.Frame → defined.Manager
@@ -46,12 +48,13 @@ abbrev pub stackOf : ℕ → defined.Frame → List defined.Frame → List defin
 stackOf zero f gs = []
 stackOf (suc h) f gs = f ∷ gs
 
--- what its last script step did outside it. What is left to do to the frames, and a READ that is asked for, is nothing outside
+-- what its last script step did outside it. What is left to do to the frames, and a step that is not made, is nothing outside
 abbrev pub effectOf : Effect → effect.Effect
 effectOf Nothing = effect.Nothing
 effectOf End = effect.Nothing
-effectOf (Write object field value) = effect.Write object field value
+effectOf (Write object field value) = effect.Write (record { object = object; field = field; value = value } ∷ [])
 effectOf (Read object field) = effect.Nothing
+effectOf Change = effect.Nothing
 effectOf (Fork level object name parameter) = effect.Fork level (record { object = object; name = name; parameter = parameter })
 effectOf (Call object way parameter) = effect.Nothing
 effectOf (Pop reply) = effect.Nothing
@@ -62,6 +65,7 @@ settledOf p c gs Nothing = concluded p (standing c gs)
 settledOf p c gs End = bare c (stackOf (c .height) (frameOf (c .top)) gs)
 settledOf p c gs (Write object field value) = concluded p (standing c gs)
 settledOf p c gs (Read object field) = standing c gs
+settledOf p c gs Change = standing c gs
 settledOf p c gs (Fork level object name parameter) = concluded p (standing c gs)
 settledOf p c gs (Call object way parameter) =
     concluded p (bare c (frameFor object (scriptIn (slotOn way)) (nameIn (slotOn way)) (intoOf (answerOn way)) (returnsOf (answerOn way)) parameter ∷ frameOf (c .top) ∷ gs))
@@ -76,16 +80,18 @@ isOver Nothing = false
 isOver End = true
 isOver (Write object field value) = false
 isOver (Read object field) = false
+isOver Change = false
 isOver (Fork level object name parameter) = false
 isOver (Call object way parameter) = false
 isOver (Pop reply) = false
 
--- is it a READ that is asked for
+-- is the step not made: something is asked for, or it is a CREATE or WITHDRAW
 abbrev pub isAsking : Effect → Bool
 isAsking Nothing = false
 isAsking End = false
 isAsking (Write object field value) = false
 isAsking (Read object field) = true
+isAsking Change = true
 isAsking (Fork level object name parameter) = false
 isAsking (Call object way parameter) = false
 isAsking (Pop reply) = false
@@ -96,6 +102,7 @@ isNothing Nothing = true
 isNothing End = false
 isNothing (Write object field value) = false
 isNothing (Read object field) = false
+isNothing Change = false
 isNothing (Fork level object name parameter) = false
 isNothing (Call object way parameter) = false
 isNothing (Pop reply) = false
@@ -106,6 +113,7 @@ isDone Nothing = true
 isDone End = true
 isDone (Write object field value) = true
 isDone (Read object field) = true
+isDone Change = true
 isDone (Fork level object name parameter) = true
 isDone (Call object way parameter) = false
 isDone (Pop reply) = false
@@ -116,6 +124,7 @@ Tall Nothing h = Unit
 Tall End h = Unit
 Tall (Write object field value) h = Unit
 Tall (Read object field) h = Unit
+Tall Change h = Unit
 Tall (Fork level object name parameter) h = Unit
 Tall (Call object way parameter) h = h < maxFrames
 Tall (Pop reply) h = 1 < h
@@ -124,8 +133,9 @@ Tall (Pop reply) h = 1 < h
 abbrev pub Present : List ℕ → Effect → Type 0
 Present s Nothing = Unit
 Present s End = Unit
-Present s (Write object field value) = (object < objectCount s) × (field < fields)
-Present s (Read object field) = (object < objectCount s) × (field < fields)
+Present s (Write object field value) = Numbered s object × (field < fields)
+Present s (Read object field) = Numbered s object × (field ≤ existence)
+Present s Change = Unit
 Present s (Fork level object name parameter) = (level < levelCount s) × Method object name s
 Present s (Call object way parameter) = Called object (slotOn way) s
 Present s (Pop reply) = Unit

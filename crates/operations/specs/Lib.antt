@@ -1,3 +1,4 @@
 -- What the contracts of this crate cite.
 pub mod Core
 pub mod Moves
+pub mod Changes

@@ -1,5 +1,6 @@
 // Operations: what a script step makes of a message manager but for the frames that wait below its top,
 // by value.
+mod changes;
 mod ends;
 mod moves;
 mod operations;
@@ -46,7 +47,7 @@ pub enum Effect {
         field: u8,
         value: Value,
     },
-    // The step is a READ of a field that is not at hand, and is not made.
+    // The step needs a field or the existence of an object that is not at hand, and is not made.
     Read {
         object: u8,
         field: u8,
@@ -58,6 +59,8 @@ pub enum Effect {
         name: u8,
         parameter: Value,
     },
+    // The step is a CREATE or a WITHDRAW, and is not made.
+    Change,
     // A frame is to be made above the top. Nobody outside sees this.
     Call {
         object: u8,
@@ -66,6 +69,22 @@ pub enum Effect {
     },
     // The top is to pop with a reply. Nobody outside sees this.
     Pop(Value),
+}
+
+// What a CREATE or WITHDRAW does outside its manager.
+pub enum Change {
+    Nothing,
+    // An object of the manager's level is made, with a script. Its fields are registers 1, 2 and 3 of the top before
+    // the step.
+    Create { object: u8, script: u8 },
+    // An object of the manager's level is withdrawn.
+    Withdraw { object: u8 },
+}
+
+// A core after a CREATE or WITHDRAW, and what that does outside it.
+pub struct Changed {
+    pub core: Core,
+    pub change: Change,
 }
 
 // Whether a step did nothing outside its manager, asks nothing, and leaves nothing to do.

@@ -11,14 +11,15 @@ use session::Value;
 ghost use Prim.Native.Nat.{_≤_, _<_};
 ghost use mathlib.Core.Path.{_≡_};
 ghost use mathlib.Core.Bool.{cond};
-ghost use Rattle.session.specs.Limits.{maxObjects, fields, registers, names};
+ghost use Rattle.session.specs.Limits.{maxNumbers, fields, registers, names};
 ghost use Rattle.session.specs.Parts.{levelCount, objectCount};
+ghost use Rattle.session.specs.Meaning.{Numbered};
 ghost use Rattle.scripts.specs.Limits.{maxScriptSteps};
 ghost use Rattle.scripts.specs.Value.{isNilOr0};
 ghost use Rattle.scripts.specs.Frame.{frameFor, register, withRegister, atStep};
-ghost use Rattle.scripts.specs.Manager.{called, forked};
+ghost use Rattle.scripts.specs.Manager.{charged, called, forked};
 ghost use Rattle.frames.specs.Frames.{Method};
-ghost use Rattle.operations.specs.Moves.{Able, Moves, Makes, passed, pastOf, nextTop, ownWritten};
+ghost use Rattle.operations.specs.Moves.{Able, Moves, Makes, passed, pastOf, nextTop, ownField};
 
 impl Core {
     // A script step that leaves another top.
@@ -66,7 +67,7 @@ impl Core {
     // ninth is not made.
     pub fn call(self, a: u8, b: u8, c: u8, script: u8, returns: bool) -> Core
         requires { ⌜ Able self × (a < registers) × (b < names) ⌝ }
-        ensures { λ r. ⌜ Makes (λ s. (c < objectCount s) × (script ≤ objectCount s)) self r (λ m. called m (passed m) a (frameFor c script b a returns (register (passed m) a))) ⌝ }
+        ensures { λ r. ⌜ Makes (λ s. Numbered s c × (script ≤ objectCount s)) self r (λ m. called m (passed m) a (frameFor c script b a returns (register (passed m) a))) ⌝ }
     {
         if self.height >= MAX_FRAMES {
             return self.put(a, Value::Nil);
@@ -103,11 +104,11 @@ impl Core {
         Core { forks, effect, ..m }
     }
 
-    // A write of register `a` to field `b` of an object of the manager's level. A seventeenth is not made:
-    // it ends the manager.
+    // A write of register `a` to field `b` of the top's object, which is of the manager's level. A seventeenth is not
+    // made: it ends the manager.
     pub fn write_own(self, a: u8, b: u8) -> Core
-        requires { ⌜ Able self × (self .top .object < maxObjects) ⌝ }
-        ensures { λ r. ⌜ Makes (λ s. (self .top .object < objectCount s) × (b < fields)) self r (λ m. ownWritten m b (register (passed m) a)) ⌝ }
+        requires { ⌜ Able self × (self .top .object < maxNumbers) ⌝ }
+        ensures { λ r. ⌜ Makes (λ s. Numbered s (self .top .object) × (b < fields)) self r (λ m. charged m (passed m) (passed m) (ownField (passed m) b (register (passed m) a))) ⌝ }
     {
         let f = self.top;
         let m = self.pass();

@@ -33,15 +33,15 @@ summary a =
     ∷ []
 
 pub record Answered : Type 0 where
-  run : summary (asked sessionW 1 resultBytes pageBytes) ≡ 0 ∷ 0 ∷ 80 ∷ 140 ∷ 4624 ∷ 7420 ∷ old ∷ old ∷ []
+  run : summary (asked sessionW 1 resultBytes pageBytes) ≡ 0 ∷ 0 ∷ 80 ∷ 140 ∷ 5136 ∷ 7420 ∷ old ∷ old ∷ []
   page : take 140 (asked sessionW 1 resultBytes pageBytes .page)
       ≡ codes "00000000 0 0  1   1   2   5\n10000000 1 0  2   1   1   5\nTOTAL                    10\nLEVEL 0           5       0\nLEVEL 1           5       0\n"
   lower-page : take 84 (asked sessionW 0 resultBytes pageBytes .page)
       ≡ codes "00000000 0 0  1   1   2   5\nTOTAL                     5\nLEVEL 0           5       0\n"
-  short-page : summary (asked sessionW 1 resultBytes 7419) ≡ 16 ∷ 0 ∷ 0 ∷ 0 ∷ 4624 ∷ 7419 ∷ old ∷ old ∷ []
-  both-short : summary (asked sessionW 1 4623 7419) ≡ 11 ∷ 0 ∷ 0 ∷ 0 ∷ 4623 ∷ 7419 ∷ old ∷ old ∷ []
-  no-level : summary (asked sessionW 2 4623 7419) ≡ 9 ∷ 0 ∷ 0 ∷ 0 ∷ 4623 ∷ 7419 ∷ old ∷ old ∷ []
-  no-session : summary (asked [] 2 4623 7419) ≡ 1 ∷ 0 ∷ 0 ∷ 0 ∷ 4623 ∷ 7419 ∷ old ∷ old ∷ []
+  short-page : summary (asked sessionW 1 resultBytes 7419) ≡ 16 ∷ 0 ∷ 0 ∷ 0 ∷ 5136 ∷ 7419 ∷ old ∷ old ∷ []
+  both-short : summary (asked sessionW 1 5135 7419) ≡ 11 ∷ 0 ∷ 0 ∷ 0 ∷ 5135 ∷ 7419 ∷ old ∷ old ∷ []
+  no-level : summary (asked sessionW 2 5135 7419) ≡ 9 ∷ 0 ∷ 0 ∷ 0 ∷ 5135 ∷ 7419 ∷ old ∷ old ∷ []
+  no-session : summary (asked [] 2 5135 7419) ≡ 1 ∷ 0 ∷ 0 ∷ 0 ∷ 5135 ∷ 7419 ∷ old ∷ old ∷ []
 
 pub answered : Answered
 unfolding computing codes hexIn alignedIn frontOf lineOf totalLine averageLine sumOf levelsIn pageOf pageRefusal paged

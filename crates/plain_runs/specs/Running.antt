@@ -1,15 +1,17 @@
 -- A level that is run until it has no manager. No meaning rests on these. Assumes nothing.
--- Laws: steps of one manager in a row, while its end may not be noted (`proofs/Laws/Unsettled`); a manager that has advanced (`Running`), from
--- its start to its end (`Next`); a level until it has no manager (`Level`).
-use Prim.Native.Nat.{ℕ, _+_, _<_}
+-- Laws: steps of one manager in a row, while its end may not be noted (`proofs/Laws/Unsettled`); what their effects leave as it was
+-- (`Outside`); a manager that has advanced (`Running`), and what is left of its steps and questions (`Left`), from its start to its end
+-- (`Next`); a level until it has no manager (`Level`).
+use Prim.Native.Nat.{ℕ, _+_, _≤_, _<_}
 use mathlib.Core.Path.{_≡_}
 use mathlib.Core.Bool.{true}
 use mathlib.Core.List.{List}
 use lib.ListN.{getD}
-use Rattle.session.specs.Limits.{fields}
-use Rattle.session.specs.Parts.{levelCount, objectCount}
+use Rattle.session.specs.Limits.{maxNumbers}
+use Rattle.session.specs.Parts.{levelCount}
 use Rattle.session.specs.Meaning.{levelOf}
 use Rattle.session.specs.Program.{programOf}
+use Rattle.scripts.specs.Existence.{existence}
 use Rattle.scripts.specs.State.{Manager}
 use Rattle.words.specs.Fields.{fieldAt, knownAt}
 use Rattle.model.specs.Level.{idle}
@@ -30,10 +32,10 @@ pub record Draining (s : List ℕ) (from : State) (w : Words) (l : ℕ) (m : Man
   pub others : (k : ℕ) → k < levelCount s → (k ≡ l → ⊥) → levelAt state k .activity ≡ idle
   pub quiet : conservative (programOf s) state l ≡ true
 
--- what is kept of the fields that the manager of level l has read at other levels is what it reads there
+-- what is kept of what the manager of level l has read is of objects of other levels, and is what it reads there
 abbrev pub KnownIsRead : List ℕ → Words → ℕ → List ℕ → Type 0
 KnownIsRead s w l cache =
-    (o k : ℕ) → o < objectCount s → k < fields → (levelOf s o ≡ l → ⊥) → knownAt cache o k ≡ true → fieldAt cache o k ≡ foundIn s w l o k
+    (o k : ℕ) → o < maxNumbers → k ≤ existence → knownAt cache o k ≡ true → (levelOf s o ≡ l → ⊥) × (fieldAt cache o k ≡ foundIn s w l o k)
 
 -- a manager waits at level l, and none runs there
 pub record NextReady (s : List ℕ) (w : Words) (l : ℕ) : Type 0 where

@@ -4,6 +4,7 @@ use level_managers::steps;
 use operations::Effect;
 use scripts::MAX_SCRIPT_STEPS;
 use tallies::WAITING;
+use words::fields;
 use words::fields::FIELD_WORDS;
 ghost use Rattle.model.specs.Schedule.{initialState};
 ghost use Rattle.level_managers.specs.Steps.{Tables};
@@ -30,10 +31,21 @@ fn run_next(
     ensures { λ _. ⌜ NextDone (now (session .entry)) (record { current = now (current .entry); ended = now (ended .entry); tallies = now (tallies .entry); queue = now (queue .entry); work = now (work .entry) }) (record { current = now (current .exit); ended = now (ended .exit); tallies = now (tallies .exit); queue = now (queue .exit); work = now (work .exit) }) level ⌝ }
 {
     let mut cache = [0u32; FIELD_WORDS];
-    let mut m = steps::start(session, index, ended, tallies, queue, level);
+    let mut m = steps::start(
+        session,
+        masks,
+        index,
+        current,
+        ended,
+        tallies,
+        queue,
+        work,
+        level,
+    );
     let core = m.core;
     let mut ending = core.ending;
     while scripts::is_running(ending) {
+        let unchanged = tallies::is_unchanged(tallies);
         m = m.advance(
             session,
             masks,
@@ -41,12 +53,28 @@ fn run_next(
             current,
             &cache,
             false,
+            unchanged,
             MAX_SCRIPT_STEPS,
         );
         let core = m.core;
         ending = core.ending;
         let effect = core.effect;
         if let Effect::Read { object, field } = effect {
+            if field == fields::EXISTENCE {
+                steps::answer_existence(
+                    session,
+                    masks,
+                    current,
+                    ended,
+                    tallies,
+                    queue,
+                    work,
+                    &mut cache,
+                    level,
+                    object,
+                );
+                continue;
+            }
             steps::answer_read(
                 session,
                 masks,
@@ -60,6 +88,13 @@ fn run_next(
                 object,
                 field,
             );
+            continue;
+        }
+        if let Effect::Change = effect {
+            m = steps::change(session, masks, index, current, tallies, work, level, m);
+            let after = m.core;
+            ending = after.ending;
+            steps::settle(ended, tallies, queue, level, after);
             continue;
         }
         let first = core.first;

@@ -8,7 +8,7 @@ ghost use mathlib.Core.Path.{_≡_};
 ghost use mathlib.Core.List.{_∷_, _++_};
 ghost use Prim.Native.Nat.{_%_, _^_, _≤_, _<_};
 ghost use lib.ListN.{length};
-ghost use Rattle.session.specs.Limits.{maxObjects, maxLevels};
+ghost use Rattle.session.specs.Limits.{maxNumbers, maxLevels};
 ghost use Rattle.scripts.specs.Ending.{numberOfEnding};
 ghost use Rattle.words.specs.Limits.{fieldWords};
 ghost use Rattle.words.specs.Fields.{fieldAt};
@@ -92,7 +92,7 @@ fn record_of(
 
 // Kind 5, of an object at a level.
 pub fn object_record(fields: &[u32], object: usize, level: usize) -> [u8; RECORD_BYTES]
-    requires { ⌜ (fieldWords ≤ length (now fields)) × (object < maxObjects) × (level < maxLevels) ⌝ }
+    requires { ⌜ (fieldWords ≤ length (now fields)) × (object < maxNumbers) × (level < maxLevels) ⌝ }
     ensures { λ r. ⌜ r ≡ objectRecord object level (fieldAt (now (fields .entry)) object) ⌝ }
 {
     let v0 = fields::get(fields, object, 0);

@@ -1,4 +1,5 @@
-// Result records: kinds 5, 6 and 7 as bytes, from the fields and histories of a run kept in words.
+// Result records: kinds 5, 6 and 7 as bytes, from the fields and existence of objects and the histories of a run, kept
+// in words.
 mod bytes;
 pub mod histories;
 pub mod limits;

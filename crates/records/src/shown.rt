@@ -3,23 +3,26 @@
 use crate::bytes;
 use crate::places;
 use session::Value;
+use session::limits::FIRST_MADE;
+use session::limits::MADE_OBJECTS;
 use session::limits::RECORD_BYTES;
+use words::fields;
 use words::values;
 ghost use mathlib.Core.Path.{_≡_};
 ghost use mathlib.Core.List.{map};
 ghost use Prim.Native.Nat.{_+_, _*_, _≤_, _<_};
 ghost use lib.ListN.{length};
 ghost use Rattle.lattice.specs.Table.{dominates};
-ghost use Rattle.session.specs.Limits.{recordBytes, maxLevels, maxObjects};
+ghost use Rattle.session.specs.Limits.{recordBytes, maxLevels, maxNumbers};
 ghost use Rattle.session.specs.Lists.{tab, joined};
-ghost use Rattle.session.specs.Parts.{objectCount};
+ghost use Rattle.session.specs.Meaning.{Numbered};
 ghost use Rattle.session.specs.Program.{programOf};
 ghost use Rattle.words.specs.Fields.{fieldAt, FieldsReady};
 ghost use Rattle.model.specs.Limits.{maxManagers};
 ghost use Rattle.model.specs.Result.{historyRecord, replyOf};
 ghost use Rattle.records.specs.Limits.{historyWords};
 ghost use Rattle.records.specs.Histories.{historiesAt, endedIn, HistoriesReady};
-ghost use Rattle.records.specs.Writing.{shownObject, shownLevel, shownReply, Placed};
+ghost use Rattle.records.specs.Writing.{shownObject, shownObjects, shownLevel, shownReply, NumberedFrom, Placed};
 
 // Writes one record.
 fn put(result: &mut [u8], at: usize, bytes: &[u8; RECORD_BYTES]) -> usize
@@ -32,45 +35,77 @@ fn put(result: &mut [u8], at: usize, bytes: &[u8; RECORD_BYTES]) -> usize
     at + RECORD_BYTES
 }
 
-// Writes an object's record, if the clearance dominates its level.
+// Writes an object's record, if the object is there and the clearance dominates its level.
 fn write_object(
     session: &[u8],
     masks: &[u16],
-    fields: &[u32],
+    current: &[u32],
     clearance: usize,
     object: usize,
     result: &mut [u8],
     at: usize,
 ) -> usize
-    requires { ⌜ FieldsReady (now session) (now masks) (now fields) × (object < objectCount (now session)) × (at + recordBytes ≤ length (now result)) ⌝ }
-    ensures { λ next. ⌜ Placed (shownObject (programOf (now (session .entry))) (fieldAt (now (fields .entry))) clearance object) at (now (result .entry)) (now (result .exit)) next ⌝ }
+    requires { ⌜ FieldsReady (now session) (now masks) (now current) × Numbered (now session) object × (at + recordBytes ≤ length (now result)) ⌝ }
+    ensures { λ next. ⌜ Placed (shownObject (programOf (now (session .entry))) (fieldAt (now (current .entry))) clearance object) at (now (result .entry)) (now (result .exit)) next ⌝ }
 {
+    if !fields::is_there(current, object) {
+        return at;
+    }
     let level = contents::level_of(session, masks, object);
     if lattice::dominates(masks, clearance, level) {
-        let made = bytes::object_record(fields, object, level);
+        let made = bytes::object_record(current, object, level);
         put(result, at, &made)
     } else {
         at
     }
 }
 
-// Writes the objects' records, by rising number, from the buffer's start on.
+// Writes the records of those of the `count` objects from number `first` on that are shown, by rising number.
+fn write_range(
+    session: &[u8],
+    masks: &[u16],
+    current: &[u32],
+    clearance: usize,
+    first: usize,
+    count: usize,
+    result: &mut [u8],
+    start: usize,
+) -> usize
+    requires { ⌜ FieldsReady (now session) (now masks) (now current) × NumberedFrom (now session) first count × (start + recordBytes * count ≤ length (now result)) ⌝ }
+    ensures { λ next. ⌜ Placed (joined (tab count (λ i. shownObject (programOf (now (session .entry))) (fieldAt (now (current .entry))) clearance (first + i)))) start (now (result .entry)) (now (result .exit)) next ⌝ }
+{
+    let mut at = start;
+    for i in 0..count {
+        at = write_object(session, masks, current, clearance, first + i, result, at);
+    }
+    at
+}
+
+// Writes the records of the objects that are shown from the buffer's start on: those of the session by rising
+// number, then those that were made.
 pub fn write_objects(
     session: &[u8],
     masks: &[u16],
-    fields: &[u32],
+    current: &[u32],
     clearance: usize,
     result: &mut [u8],
 ) -> usize
-    requires { ⌜ FieldsReady (now session) (now masks) (now fields) × (recordBytes * maxObjects ≤ length (now result)) ⌝ }
-    ensures { λ next. ⌜ Placed (joined (tab (objectCount (now (session .entry))) (shownObject (programOf (now (session .entry))) (fieldAt (now (fields .entry))) clearance))) 0 (now (result .entry)) (now (result .exit)) next ⌝ }
+    requires { ⌜ FieldsReady (now session) (now masks) (now current) × (recordBytes * maxNumbers ≤ length (now result)) ⌝ }
+    ensures { λ next. ⌜ Placed (shownObjects (programOf (now (session .entry))) (fieldAt (now (current .entry))) clearance) 0 (now (result .entry)) (now (result .exit)) next ⌝ }
 {
     let objects = contents::object_count(session);
-    let mut at = 0;
-    for object in 0..objects {
-        at = write_object(session, masks, fields, clearance, object, result, at);
-    }
-    at
+    let at = write_range(session, masks, current, clearance, 0, objects, result, 0);
+    let made = MADE_OBJECTS * masks.len();
+    write_range(
+        session,
+        masks,
+        current,
+        clearance,
+        FIRST_MADE,
+        made,
+        result,
+        at,
+    )
 }
 
 // Writes the `count` histories of a level.

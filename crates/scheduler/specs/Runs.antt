@@ -1,10 +1,10 @@
 -- What the stages of a run promise each other. No meaning rests on these. Assumes nothing.
 -- Laws: the session as read in (`proofs/Laws/Start`); the answers (`Answers`).
-use Prim.Native.Nat.{ℕ, _+_, _≤_}
+use Prim.Native.Nat.{ℕ, _+_, _≤_, _<_}
 use mathlib.Core.Path.{_≡_}
 use mathlib.Core.Bool.{Bool, true, false}
 use mathlib.Core.List.{List}
-use lib.ListN.{length}
+use lib.ListN.{length, getD}
 use Rattle.session.specs.Limits.{maxMethods}
 use Rattle.session.specs.Meaning.{levelOf, rootObject, rootOf}
 use Rattle.session.specs.Program.{programOf}
@@ -21,10 +21,11 @@ use Rattle.queues.specs.Queue.{queueWords}
 use Rattle.tallies.specs.Places.{startTallies}
 use Rattle.level_managers.specs.Ends.{Quiescent}
 
--- words that no run has used
+-- words that no run has used: those of fields are all 0, so that no object but the session's is there
 pub record Fresh (index current tallies queue : List ℕ) : Type 0 where
   pub methods : length index ≡ maxMethods + 1
   pub fields-room : fieldWords ≤ length current
+  pub fields-none : (i : ℕ) → i < fieldWords → getD current i 0 ≡ 0
   pub counts : tallies ≡ startTallies
   pub forks-room : queueWords ≤ length queue
 

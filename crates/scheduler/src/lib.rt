@@ -17,8 +17,8 @@ ghost use Rattle.level_managers.specs.Steps.{Tables};
 ghost use Rattle.level_managers.specs.Ends.{Quiescent, Ends, SameRest};
 ghost use Rattle.scheduler.specs.Runs.{listOf, Fresh, InitialWords, Shows, RunReady, ListDone};
 
-// Fills the words of a run with the session as read in: the method index, the first fields, and the
-// root's fork, which waits. Returns the root's level.
+// Fills the words of a run with the session as read in: the method index, the first fields and existence of its
+// objects, and the root's fork, which waits. Returns the root's level.
 fn read_in(
     session: &[u8],
     masks: &[u16],

@@ -18,14 +18,14 @@ use Rattle.scripts.specs.Existence.{existence, ownScript, initially}
 use Rattle.scripts.specs.Value.{sum, isNilOr0}
 use Rattle.scripts.specs.Frame.{withRegister}
 use Rattle.scripts.specs.Ending.{numberOfEnding, isRunning}
-use Rattle.scripts.specs.Manager.{top, popped, settled, concluded, started, written, called, forked, sent, operated, stepped}
+use Rattle.scripts.specs.Manager.{top, popped, settled, concluded, started, charged, written, called, forked, sent, operated, stepped}
 use Rattle.scripts.specs.State.{Manager}
 use Rattle.scripts.specs.Effect.{Effect}
 use Rattle.scripts.specs.Effect as effect
 
 -- The diamond, 3 over 1 and 2, these over 0. Objects at levels by the list, or at 0. Each object's method 0 has the given steps, and its
 -- others none
-abbrev programWith : List ℕ → List (List Step) → Program
+abbrev pub programWith : List ℕ → List (List Step) → Program
 programWith levels methods =
     record {
       levels = 4;
@@ -53,12 +53,16 @@ manager p level (suc k) = stepped p shown (manager p level k) .manager
 abbrev effectAfter : Program → ℕ → ℕ → Effect
 effectAfter p level k = stepped p shown (manager p level k) .effect
 
+-- one value is written
+abbrev write1 : ℕ → ℕ → Value → Effect
+write1 o k v = effect.Write (record { object = o; field = k; value = v } ∷ [])
+
 -- one object at level 0
 abbrev alone : List Step → ℕ → Manager
 alone method = manager (programWith [] (method ∷ [])) 0
 
 -- how a manager stands: frames, script steps, writes, ending
-abbrev standing : Manager → List ℕ
+abbrev pub standing : Manager → List ℕ
 standing m = length (m .frames) ∷ m .steps ∷ m .writes ∷ numberOfEnding (m .ending) ∷ []
 
 -- its forks, its write stamp at its start, and now
@@ -66,11 +70,11 @@ abbrev stamps : Manager → List ℕ
 stamps m = m .forks ∷ m .first ∷ m .stamp ∷ []
 
 -- the registers of its top
-abbrev registers : Manager → List Value
+abbrev pub registers : Manager → List Value
 registers m = top m .r0 ∷ top m .r1 ∷ top m .r2 ∷ top m .r3 ∷ []
 
 -- three steps, after which the registers of a frame hold its parameter, 5, 6, 7
-abbrev filling : List Step
+abbrev pub filling : List Step
 filling = Set 1 5 ∷ Set 2 6 ∷ Set 3 7 ∷ []
 
 -- object 0 fills its registers, sends to object 1, with register 2 and for a reply to it, and replies register 2. Object 1's method is given
@@ -167,17 +171,17 @@ pub record Examples : Type 0 where
   -- "READ field b into a", "WRITE a to field b", of "the frame's own object"
   read : alone (Read 2 1 ∷ Quit 2 ∷ []) 2 .reply ≡ Number 6
   read-own : registers (manager (asking 0 0 0 (Read 0 2 ∷ Quit 0 ∷ [])) 0 5) ≡ Number 10 ∷ Nil ∷ Nil ∷ Nil ∷ []
-  write : effectAfter (programWith [] ((Write 0 2 ∷ []) ∷ [])) 0 0 ≡ effect.Write 0 2 (Number 4)
-  write-own : effectAfter (asking 0 0 0 (Write 0 2 ∷ [])) 0 4 ≡ effect.Write 1 2 (Number 6)
+  write : effectAfter (programWith [] ((Write 0 2 ∷ []) ∷ [])) 0 0 ≡ write1 0 2 (Number 4)
+  write-own : effectAfter (asking 0 0 0 (Write 0 2 ∷ [])) 0 4 ≡ write1 1 2 (Number 6)
   -- NIL is written, and counted
-  write-nil : effectAfter (programWith [] ((Write 1 2 ∷ Quit 0 ∷ []) ∷ [])) 0 0 ≡ effect.Write 0 2 Nil
+  write-nil : effectAfter (programWith [] ((Write 1 2 ∷ Quit 0 ∷ []) ∷ [])) 0 0 ≡ write1 0 2 Nil
   nil-counted : standing (alone (Write 1 2 ∷ Quit 0 ∷ []) 1) ≡ 1 ∷ 1 ∷ 1 ∷ 0 ∷ []
   -- "WRITE takes effect only if the object's level is m; otherwise it does nothing"
   write-below : effectAfter (programWith [] ((Write 0 2 ∷ Quit 0 ∷ []) ∷ [])) 1 0 ≡ effect.Nothing
   below-not-counted : standing (manager (programWith [] ((Write 0 2 ∷ Quit 0 ∷ []) ∷ [])) 1 1) ≡ 1 ∷ 1 ∷ 0 ∷ 0 ∷ []
   below-never-ends : standing (manager (programWith [] ((replicate 17 (Write 0 0) ++ Quit 0 ∷ []) ∷ [])) 1 17) ≡ 1 ∷ 17 ∷ 0 ∷ 0 ∷ []
   -- writes are counted for the limit, not script steps, and a write changes no stamp
-  written-late : effectAfter (programWith [] ((replicate 17 (Set 0 9) ++ Write 0 0 ∷ []) ∷ [])) 0 17 ≡ effect.Write 0 0 (Number 9)
+  written-late : effectAfter (programWith [] ((replicate 17 (Set 0 9) ++ Write 0 0 ∷ []) ∷ [])) 0 17 ≡ write1 0 0 (Number 9)
   write-stamps : stamps (alone (Write 0 0 ∷ Quit 0 ∷ []) 1) ≡ 0 ∷ 1 ∷ 1 ∷ []
   -- "An empty first method ends in the start step", "replying NIL"
   empty : standing (alone [] 0) ≡ 0 ∷ 0 ∷ 0 ∷ 0 ∷ []
@@ -238,7 +242,7 @@ pub record Examples : Type 0 where
   sixteenth-stands : standing (manager forking 0 19) ≡ 1 ∷ 19 ∷ 0 ∷ 0 ∷ []
 
 pub examples : Examples
-unfolding initially all first isLeast join dominates fateOf sum isNilOr0 withRegister popped settled concluded started written called forked sent operated stepped manager sentTo
+unfolding initially all first isLeast join dominates fateOf sum isNilOr0 withRegister popped settled concluded started charged written called forked sent operated stepped manager sentTo
 examples =
     record {
       start-level = refl;

@@ -1,9 +1,9 @@
 -- What the contracts of this crate cite, and what a reader of it must believe.
 pub mod Limits
 pub mod Value
+pub mod Effect
 pub mod Existence
 pub mod Ending
-pub mod Effect
 pub mod State
 pub mod Frame
 pub mod Manager

@@ -6,23 +6,26 @@
 -- of an object that the manager's level dominates, so a manager takes nothing of what its level does not see (`Within`: `stepped-within`,
 -- `stepped-seen`).
 use Prim.Native.Nat.{ℕ, zero, suc, _+_}
-use mathlib.Core.Bool.{Bool, true, false, cond}
+use mathlib.Core.Bool.{Bool, true, false, cond, _&&_}
 use mathlib.Core.List.{List, [], _∷_}
-use lib.Dec.{eqb, ltb}
+use lib.Dec.{eqb, leb, ltb}
 use lib.ListN.{length}
+use Rattle.session.specs.Limits.{madeObjects}
+use Rattle.session.specs.Meaning.{madeNumber}
 use Rattle.session.specs.Program.{Program}
 use Rattle.session.specs.declared.Value.{Value}
 use Rattle.session.specs.declared.Value.the-variants.{Nil, Number}
 use Rattle.session.specs.declared.Message.{Message}
 use Rattle.session.specs.declared.Step.{Step}
-use Rattle.session.specs.declared.Step.the-variants.{End, Set, Add, Jump, Read, Write, Send, Quit}
+use Rattle.session.specs.declared.Step.the-variants.{End, Set, Add, Jump, Read, Write, Send, Quit, Create, Withdraw}
 use Rattle.filter.specs.Filter.{fateOf}
 use Rattle.filter.specs.declared.Fate.{Fate}
 use Rattle.filter.specs.declared.Fate.the-variants as fate
 use Rattle.scripts.specs.Limits.{maxFrames, maxScriptSteps, maxWrites, maxForks}
 use Rattle.scripts.specs.Value.{sum, isNilOr0}
-use Rattle.scripts.specs.Existence.{scriptSeen}
+use Rattle.scripts.specs.Existence.{existence, scriptSeen, isThere, fieldSeen, usedOf, making, withdrawn}
 use Rattle.scripts.specs.Ending.{isRunning}
+use Rattle.scripts.specs.Effect.{Written}
 use Rattle.scripts.specs.Effect as effect
 use Rattle.scripts.specs.State.{Frame, Manager, Stepped}
 use Rattle.scripts.specs.Frame.{frameFor, noFrame, register, withRegister, atStep}
@@ -112,6 +115,8 @@ isEnd (Read a b) = false
 isEnd (Write a b) = false
 isEnd (Send a b c) = false
 isEnd (Quit a) = false
+isEnd (Create a) = false
+isEnd Withdraw = false
 
 -- a step of a script, counted from 0, or the script's end
 abbrev pub scriptStep : Program → ℕ → ℕ → ℕ → Step
@@ -161,22 +166,41 @@ started p read level stamp message =
       frames = frameFor (message .object) (scriptSeen read (message .object)) (message .name) 0 true (message .parameter) ∷ [];
     })
 
--- "WRITE a to field b": "takes effect only if the object's level is m; otherwise it does nothing"; "a seventeenth write, counted as a step
--- and not made"
-unfoldable pub written : Program → Manager → Frame → ℕ → Value → Stepped
-written p m f k v =
-    let n = withTop m f in
-    let made : Stepped = record {
-      manager = withCounts n (n .steps) (n .writes + 1) (n .forks) (n .stamp) (n .ending);
-      effect = effect.Write (f .object) k v;
-    } in
-    let spent : Stepped = record {
-      manager = withCounts n (n .steps) (n .writes) (n .forks) (n .stamp) OutOfWrites;
+-- "takes effect only if the object's level is m", and (document 02, job 7) the frame's object is there, as its reads see it
+abbrev pub owns : Program → (ℕ → ℕ → Value) → Manager → Frame → Bool
+owns p read m f = eqb (p .level (f .object)) (m .level) && isThere (read (f .object) existence)
+
+-- what is written counts, each version for one: "a seventeenth write, counted as a step and not made"; "Passing 16 is ending 2, and nothing
+-- is made, removed or added to the count". Frame g is on top where it is made, else f
+unfoldable pub charged : Manager → Frame → Frame → List Written → Stepped
+charged m f g ws =
+    let writes = m .writes + length ws in
+    cond (leb writes maxWrites)
+    (record {
+      manager = withCounts (withTop m g) (m .steps) writes (m .forks) (m .stamp) (m .ending);
+      effect = effect.Write ws;
+    })
+    (record {
+      manager = withCounts (withTop m f) (m .steps) (m .writes) (m .forks) (m .stamp) OutOfWrites;
       effect = effect.Nothing;
-    } in
-    cond (eqb (p .level (f .object)) (m .level))
-    (cond (ltb (m .writes) maxWrites) made spent)
-    (record { manager = n; effect = effect.Nothing })
+    })
+
+-- "WRITE a to field b", and WITHDRAW, which writes existence: "otherwise it does nothing"
+unfoldable pub written : Program → (ℕ → ℕ → Value) → Manager → Frame → ℕ → Value → Stepped
+written p read m f k v =
+    cond (owns p read m f)
+    (charged m f f (record { object = f .object; field = k; value = v } ∷ []))
+    (record { manager = withTop m f; effect = effect.Nothing })
+
+-- "CREATE a, makes an object at the manager's level with registers 1, 2 and 3 as its fields and the methods of the frame's own object; a
+-- gets its number"; "a CREATE once all four are used gives NIL"; "otherwise CREATE gives NIL"
+unfoldable pub created : Program → (ℕ → ℕ → Value) → Manager → Frame → ℕ → Stepped
+created p read m f a =
+    let used = usedOf read (m .level) in
+    let number = madeNumber (m .level) used in
+    cond (owns p read m f && ltb used madeObjects)
+    (charged m f (withRegister f a (Number number)) (making number (f .r1) (f .r2) (f .r3) (scriptSeen read (f .object))))
+    (record { manager = withTop m (withRegister f a Nil); effect = effect.Nothing })
 
 -- "o2's method runs as a new frame"; "A ninth frame isn't made; reply NIL"
 unfoldable pub called : Manager → Frame → ℕ → Frame → Stepped
@@ -214,11 +238,13 @@ operated p read m f (Add a b) =
 operated p read m f (Jump a b) =
     record { manager = withTop m (cond (isNilOr0 (register f a)) (atStep f b) f); effect = effect.Nothing }
 operated p read m f (Read a b) =
-    record { manager = withTop m (withRegister f a (read (f .object) b)); effect = effect.Nothing }
-operated p read m f (Write a b) = written p m f b (register f a)
+    record { manager = withTop m (withRegister f a (fieldSeen read (f .object) b)); effect = effect.Nothing }
+operated p read m f (Write a b) = written p read m f b (register f a)
 operated p read m f (Send a b c) =
     sent read m f a b c (fateOf (p .levels) (p .dom) (m .level) (p .level (f .object)) (p .level c))
 operated p read m f (Quit a) = record { manager = popped (withTop m f) (register f a); effect = effect.Nothing }
+operated p read m f (Create a) = created p read m f a
+operated p read m f Withdraw = written p read m f existence withdrawn
 
 -- the step counted and concluded; "2 wins over 1", and after a seventeenth write nothing pops
 abbrev pub counted : Program → Manager → Manager

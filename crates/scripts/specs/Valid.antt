@@ -1,6 +1,6 @@
 -- Which managers the code is called with: what its own contracts require. No meaning rests on these. Assumes nothing.
 -- Laws: what start and step leave is valid (`proofs/Laws/Valid`: `started-valid`, `stepped-valid`); what a step names, writes and forks
--- concerns present objects, fields 0 to 2 and names 0 to 15 (`next-fits` and `next-present` of `Accepted`, `stepped-present` of `Valid`).
+-- concerns objects that have numbers, fields 0 to 2 or existence, and names 0 to 15 (`next-fits` and `next-present` of `Accepted`, `stepped-present` of `Valid`).
 use Prim.Native.Nat.{ℕ, zero, suc, _+_, _≤_, _<_}
 use mathlib.Core.Path.{_≡_}
 use mathlib.Core.Bool.{true}
@@ -9,11 +9,11 @@ use lib.ListN.{length}
 use Rattle.session.specs.Limits.{maxMethod, names}
 use Rattle.session.specs.Parts.{levelCount, objectCount, masksOf}
 use Rattle.session.specs.Questions.{verdictOf}
-use Rattle.session.specs.Meaning.{methodOf}
+use Rattle.session.specs.Meaning.{Numbered, methodOf}
 use Rattle.contents.specs.Reading.{indexOf}
 use Rattle.session.specs.declared.Message.{Message}
 use Rattle.session.specs.declared.Step.{Step}
-use Rattle.session.specs.declared.Step.the-variants.{End, Set, Add, Jump, Read, Write, Send, Quit}
+use Rattle.session.specs.declared.Step.the-variants.{End, Set, Add, Jump, Read, Write, Send, Quit, Create, Withdraw}
 use Rattle.session.specs.declared.Verdict.the-variants.{Accepted}
 use Rattle.scripts.specs.Limits.{maxFrames, maxScriptSteps, maxWrites, maxForks, writeStamps}
 use Rattle.scripts.specs.Ending.{isRunning}
@@ -29,7 +29,7 @@ pub record Leveled (s masks : List ℕ) : Type 0 where
   pub accepted : verdictOf s ≡ Accepted
   pub masks-are : masks ≡ masksOf s
 
--- a step sends to a present object only
+-- a step sends only to an object that has a number
 abbrev pub Aimed : List ℕ → Step → Type 0
 Aimed s End = Unit
 Aimed s (Set a n) = Unit
@@ -37,23 +37,25 @@ Aimed s (Add a b) = Unit
 Aimed s (Jump a b) = Unit
 Aimed s (Read a b) = Unit
 Aimed s (Write a b) = Unit
-Aimed s (Send a b c) = c < objectCount s
+Aimed s (Send a b c) = Numbered s c
 Aimed s (Quit a) = Unit
+Aimed s (Create a) = Unit
+Aimed s Withdraw = Unit
 
 -- the steps of a script's method
 abbrev pub scriptMethod : List ℕ → ℕ → ℕ → List Step
 scriptMethod s zero name = []
 scriptMethod s (suc w) name = methodOf s w name
 
--- a frame of a present object, that runs a method of a present one by a name, or none
+-- a frame of an object that has a number, that runs a method of a present one by a name, or none
 pub record Known (s : List ℕ) (f : Frame) : Type 0 where
-  pub present : f .object < objectCount s
+  pub present : Numbered s (f .object)
   pub scripted : f .script ≤ objectCount s
   pub named : f .name < names
   pub near : f .next ≤ maxMethod
 
--- each frame has a property
-abbrev pub Each : (Frame → Type 0) → List Frame → Type 0
+-- each element has a property
+abbrev pub Each : {A : Type 0} → (A → Type 0) → List A → Type 0
 Each P [] = Unit
 Each P (f ∷ fs) = P f × Each P fs
 
@@ -76,9 +78,9 @@ pub record Valid (s : List ℕ) (m : Manager) : Type 0 where
   pub stamped : m .stamp ≡ m .first + m .forks
   pub fits : m .first + maxForks + 1 < writeStamps
 
--- a message to a present object, for a manager at a present level, whose write stamps will fit 16 bits
+-- a message to an object that has a number, for a manager at a present level, whose write stamps will fit 16 bits
 pub record Startable (s : List ℕ) (level stamp : ℕ) (message : Message) : Type 0 where
   pub placed : level < levelCount s
-  pub present : message .object < objectCount s
+  pub present : Numbered s (message .object)
   pub named : message .name < names
   pub fits : stamp + maxForks + 1 < writeStamps

@@ -21,7 +21,7 @@ pub enum Ending {
     Finished,
     // Ending 1: the 256th script step left frames.
     OutOfSteps,
-    // Ending 2: a seventeenth write.
+    // Ending 2: a step would have passed sixteen writes.
     OutOfWrites,
 }
 

@@ -12,7 +12,7 @@ use Rattle.lattice.specs.Table.{dominates, namesPresent, isOrdered}
 use Rattle.session.specs.Lists.{every, select, risingFrom, countsFrom, tab, joined}
 use Rattle.session.specs.Record.{recordAt, recordsOf, wordOf, zeroAt, stepOf}
 use Rattle.session.specs.Parts.{ofKind, masksOf, methodRecords}
-use Rattle.session.specs.Questions.{question1, kindsRise, question2, question3, objectValid, question6, operandsFit, unusedBytes, stepValid, scriptValid, scriptsValid, rootValid, firstNo, verdictOf, numberOfVerdict}
+use Rattle.session.specs.Questions.{question1, kindsRise, question2, question3, objectValid, question6, isNumber, operandsFit, unusedBytes, stepValid, scriptValid, scriptsValid, rootValid, firstNo, verdictOf, numberOfVerdict}
 use Rattle.session.specs.Meaning.{ownerOf, levelOf, fieldOf, methodOf, rootParameter}
 use Rattle.session.specs.Emptied.{stays, blanked, emptied}
 use Rattle.session.specs.SessionW.{sessionW}
@@ -106,7 +106,19 @@ pub record Examples : Type 0 where
   level-absent : number (with 2 2 2) ≡ 6
   mask-8 : number (with 3 3 8) ≡ 6
   nil-not-0 : number (with 3 7 1) ≡ 6
-  unknown-operation : number (with 4 3 8) ≡ 7
+  unknown-operation : number (with 4 3 10) ≡ 7
+  -- CREATE and WITHDRAW, and what of them is unused
+  create : number (with 4 3 8) ≡ 0
+  create-register-4 : number (set (with 4 3 8) (16 * 4 + 4) 4) ≡ 7
+  create-byte-5 : number (set (with 4 3 8) (16 * 4 + 5) 1) ≡ 7
+  withdraw : number (with 4 3 9) ≡ 0
+  withdraw-byte-4 : number (set (with 4 3 9) (16 * 4 + 4) 1) ≡ 7
+  -- SEND's numbers: the session's two, none up to 31, then four of each of the two levels
+  send-to-2 : number (with 5 6 2) ≡ 7
+  send-to-31 : number (with 5 6 31) ≡ 7
+  send-to-32 : number (with 5 6 32) ≡ 0
+  send-to-39 : number (with 5 6 39) ≡ 0
+  send-to-40 : number (with 5 6 40) ≡ 7
   jump-too-far : number (set (with 4 3 3) (16 * 4 + 5) 6) ≡ 7
   jump-to-the-end : number (set (with 4 3 3) (16 * 4 + 5) 5) ≡ 0
   number-unused : number (with 8 8 1) ≡ 7
@@ -124,7 +136,7 @@ pub record Examples : Type 0 where
   emptied-whole : emptied 1 diamond ≡ diamondFor1
 
 pub examples : Examples
-unfolding all first reflexive antisymmetric transitive isOrder isLeast join hasJoins dominates namesPresent isOrdered every select risingFrom countsFrom tab joined recordAt recordsOf wordOf zeroAt stepOf ofKind masksOf methodRecords question1 kindsRise question2 question3 objectValid question6 operandsFit unusedBytes stepValid scriptValid scriptsValid rootValid firstNo verdictOf ownerOf levelOf methodOf stays blanked emptied sessionW
+unfolding all first reflexive antisymmetric transitive isOrder isLeast join hasJoins dominates namesPresent isOrdered every select risingFrom countsFrom tab joined recordAt recordsOf wordOf zeroAt stepOf ofKind masksOf methodRecords question1 kindsRise question2 question3 objectValid question6 isNumber operandsFit unusedBytes stepValid scriptValid scriptsValid rootValid firstNo verdictOf ownerOf levelOf methodOf stays blanked emptied sessionW
 examples =
     record {
       w = refl;
@@ -158,6 +170,16 @@ examples =
       mask-8 = refl;
       nil-not-0 = refl;
       unknown-operation = refl;
+      create = refl;
+      create-register-4 = refl;
+      create-byte-5 = refl;
+      withdraw = refl;
+      withdraw-byte-4 = refl;
+      send-to-2 = refl;
+      send-to-31 = refl;
+      send-to-32 = refl;
+      send-to-39 = refl;
+      send-to-40 = refl;
       jump-too-far = refl;
       jump-to-the-end = refl;
       number-unused = refl;

@@ -16,3 +16,4 @@ pub mod Checked
 pub mod Contents
 pub mod Accepted
 pub mod Program
+pub mod Numbers

@@ -47,10 +47,10 @@ methodEnd s r e =
 abbrev pub isNamed : ℕ → Record → Bool
 isNamed objects rec = ltb (objectOf rec) objects && ltb (nameOf rec) names
 
-unfoldable pub isFit : ℕ → ℕ → Record → Bool
-isFit objects count rec =
+unfoldable pub isFit : ℕ → ℕ → ℕ → Record → Bool
+isFit levels objects count rec =
     let step = stepOf rec in
-    operandsFit objects count step && zeroAt (unusedBytes step) rec
+    operandsFit levels objects count step && zeroAt (unusedBytes step) rec
 
 -- so many records from one on are some steps of one method
 pub record OneMethod (s : List ℕ) (start count : ℕ) : Type 0 where

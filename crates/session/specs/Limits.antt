@@ -38,6 +38,10 @@ fields = 3
 abbrev pub madeObjects : ℕ
 madeObjects = 4
 
+-- the numbers that objects can have: the session's, and those that the levels can make
+abbrev pub maxNumbers : ℕ
+maxNumbers = maxObjects + madeObjects * maxLevels
+
 -- the methods that a session can have, one for each object and name
 abbrev pub maxMethods : ℕ
 maxMethods = maxObjects * names

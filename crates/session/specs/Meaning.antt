@@ -3,15 +3,17 @@
 -- registers, fields, jump and send targets are within their bounds, and a method has at most 16 steps (`level-present`, `root-present`,
 -- `root-named`, `step-fits`, `method-short`). `proofs/Laws/Contents` says at which records objects and the root message stand, `contents`
 -- `Laws/Methods` at which the steps of a method do.
-use Prim.Native.Nat.{ℕ, _-_, _/_}
+use Prim.Native.Nat.{ℕ, _+_, _-_, _*_, _/_}
+use mathlib.Core.Path.{_≡_}
 use mathlib.Core.List.{List, [], map}
-use mathlib.Core.Bool.{cond, _&&_}
+use mathlib.Core.Bool.{true, cond, _&&_}
 use lib.Dec.{eqb, ltb}
 use lib.ListN.{getD}
 use Rattle.session.specs.Limits.{maxObjects, madeObjects}
 use Rattle.session.specs.Lists.{select}
 use Rattle.session.specs.Record.{levelByte, fieldIn, objectOf, nameOf, stepOf, parameterOf}
 use Rattle.session.specs.Parts.{objectRecords, stepRecords, levelCount, objectCount, rootRecord}
+use Rattle.session.specs.Questions.{isNumber}
 use Rattle.session.specs.declared.Message.{Message}
 use Rattle.session.specs.declared.Value.{Value}
 use Rattle.session.specs.declared.Step.{Step}
@@ -23,6 +25,14 @@ unfoldable pub ownerOf : ℕ → ℕ → ℕ
 ownerOf levels object =
     let l = (object - maxObjects) / madeObjects in
     cond (ltb l levels) l 0
+
+-- the number that a level gives to the object that it makes after so many: "handed out upward"
+abbrev pub madeNumber : ℕ → ℕ → ℕ
+madeNumber level made = maxObjects + madeObjects * level + made
+
+-- messages of the session can be sent to this number
+abbrev pub Numbered : List ℕ → ℕ → Type 0
+Numbered s n = isNumber (levelCount s) (objectCount s) n ≡ true
 
 -- an object's level, by its number: of the session's objects it is in their records
 unfoldable pub levelOf : List ℕ → ℕ → ℕ

@@ -2,18 +2,18 @@
 -- not its position: 17 is put between 5 and 6. Assumes nothing.
 -- Laws (`proofs/Laws/Verdict`): a session is accepted exactly where all nine questions say yes (`accepted`, `all-yes`).
 use Prim.Native.Nat.{ℕ, _+_, _*_, _%_, _^_}
-use mathlib.Core.Bool.{Bool, false, cond, _&&_, _||_}
+use mathlib.Core.Bool.{Bool, true, false, cond, _&&_, _||_}
 use mathlib.Core.List.{List, [], _∷_}
 use lib.Dec.{eqb, leb, ltb}
 use lib.ListN.{length}
 use Rattle.lattice.specs.Range.{all}
 use Rattle.lattice.specs.Table.{isOrdered, isJoined, isMet}
-use Rattle.session.specs.Limits.{recordBytes, maxRecords, maxLevels, maxObjects, maxSteps, maxMethod, names, registers, fields}
+use Rattle.session.specs.Limits.{recordBytes, maxRecords, maxLevels, maxObjects, madeObjects, maxSteps, maxMethod, names, registers, fields}
 use Rattle.session.specs.Lists.{every, risingFrom, countsFrom}
 use Rattle.session.specs.Record.{Record, recordCount, recordsOf, zeroAt, from, between, kindOf, numberOf, objectOf, levelByte, fieldMask, holds, nameOf, stepOf, tagOf}
 use Rattle.session.specs.Parts.{levelRecords, objectRecords, stepRecords, rootRecords, levelCount, objectCount, stepCount, masksOf, keyOf, ofMethod, rootRecord}
 use Rattle.session.specs.declared.Step.{Step}
-use Rattle.session.specs.declared.Step.the-variants.{End, Set, Add, Jump, Read, Write, Send, Quit}
+use Rattle.session.specs.declared.Step.the-variants.{End, Set, Add, Jump, Read, Write, Send, Quit, Create, Withdraw}
 use Rattle.session.specs.declared.Verdict.{Verdict}
 use Rattle.session.specs.declared.Verdict.the-variants.{Accepted, Length, Kinds, Numbering, NotOrdered, NoJoin, NoMeet, Object, Script, Root}
 
@@ -68,17 +68,24 @@ objectValid levels rec =
 unfoldable pub question6 : List ℕ → Bool
 question6 s = every (objectValid (levelCount s)) (objectRecords s)
 
--- among so many objects and in a method of so many steps: registers 0 to 3, fields 0 to 2, jump target at most the method's step
--- count, SEND's name and object valid. No operation but 1 to 7 makes a step
-unfoldable pub operandsFit : ℕ → ℕ → Step → Bool
-operandsFit objects count End = false
-operandsFit objects count (Set a n) = ltb a registers
-operandsFit objects count (Add a b) = ltb a registers && ltb b registers
-operandsFit objects count (Jump a b) = ltb a registers && leb b count
-operandsFit objects count (Read a b) = ltb a registers && ltb b fields
-operandsFit objects count (Write a b) = ltb a registers && ltb b fields
-operandsFit objects count (Send a b c) = ltb a registers && ltb b names && ltb c objects
-operandsFit objects count (Quit a) = ltb a registers
+-- a number of an object, among so many levels and objects: of one of the session's, or one that a present level owns. "numbers to 63 in
+-- SEND if their level is present"
+unfoldable pub isNumber : ℕ → ℕ → ℕ → Bool
+isNumber levels objects n = ltb n objects || (leb maxObjects n && ltb n (maxObjects + madeObjects * levels))
+
+-- among so many levels and objects and in a method of so many steps: registers 0 to 3, fields 0 to 2, jump target at most the method's
+-- step count, SEND's name and object valid. No operation but 1 to 9 makes a step
+unfoldable pub operandsFit : ℕ → ℕ → ℕ → Step → Bool
+operandsFit levels objects count End = false
+operandsFit levels objects count (Set a n) = ltb a registers
+operandsFit levels objects count (Add a b) = ltb a registers && ltb b registers
+operandsFit levels objects count (Jump a b) = ltb a registers && leb b count
+operandsFit levels objects count (Read a b) = ltb a registers && ltb b fields
+operandsFit levels objects count (Write a b) = ltb a registers && ltb b fields
+operandsFit levels objects count (Send a b c) = ltb a registers && ltb b names && isNumber levels objects c
+operandsFit levels objects count (Quit a) = ltb a registers
+operandsFit levels objects count (Create a) = ltb a registers
+operandsFit levels objects count Withdraw = true
 
 -- "Operands not named here are 0", and so are byte 7, bytes 12 to 15, and n in all but SET
 unfoldable pub unusedBytes : Step → ℕ → Bool
@@ -90,30 +97,32 @@ unusedBytes (Read a b) = from 6
 unusedBytes (Write a b) = from 6
 unusedBytes (Send a b c) = from 7
 unusedBytes (Quit a) = from 5
+unusedBytes (Create a) = from 5
+unusedBytes Withdraw = from 4
 
--- a step among so many objects and in a method of so many steps: object present, name at most 15, operation 1 to 7 with operands that
--- fit, unused bytes 0
-unfoldable pub stepValid : ℕ → ℕ → Record → Bool
-stepValid objects count rec =
+-- a step among so many levels and objects and in a method of so many steps: object present, name at most 15, operation 1 to 9 with
+-- operands that fit, unused bytes 0
+unfoldable pub stepValid : ℕ → ℕ → ℕ → Record → Bool
+stepValid levels objects count rec =
     let step = stepOf rec in
-    ltb (objectOf rec) objects && ltb (nameOf rec) names && (operandsFit objects count step && zeroAt (unusedBytes step) rec)
+    ltb (objectOf rec) objects && ltb (nameOf rec) names && (operandsFit levels objects count step && zeroAt (unusedBytes step) rec)
 
 -- a step among some steps, of which those of its method are at most 16
-unfoldable pub scriptValid : ℕ → List Record → Record → Bool
-scriptValid objects steps rec =
+unfoldable pub scriptValid : ℕ → ℕ → List Record → Record → Bool
+scriptValid levels objects steps rec =
     let count = length (ofMethod (keyOf rec) steps) in
-    leb count maxMethod && stepValid objects count rec
+    leb count maxMethod && stepValid levels objects count rec
 
-abbrev pub methodsValid : ℕ → List Record → Bool
-methodsValid objects steps = every (scriptValid objects steps) steps
+abbrev pub methodsValid : ℕ → ℕ → List Record → Bool
+methodsValid levels objects steps = every (scriptValid levels objects steps) steps
 
-unfoldable pub scriptsValid : ℕ → List Record → Bool
-scriptsValid objects steps = risingFrom keyOf 0 steps && methodsValid objects steps
+unfoldable pub scriptsValid : ℕ → ℕ → List Record → Bool
+scriptsValid levels objects steps = risingFrom keyOf 0 steps && methodsValid levels objects steps
 
--- 7. In steps: object present, name at most 15, (object, name) never falling, at most 16 steps a method, operation 1 to 7, registers
+-- 7. In steps: object present, name at most 15, (object, name) never falling, at most 16 steps a method, operation 1 to 9, registers
 -- 0 to 3, fields 0 to 2, jump target at most the method's step count, SEND's name and object valid, unused bytes 0?
 abbrev pub question7 : List ℕ → Bool
-question7 s = scriptsValid (objectCount s) (stepRecords s)
+question7 s = scriptsValid (levelCount s) (objectCount s) (stepRecords s)
 
 -- the root's object present, name at most 15, tag 0 or 1, a NIL parameter 0, unused bytes 0
 unfoldable pub rootValid : ℕ → Record → Bool

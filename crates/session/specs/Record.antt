@@ -11,7 +11,7 @@ use Rattle.session.specs.Lists.{tab}
 use Rattle.session.specs.declared.Value.{Value}
 use Rattle.session.specs.declared.Value.the-variants.{Nil, Number}
 use Rattle.session.specs.declared.Step.{Step}
-use Rattle.session.specs.declared.Step.the-variants.{End, Set, Add, Jump, Read, Write, Send, Quit}
+use Rattle.session.specs.declared.Step.the-variants.{End, Set, Add, Jump, Read, Write, Send, Quit, Create, Withdraw}
 
 -- a record: its 16 bytes
 abbrev pub Record : Type 0
@@ -85,13 +85,14 @@ abbrev pub nameOf : Record → ℕ
 nameOf rec = byteOf rec 2
 
 -- kind 3: "bytes 4, 5, 6 operands a, b, c, bytes 8 to 11 a number n": the step by each operation of "1 SET .. 7 QUIT"
+-- and of document 02, job 7: "Operation 8, CREATE a", "Operation 9, WITHDRAW, has no operands"
 abbrev pub operations : Record → List Step
 operations rec =
     let a = byteOf rec 4 in
     let b = byteOf rec 5 in
-    End ∷ Set a (wordOf rec 8) ∷ Add a b ∷ Jump a b ∷ Read a b ∷ Write a b ∷ Send a b (byteOf rec 6) ∷ Quit a ∷ []
+    End ∷ Set a (wordOf rec 8) ∷ Add a b ∷ Jump a b ∷ Read a b ∷ Write a b ∷ Send a b (byteOf rec 6) ∷ Quit a ∷ Create a ∷ Withdraw ∷ []
 
--- kind 3: "byte 3 operation". No operation but 1 to 7 makes a step
+-- kind 3: "byte 3 operation". No operation but 1 to 9 makes a step
 unfoldable pub stepOf : Record → Step
 stepOf rec = getD (operations rec) (byteOf rec 3) End
 

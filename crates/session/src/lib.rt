@@ -48,6 +48,8 @@ pub enum Step {
     Write { a: u8, b: u8 },
     Send { a: u8, b: u8, c: u8 },
     Quit { a: u8 },
+    Create { a: u8 },
+    Withdraw,
 }
 
 // How many levels, objects and script steps a session has. Its records stand in that order, the
@@ -89,10 +91,11 @@ pub struct Checked {
     pub levels: usize,
 }
 
-// Questions 6 to 8, of a session of which question 2 said yes.
+// Questions 6 to 8, of a session of which questions 2 and 3 said yes.
 fn check_contents(session: &[u8], levels: usize, objects: usize, steps: usize) -> Verdict
     requires { ⌜ question2 (now session) ≡ true ⌝ }
     requires { ⌜ Counted (now session) levels objects steps ⌝ }
+    requires { ⌜ question3 (now session) ≡ true ⌝ }
     ensures { λ x. ⌜ x ≡ firstNo (drop 6 (asked (now (session .entry)))) ⌝ }
 {
     let first = levels + objects;
@@ -100,7 +103,7 @@ fn check_contents(session: &[u8], levels: usize, objects: usize, steps: usize) -
     if !objects::are_valid(session, levels, objects, levels) {
         return Verdict::Object;
     }
-    if !methods::are_valid(session, first, root, objects) {
+    if !methods::are_valid(session, first, root, levels, objects) {
         return Verdict::Script;
     }
     if root::is_valid(session, root, objects) {

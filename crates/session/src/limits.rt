@@ -29,5 +29,13 @@ pub const FIELDS: usize = 3;
 // Question 6: how many masks of fields there are, one bit for each field.
 pub const FIELD_MASKS: u8 = 1 << FIELDS;
 
+// Document 02, job 7: how many objects a level can make, from which number on.
+pub const MADE_OBJECTS: usize = 4;
+
+pub const FIRST_MADE: usize = MAX_OBJECTS;
+
+// How many numbers objects can have, the session's and those that levels can make.
+pub const MAX_NUMBERS: usize = FIRST_MADE + MADE_OBJECTS * MAX_LEVELS;
+
 // How many methods there may be, one for each object and name.
 pub const MAX_METHODS: usize = MAX_OBJECTS * NAMES;

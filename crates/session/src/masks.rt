@@ -17,6 +17,8 @@ pub const FROM_FIRST_FIELD: u64 = ALL << (BYTE_BITS * places::FIRST_FIELD);
 
 pub const FROM_PARAMETER: u64 = ALL << (BYTE_BITS * places::PARAMETER);
 
+pub const FROM_OPERAND_A: u64 = ALL << (BYTE_BITS * places::OPERAND_A);
+
 pub const FROM_OPERAND_B: u64 = ALL << (BYTE_BITS * places::OPERAND_B);
 
 pub const FROM_OPERAND_C: u64 = ALL << (BYTE_BITS * places::OPERAND_C);

@@ -1,6 +1,8 @@
 // Question 7: the script steps.
 use crate::Step;
 use crate::limits::FIELDS;
+use crate::limits::FIRST_MADE;
+use crate::limits::MADE_OBJECTS;
 use crate::limits::MAX_METHOD;
 use crate::limits::NAME_COUNT;
 use crate::limits::REGISTERS;
@@ -13,10 +15,10 @@ ghost use mathlib.Core.Bool.{_&&_, _||_};
 ghost use Prim.Native.Nat.{_+_, _-_, _≤_, _<_};
 ghost use lib.Dec.{ltb};
 ghost use Rattle.lattice.specs.Range.{all};
-ghost use Rattle.session.specs.Limits.{registers, names, maxSteps, maxMethod};
+ghost use Rattle.session.specs.Limits.{registers, names, maxLevels, maxSteps, maxMethod};
 ghost use Rattle.session.specs.Record.{recordAt, recordCount, zeroAt, between, from};
 ghost use Rattle.session.specs.Parts.{keyOf};
-ghost use Rattle.session.specs.Questions.{operandsFit, unusedBytes, stepValid, scriptsValid};
+ghost use Rattle.session.specs.Questions.{isNumber, operandsFit, unusedBytes, stepValid, scriptsValid};
 ghost use Rattle.session.specs.Checking.{methodEnd, recordsFrom, isNamed, isFit, OneMethod};
 
 // What bounds an operand that is a register.
@@ -47,10 +49,33 @@ fn are_set_valid(session: &[u8], r: usize, a: u8) -> bool
     record::are_unused(session, r, masks::FROM_OPERAND_B, masks::FROM_LAST_WORD)
 }
 
-// The operands of SEND, among so many objects.
-fn are_send_valid(session: &[u8], r: usize, objects: usize, a: u8, b: u8, c: u8) -> bool
-    requires { ⌜ r < recordCount (now session) ⌝ }
-    ensures { λ x. ⌜ x ≡ (ltb a registers && ltb b names && ltb c objects && zeroAt (from 7) (recordAt (now (session .entry)) r)) ⌝ }
+// Whether an object of so many, or one that one of so many levels can make, has the number `n`.
+fn is_number(levels: usize, objects: usize, n: u8) -> bool
+    requires { ⌜ levels ≤ maxLevels ⌝ }
+    ensures { λ x. ⌜ x ≡ isNumber levels objects n ⌝ }
+{
+    let n = n as usize;
+    if n < objects {
+        return true;
+    }
+    if n < FIRST_MADE {
+        return false;
+    }
+    n < FIRST_MADE + MADE_OBJECTS * levels
+}
+
+// The operands of SEND, among so many levels and objects.
+fn are_send_valid(
+    session: &[u8],
+    r: usize,
+    levels: usize,
+    objects: usize,
+    a: u8,
+    b: u8,
+    c: u8,
+) -> bool
+    requires { ⌜ (r < recordCount (now session)) × (levels ≤ maxLevels) ⌝ }
+    ensures { λ x. ⌜ x ≡ (ltb a registers && ltb b names && isNumber levels objects c && zeroAt (from 7) (recordAt (now (session .entry)) r)) ⌝ }
 {
     if REGISTERS <= a {
         return false;
@@ -58,13 +83,13 @@ fn are_send_valid(session: &[u8], r: usize, objects: usize, a: u8, b: u8, c: u8)
     if NAME_COUNT <= b {
         return false;
     }
-    if objects <= c as usize {
+    if !is_number(levels, objects, c) {
         return false;
     }
     record::are_unused(session, r, masks::FROM_OPERANDS_END, masks::ALL)
 }
 
-// The operands of QUIT.
+// The operands of QUIT and of CREATE.
 fn are_quit_valid(session: &[u8], r: usize, a: u8) -> bool
     requires { ⌜ r < recordCount (now session) ⌝ }
     ensures { λ x. ⌜ x ≡ (ltb a registers && zeroAt (from 5) (recordAt (now (session .entry)) r)) ⌝ }
@@ -75,10 +100,25 @@ fn are_quit_valid(session: &[u8], r: usize, a: u8) -> bool
     record::are_unused(session, r, masks::FROM_OPERAND_B, masks::ALL)
 }
 
-// The operands of a step in record `r`, among so many objects and in a method of `count` steps.
-fn are_operands_valid(session: &[u8], r: usize, objects: usize, count: usize, step: Step) -> bool
-    requires { ⌜ (r < recordCount (now session)) × (count ≤ maxSteps) ⌝ }
-    ensures { λ x. ⌜ x ≡ (operandsFit objects count step && zeroAt (unusedBytes step) (recordAt (now (session .entry)) r)) ⌝ }
+// The operands of WITHDRAW: none.
+fn has_no_operands(session: &[u8], r: usize) -> bool
+    requires { ⌜ r < recordCount (now session) ⌝ }
+    ensures { λ x. ⌜ x ≡ zeroAt (from 4) (recordAt (now (session .entry)) r) ⌝ }
+{
+    record::are_unused(session, r, masks::FROM_OPERAND_A, masks::ALL)
+}
+
+// The operands of a step in record `r`, among so many levels and objects and in a method of `count` steps.
+fn are_operands_valid(
+    session: &[u8],
+    r: usize,
+    levels: usize,
+    objects: usize,
+    count: usize,
+    step: Step,
+) -> bool
+    requires { ⌜ (r < recordCount (now session)) × (count ≤ maxSteps) × (levels ≤ maxLevels) ⌝ }
+    ensures { λ x. ⌜ x ≡ (operandsFit levels objects count step && zeroAt (unusedBytes step) (recordAt (now (session .entry)) r)) ⌝ }
 {
     match step {
         Step::End => false,
@@ -87,8 +127,10 @@ fn are_operands_valid(session: &[u8], r: usize, objects: usize, count: usize, st
         Step::Jump { a, b } => are_two_valid(session, r, a, b, count + 1),
         Step::Read { a, b } => are_two_valid(session, r, a, b, FIELDS),
         Step::Write { a, b } => are_two_valid(session, r, a, b, FIELDS),
-        Step::Send { a, b, c } => are_send_valid(session, r, objects, a, b, c),
+        Step::Send { a, b, c } => are_send_valid(session, r, levels, objects, a, b, c),
         Step::Quit { a } => are_quit_valid(session, r, a),
+        Step::Create { a } => are_quit_valid(session, r, a),
+        Step::Withdraw => has_no_operands(session, r),
     }
 }
 
@@ -103,12 +145,19 @@ fn is_named(session: &[u8], r: usize, objects: usize) -> bool
     record::byte_at(session, r, places::NAME) < NAME_COUNT
 }
 
-// Whether the rest of the step in record `r` is valid among so many objects and in a method of `count` steps.
-fn is_fit(session: &[u8], r: usize, objects: usize, count: usize) -> bool
-    requires { ⌜ (r < recordCount (now session)) × (count ≤ maxSteps) ⌝ }
-    ensures { λ x. ⌜ x ≡ isFit objects count (recordAt (now (session .entry)) r) ⌝ }
+// Whether the rest of the step in record `r` is valid among so many levels and objects and in a method of `count` steps.
+fn is_fit(session: &[u8], r: usize, levels: usize, objects: usize, count: usize) -> bool
+    requires { ⌜ (r < recordCount (now session)) × (count ≤ maxSteps) × (levels ≤ maxLevels) ⌝ }
+    ensures { λ x. ⌜ x ≡ isFit levels objects count (recordAt (now (session .entry)) r) ⌝ }
 {
-    are_operands_valid(session, r, objects, count, record::step_in(session, r))
+    are_operands_valid(
+        session,
+        r,
+        levels,
+        objects,
+        count,
+        record::step_in(session, r),
+    )
 }
 
 // The first record after `r` and before `end` that is of another method than `r`, or `end`.
@@ -125,18 +174,24 @@ fn method_end(session: &[u8], r: usize, end: usize) -> usize
     end
 }
 
-// Whether the steps of one method, `count` records from `first` on, are valid among so many objects. They have one
-// object and one name, which are looked at once.
-fn is_method_valid(session: &[u8], first: usize, count: usize, objects: usize) -> bool
-    requires { ⌜ (first + count ≤ recordCount (now session)) × (count ≤ maxMethod) ⌝ }
+// Whether the steps of one method, `count` records from `first` on, are valid among so many levels and objects.
+// They have one object and one name, which are looked at once.
+fn is_method_valid(
+    session: &[u8],
+    first: usize,
+    count: usize,
+    levels: usize,
+    objects: usize,
+) -> bool
+    requires { ⌜ (first + count ≤ recordCount (now session)) × (count ≤ maxMethod) × (levels ≤ maxLevels) ⌝ }
     requires { ⌜ OneMethod (now session) first count ⌝ }
-    ensures { λ x. ⌜ x ≡ all count (λ i. stepValid objects count (recordAt (now (session .entry)) (first + i))) ⌝ }
+    ensures { λ x. ⌜ x ≡ all count (λ i. stepValid levels objects count (recordAt (now (session .entry)) (first + i))) ⌝ }
 {
     if !is_named(session, first, objects) {
         return false;
     }
     for i in 0..count {
-        if !is_fit(session, first + i, objects, count) {
+        if !is_fit(session, first + i, levels, objects, count) {
             return false;
         }
     }
@@ -156,9 +211,9 @@ fn falls(session: &[u8], at: usize, next: usize, end: usize) -> bool
 }
 
 // Question 7, of the steps from record `first` up to `end`: method by method.
-pub fn are_valid(session: &[u8], first: usize, end: usize, objects: usize) -> bool
-    requires { ⌜ (first ≤ end) × (end ≤ recordCount (now session)) ⌝ }
-    ensures { λ x. ⌜ x ≡ scriptsValid objects (recordsFrom (now (session .entry)) first (end - first)) ⌝ }
+pub fn are_valid(session: &[u8], first: usize, end: usize, levels: usize, objects: usize) -> bool
+    requires { ⌜ (first ≤ end) × (end ≤ recordCount (now session)) × (levels ≤ maxLevels) ⌝ }
+    ensures { λ x. ⌜ x ≡ scriptsValid levels objects (recordsFrom (now (session .entry)) first (end - first)) ⌝ }
 {
     let mut at = first;
     while at < end {
@@ -167,7 +222,7 @@ pub fn are_valid(session: &[u8], first: usize, end: usize, objects: usize) -> bo
         if MAX_METHOD < count {
             return false;
         }
-        if !is_method_valid(session, at, count, objects) {
+        if !is_method_valid(session, at, count, levels, objects) {
             return false;
         }
         if falls(session, at, next, end) {

@@ -10,7 +10,7 @@ ghost use Rattle.session.specs.Record.{recordAt, recordCount, byteOf, wo
 ghost use Rattle.session.specs.Words.{longBytes, longOf, SaysUnused};
 ghost use Rattle.session.specs.Parts.{keyOf};
 
-// "Operations: 1 SET .. 7 QUIT".
+// "Operations: 1 SET .. 7 QUIT", and document 02's 8 CREATE and 9 WITHDRAW.
 const SET: u8 = 1;
 
 const ADD: u8 = 2;
@@ -24,6 +24,10 @@ const WRITE: u8 = 5;
 const SEND: u8 = 6;
 
 const QUIT: u8 = 7;
+
+const CREATE: u8 = 8;
+
+const WITHDRAW: u8 = 9;
 
 // "Numbers are little-endian": what the second, third and fourth byte of a number are worth.
 const SECOND: u32 = 1 << 8;
@@ -127,6 +131,8 @@ pub fn step_in(session: &[u8], r: usize) -> Step
             c: byte_at(session, r, places::OPERAND_C),
         },
         QUIT => Step::Quit { a },
+        CREATE => Step::Create { a },
+        WITHDRAW => Step::Withdraw,
         _ => Step::End,
     }
 }

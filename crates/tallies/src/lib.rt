@@ -12,7 +12,7 @@ ghost use lib.ListN.{length, getD};
 ghost use Rattle.session.specs.Limits.{maxLevels};
 ghost use Rattle.model.specs.Limits.{maxManagers};
 ghost use Rattle.records.specs.Histories.{HistoryRoom};
-ghost use Rattle.tallies.specs.Places.{tallyNumbers, startTallies, Closed};
+ghost use Rattle.tallies.specs.Places.{tallyNumbers, startTallies, changed, unchangedAt, unchanged, Closed};
 ghost use Rattle.tallies.specs.Permits.{busyIn, managed, lowestOf, freeOf, endedOf, permitOf, Countable, Askable};
 
 // Where the parts stand, a number for each level in each. How many managers have ended at a level stands at
@@ -28,8 +28,14 @@ pub const VERSIONS: usize = 3 * MAX_LEVELS;
 // 1 while a manager runs.
 pub const RUNNING: usize = 4 * MAX_LEVELS;
 
+// 0 as long as no existence was written at a level, and one number behind all of these, 0 as long as none was
+// written at any.
+pub const CHANGES: usize = 5 * MAX_LEVELS;
+
+pub const ALL_CHANGES: usize = 6 * MAX_LEVELS;
+
 // How many numbers there are.
-pub const TALLIES: usize = 5 * MAX_LEVELS;
+pub const TALLIES: usize = ALL_CHANGES + 1;
 
 // What questions 12 to 14 say of a scheduler step.
 pub enum Permit {
@@ -72,6 +78,31 @@ pub fn has_room(tallies: &[usize], level: usize) -> bool
     ensures { λ r. ⌜ r ≡ ltb (getD (now (tallies .entry)) level 0) maxManagers ⌝ }
 {
     tallies[level] < MAX_MANAGERS
+}
+
+// Existence was written at a level.
+pub fn change(tallies: &mut [usize], level: usize)
+    requires { ⌜ (level < maxLevels) × (tallyNumbers ≤ length (now tallies)) ⌝ }
+    ensures { λ _. ⌜ now (tallies .exit) ≡ changed level (now (tallies .entry)) ⌝ }
+{
+    tallies[CHANGES + level] = 1;
+    tallies[ALL_CHANGES] = 1;
+}
+
+// Whether no existence was written at a level.
+pub fn is_level_unchanged(tallies: &[usize], level: usize) -> bool
+    requires { ⌜ (level < maxLevels) × (tallyNumbers ≤ length (now tallies)) ⌝ }
+    ensures { λ r. ⌜ r ≡ unchangedAt (now (tallies .entry)) level ⌝ }
+{
+    tallies[CHANGES + level] == 0
+}
+
+// Whether none was written at any level.
+pub fn is_unchanged(tallies: &[usize]) -> bool
+    requires { ⌜ tallyNumbers ≤ length (now tallies) ⌝ }
+    ensures { λ r. ⌜ r ≡ unchanged (now (tallies .entry)) ⌝ }
+{
+    tallies[ALL_CHANGES] == 0
 }
 
 // Whether a manager runs at a level.

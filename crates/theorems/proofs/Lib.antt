@@ -5,3 +5,4 @@ pub mod Calls
 pub mod Readers
 pub mod Rules
 pub mod Ancestors
+pub mod Existence

@@ -6,3 +6,4 @@ pub mod Demands
 pub mod Calls
 pub mod Rules
 pub mod Ancestors
+pub mod Existence

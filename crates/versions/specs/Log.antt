@@ -4,9 +4,10 @@
 use Prim.Native.Nat.{ℕ, zero, suc, _+_, _*_, _/_, _%_, _^_, _≤_, _<_}
 use mathlib.Core.List.{List, [], _∷_}
 use lib.ListN.{length, getD}
-use Rattle.session.specs.Limits.{maxLevels, fields}
+use Rattle.session.specs.Limits.{maxLevels}
 use Rattle.scripts.specs.Limits.{maxWrites, writeStamps}
 use Rattle.scripts.specs.Value.{tag, numberIn}
+use Rattle.scripts.specs.Existence.{existence}
 use Rattle.words.specs.Fields.{valueOf}
 use Rattle.model.specs.Limits.{maxManagers, workNumbers}
 use Rattle.model.specs.Level.{Version}
@@ -40,7 +41,7 @@ abbrev pub objectUnit : ℕ
 objectUnit = fieldUnit * 2 ^ 2
 
 -- "Versions written carry it", the write stamp: a version in two numbers. The first has in its bits, from the lowest on, the tag
--- (1 number, 0 NIL), 16 of the write stamp, 2 of the field and those of the object; the second is the number, 0 for NIL
+-- (1 number, 0 NIL), 16 of the write stamp, 2 of the field, which is 3 for existence, and those of the object; the second is the number, 0 for NIL
 unfoldable pub versionOf : ℕ → ℕ → Version
 versionOf packed number =
     record {
@@ -70,9 +71,9 @@ unfoldable pub logOf : List ℕ → ℕ → ℕ → List Version
 logOf work start zero = []
 logOf work start (suc n) = versionAt work (start + versionNumbers * n) ∷ logOf work start n
 
--- a level, a log of n versions and a field for which the work slice has room
+-- a level, a log of n versions and a field, or existence, for which the work slice has room
 pub record Within (work : List ℕ) (level n field : ℕ) : Type 0 where
   pub level-present : level < maxLevels
   pub fits : n ≤ maxVersions
-  pub field-fits : field < fields
+  pub field-fits : field ≤ existence
   pub long : workNumbers ≤ length work

@@ -1,4 +1,4 @@
-// The versions of fields that the managers of each level wrote, in the lent work slice.
+// The versions of fields and of existence that the managers of each level wrote, in the lent work slice.
 //
 // Each level has a log of its own. A write adds a version to its end, and write stamps never fall. So a
 // read finds which versions are not above its bound by halving, and goes through those backward.
@@ -31,7 +31,8 @@ const MAX_VERSIONS: usize = MAX_MANAGERS * MAX_WRITES as usize;
 const LOG_NUMBERS: usize = MAX_VERSIONS * VERSION_NUMBERS;
 
 // What one more is worth in a version's first number, of the write stamp, the field and the object:
-// stampUnit, fieldUnit, objectUnit. Below the write stamp stands the tag; it has 16 bits, the field 2.
+// stampUnit, fieldUnit, objectUnit. Below the write stamp, which has 16 bits, stands the tag. The field has
+// 2 bits: 3 is existence.
 const STAMP: u32 = 2;
 
 const FIELD: u32 = STAMP << 16;

@@ -1,9 +1,11 @@
 //! Questions 1 to 5, 17, 6, 7 and 8, each put of the whole session before the next.
 
 use super::lattice::Lattice;
+use super::objects::made_by;
 use crate::limits::*;
 use crate::record::{records, Record};
-use crate::record::{ADD, JUMP, LEVEL, OBJECT, QUIT, READ, ROOT, SEND, SET, STEP, WRITE};
+use crate::record::{ADD, CREATE, JUMP, QUIT, READ, SEND, SET, WITHDRAW, WRITE};
+use crate::record::{LEVEL, OBJECT, ROOT, STEP};
 
 /// The number of the first question answered no, or 0.
 pub fn check(session: &[u8]) -> u32 {
@@ -34,7 +36,7 @@ pub fn check(session: &[u8]) -> u32 {
     if !objects.iter().all(|o| object_fits(o, levels.len())) {
         return 6;
     }
-    if !methods_fit(&steps, objects.len()) {
+    if !methods_fit(&steps, objects.len(), levels.len()) {
         return 7;
     }
     if !root_fits(&roots[0], objects.len()) {
@@ -64,7 +66,7 @@ fn object_fits(object: &Record, levels: usize) -> bool {
 }
 
 /// Question 7.
-fn methods_fit(steps: &[Record], objects: usize) -> bool {
+fn methods_fit(steps: &[Record], objects: usize, levels: usize) -> bool {
     let key = |step: &Record| (step[1], step[2]);
     steps.windows(2).all(|pair| key(&pair[0]) <= key(&pair[1]))
         && steps.iter().all(|step| {
@@ -72,25 +74,31 @@ fn methods_fit(steps: &[Record], objects: usize) -> bool {
             usize::from(step[1]) < objects
                 && usize::from(step[2]) < NAMES
                 && count <= METHOD_STEPS_MAX
-                && step_fits(step, count, objects)
+                && step_fits(step, count, objects, levels)
         })
 }
 
 /// Question 7 for the operation, its operands and the unused bytes of one step
 /// of a method with `count` steps.
-fn step_fits(step: &Record, count: usize, objects: usize) -> bool {
+fn step_fits(step: &Record, count: usize, objects: usize, levels: usize) -> bool {
     let [a, b, c] = [step[4], step[5], step[6]].map(usize::from);
     let operands_fit = match step[3] {
         SET => b == 0 && c == 0,
         ADD => b < REGISTERS && c == 0,
         JUMP => b <= count && c == 0,
         READ | WRITE => b < FIELDS && c == 0,
-        SEND => b < NAMES && c < objects,
-        QUIT => b == 0 && c == 0,
+        SEND => b < NAMES && (c < objects || is_of_a_level(c, levels)),
+        QUIT | CREATE => b == 0 && c == 0,
+        WITHDRAW => a == 0 && b == 0 && c == 0,
         _ => false,
     };
     let number_fits = step[3] == SET || is_zero(&step[8..12]);
     a < REGISTERS && operands_fit && step[7] == 0 && number_fits && is_zero(&step[12..])
+}
+
+/// Whether one of the levels owns the number, for an object that it makes.
+fn is_of_a_level(number: usize, levels: usize) -> bool {
+    (0..levels).any(|level| made_by(level).contains(&(number as u8)))
 }
 
 /// Question 8.

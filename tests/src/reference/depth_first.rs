@@ -1,8 +1,9 @@
 //! The depth-first run: a fork that is made and kept runs whole, forks
-//! included, before its sender continues. Fields are simply current.
+//! included, before its sender continues. Fields and existence are simply current.
 
 use super::fork::Fork;
 use super::manager::{Manager, World};
+use super::objects::{initial, Existence, Object};
 use super::outcome::Outcome;
 use super::session::Session;
 use crate::limits::*;
@@ -11,7 +12,7 @@ use crate::tally::{Event, Tally};
 
 pub struct DepthFirst<'a> {
     session: &'a Session,
-    fields: Vec<[Value; FIELDS]>,
+    objects: Vec<Object<Value, Existence>>,
     levels: Vec<Level>,
     reply: Value,
     tally: &'a mut Tally,
@@ -28,7 +29,7 @@ impl<'a> DepthFirst<'a> {
     pub fn run(session: &'a Session, tally: &'a mut Tally) -> Outcome {
         let mut run = DepthFirst {
             session,
-            fields: session.objects.iter().map(|object| object.fields).collect(),
+            objects: initial(session),
             levels: session.lattice.levels().map(|_| Level::default()).collect(),
             reply: None,
             tally,
@@ -39,8 +40,12 @@ impl<'a> DepthFirst<'a> {
                 run.tally.saw(Event::ThirtyTwoForks);
             }
         }
+        let left = |object: Object<Value, Existence>| {
+            let is_there = object.existence.is_there();
+            is_there.then_some(object.fields)
+        };
         Outcome {
-            fields: run.fields,
+            objects: run.objects.into_iter().map(left).collect(),
             histories: run.levels.into_iter().map(|level| level.ended).collect(),
             reply: run.reply,
         }
@@ -70,11 +75,27 @@ impl<'a> DepthFirst<'a> {
 
 impl World for DepthFirst<'_> {
     fn read(&mut self, _: &Manager, object: u8, field: u8) -> Value {
-        self.fields[usize::from(object)][usize::from(field)]
+        self.objects[usize::from(object)].fields[usize::from(field)]
     }
 
     fn write(&mut self, _: &Manager, object: u8, field: u8, value: Value) {
-        self.fields[usize::from(object)][usize::from(field)] = value;
+        self.objects[usize::from(object)].fields[usize::from(field)] = value;
+    }
+
+    fn existence(&self, _: &Manager, object: u8) -> Existence {
+        self.newest_existence(object)
+    }
+
+    fn newest_existence(&self, object: u8) -> Existence {
+        self.objects[usize::from(object)].existence
+    }
+
+    fn change_existence(&mut self, _: &Manager, object: u8, existence: Existence) {
+        self.objects[usize::from(object)].existence = existence;
+    }
+
+    fn ended(&self, level: usize) -> &[History] {
+        &self.levels[level].ended
     }
 
     fn fork(&mut self, fork: Fork) {

@@ -23,6 +23,8 @@ pub struct Fork {
     pub object: u8,
     pub name: u8,
     pub parameter: Value,
+    /// Whether the object is there when the fork is made. For the tally alone.
+    pub was_there: bool,
 }
 
 impl Fork {
@@ -35,6 +37,7 @@ impl Fork {
             object: session.root_object,
             name: session.root_name,
             parameter: session.root_parameter,
+            was_there: true,
         }
     }
 }

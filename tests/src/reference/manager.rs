@@ -3,6 +3,7 @@
 
 use super::filter::{filter, Delivery};
 use super::fork::{Ancestor, Fork};
+use super::objects::{owner, Existence};
 use super::session::Session;
 use crate::limits::*;
 use crate::record::{History, Operation, Value};
@@ -12,19 +13,27 @@ use crate::tally::Event;
 pub trait World {
     fn read(&mut self, reader: &Manager, object: u8, field: u8) -> Value;
     fn write(&mut self, writer: &Manager, object: u8, field: u8, value: Value);
+    /// Whether an object is there, as a READ would see it.
+    fn existence(&self, reader: &Manager, object: u8) -> Existence;
+    fn newest_existence(&self, object: u8) -> Existence;
+    fn change_existence(&mut self, writer: &Manager, object: u8, existence: Existence);
+    /// The managers of a level that have ended, in stamp order. For the tally alone.
+    fn ended(&self, level: usize) -> &[History];
     /// A fork that is made; the world keeps or drops it.
     fn fork(&mut self, fork: Fork);
     fn saw(&mut self, event: Event);
 }
 
-struct Frame {
-    object: u8,
+pub(super) struct Frame {
+    pub object: u8,
+    /// Of whose methods the frame was made; of none if the object was not there.
+    methods_of: Option<u8>,
     name: u8,
     /// The step to be made next, counted from 0.
-    next: usize,
-    registers: [Value; REGISTERS],
-    /// By what send each register lost a number and is NIL since, if so.
-    lost: [Option<Event>; REGISTERS],
+    pub next: usize,
+    pub registers: [Value; REGISTERS],
+    /// By what operation each register lost a number and is NIL since, if so.
+    pub lost: [Option<Event>; REGISTERS],
     /// The sender's register that gets the reply, if any.
     reply_to: Option<u8>,
 }
@@ -34,13 +43,13 @@ pub struct Manager {
     pub fork_stamp: u32,
     pub ancestors: Vec<Ancestor>,
     depth: u32,
-    frames: Vec<Frame>,
-    steps: u32,
-    writes: u32,
+    pub(super) frames: Vec<Frame>,
+    pub(super) steps: u32,
+    pub(super) writes: u32,
     forks: u32,
     first_write_stamp: u32,
     pub write_stamp: u32,
-    ending: Option<u8>,
+    pub(super) ending: Option<u8>,
     reply: Value,
 }
 
@@ -70,6 +79,9 @@ impl Manager {
         if fork.depth >= 2 && session.lattice.top() == Some(fork.level) {
             world.saw(Event::NestedToTop);
         }
+        if fork.depth > 0 {
+            manager.note_start(fork.object, fork.was_there, world);
+        }
         manager.push(fork.object, fork.name, fork.parameter, None, world);
         manager.pop_finished(0, session, world);
         if manager.frames.is_empty() {
@@ -89,7 +101,7 @@ impl Manager {
             .frames
             .last_mut()
             .expect("a running manager has frames");
-        let script = session.script(frame.object, frame.name);
+        let script = session.script(frame.methods_of, frame.name);
         let operation = script[frame.next];
         frame.next += 1;
         self.steps += 1;
@@ -102,21 +114,25 @@ impl Manager {
                     self.jump(usize::from(target), script.len(), world);
                 }
             }
-            Operation::Read { a, field } => {
-                let value = world.read(self, self.object(), field);
-                self.set(a, value);
+            Operation::Read { a, field } => self.read(a, field, session, world),
+            Operation::Write { a, field } => self.write(a, field, session, world),
+            Operation::Create { a } => self.create(a, session, world),
+            Operation::Withdraw => self.withdraw(session, world),
+            Operation::Send { a, name, object } => {
+                self.note_withdrawn(Event::WithdrawnSend, world);
+                self.send(a, name, object, session, world);
             }
-            Operation::Write { a, field } => {
-                if !self.write(a, field, script.len(), session, world) {
-                    return;
-                }
-            }
-            Operation::Send { a, name, object } => self.send(a, name, object, session, world),
             Operation::Quit { a } => {
+                self.note_withdrawn(Event::WithdrawnQuit, world);
                 let (reply, lost) = (*self.register(a), self.top().lost[usize::from(a)]);
                 self.pop(reply, lost, world);
                 pops = 1;
             }
+        }
+        // Too many writes have ended the manager, and nothing pops.
+        if self.has_ended() {
+            self.note_too_many(script.len(), world);
+            return;
         }
         self.pop_finished(pops, session, world);
         self.end_if_over(world);
@@ -138,30 +154,30 @@ impl Manager {
         }
     }
 
-    fn top(&mut self) -> &mut Frame {
+    pub(super) fn top(&mut self) -> &mut Frame {
         self.frames
             .last_mut()
             .expect("a running manager has frames")
     }
 
-    fn register(&mut self, a: u8) -> &mut Value {
+    pub(super) fn register(&mut self, a: u8) -> &mut Value {
         &mut self.top().registers[usize::from(a)]
     }
 
-    fn set(&mut self, a: u8, value: Value) {
+    pub(super) fn set(&mut self, a: u8, value: Value) {
         *self.register(a) = value;
         self.top().lost[usize::from(a)] = None;
     }
 
-    /// A send after which the register is NIL.
-    fn lose(&mut self, a: u8, event: Event) {
+    /// An operation after which the register is NIL.
+    pub(super) fn lose(&mut self, a: u8, event: Event) {
         let had_number = self.register(a).take().is_some();
         if had_number {
             self.top().lost[usize::from(a)] = Some(event);
         }
     }
 
-    fn object(&self) -> u8 {
+    pub(super) fn object(&self) -> u8 {
         self.frames
             .last()
             .expect("a running manager has frames")
@@ -183,43 +199,6 @@ impl Manager {
         self.top().next = target;
     }
 
-    /// False for a seventeenth write, which ends the manager.
-    fn write(
-        &mut self,
-        a: u8,
-        field: u8,
-        length: usize,
-        session: &Session,
-        world: &mut impl World,
-    ) -> bool {
-        let object = self.object();
-        if session.level_of(object) != self.level {
-            world.saw(Event::WriteBelow);
-            return true;
-        }
-        if self.writes == WRITES_MAX {
-            world.saw(Event::SeventeenthWrite);
-            if self.steps == STEPS_MAX {
-                world.saw(Event::SeventeenthAtLastStep);
-            }
-            if self.frames.len() == 1 && self.top().next == length {
-                world.saw(Event::SeventeenthAtEnd);
-            }
-            self.ending = Some(2);
-            return false;
-        }
-        self.writes += 1;
-        let value = *self.register(a);
-        if value.is_none() {
-            world.saw(Event::WriteNil);
-        }
-        if let Some(event) = self.top().lost[usize::from(a)] {
-            world.saw(event);
-        }
-        world.write(self, object, field, value);
-        true
-    }
-
     fn send(&mut self, a: u8, name: u8, object: u8, session: &Session, world: &mut impl World) {
         let from = session.level_of(self.object());
         let to = session.level_of(object);
@@ -233,6 +212,9 @@ impl Manager {
             }
             Delivery::FrameWithoutReply => {
                 world.saw(Event::UpwardInside);
+                if owner(object).is_some() {
+                    world.saw(Event::UpwardToMade);
+                }
                 self.lose(
                     a,
                     match self.frames.len() {
@@ -257,6 +239,9 @@ impl Manager {
             }
             Delivery::Nothing => {
                 world.saw(Event::IncomparableSend);
+                if owner(object).is_some() {
+                    world.saw(Event::IncomparableToMade);
+                }
                 self.lose(a, Event::NilOfIncomparable);
             }
         }
@@ -279,8 +264,11 @@ impl Manager {
             world.saw(Event::NinthFrame);
             return;
         }
+        let existence = world.existence(self, object);
+        self.note_frame(object, existence, world);
         self.frames.push(Frame {
             object,
+            methods_of: existence.methods_of(),
             name,
             next: 0,
             registers: [parameter, None, None, None],
@@ -314,6 +302,7 @@ impl Manager {
             write_stamp: self.write_stamp,
         });
         self.write_stamp += 1;
+        let was_there = world.newest_existence(object).is_there();
         world.fork(Fork {
             level,
             stamp: self.fork_stamp + self.forks * 16u32.pow(7 - self.depth),
@@ -322,6 +311,7 @@ impl Manager {
             object,
             name,
             parameter,
+            was_there,
         });
     }
 
@@ -343,7 +333,7 @@ impl Manager {
     fn pop_finished(&mut self, pops: usize, session: &Session, world: &mut impl World) {
         let mut count = pops;
         while let Some(frame) = self.frames.last() {
-            let length = session.script(frame.object, frame.name).len();
+            let length = session.script(frame.methods_of, frame.name).len();
             if frame.next < length {
                 break;
             }

@@ -6,8 +6,8 @@ use crate::record::{self, History, Record, Value};
 
 #[derive(Clone, Debug, PartialEq, Eq)]
 pub struct Outcome {
-    /// The fields of each object.
-    pub fields: Vec<[Value; FIELDS]>,
+    /// The fields of each object by number; none for a number without an object.
+    pub objects: Vec<Option<[Value; FIELDS]>>,
     /// The histories of each level, in stamp order.
     pub histories: Vec<Vec<History>>,
     /// The root's reply.
@@ -19,15 +19,14 @@ impl Outcome {
     pub fn shown(&self, session: &Session, clearance: usize) -> Vec<u8> {
         let is_shown = |level: usize| session.lattice.dominates(clearance, level);
         let mut records: Vec<Record> = Vec::new();
-        for (i, fields) in self.fields.iter().enumerate() {
-            let level = session.objects[i].level;
+        for (number, object) in (0..).zip(&self.objects) {
+            let Some(fields) = *object else {
+                continue;
+            };
+            let level = session.level_of(number);
             if is_shown(level) {
-                records.push(record::object(
-                    record::SHOWN_OBJECT,
-                    i as u8,
-                    level as u8,
-                    *fields,
-                ));
+                let kind = record::SHOWN_OBJECT;
+                records.push(record::object(kind, number, level as u8, fields));
             }
         }
         let histories = self.shown_histories(session, clearance);

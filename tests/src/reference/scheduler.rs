@@ -1,26 +1,25 @@
 //! The level scheduler: managers that wait, run and end at each level, and the
-//! versions of the fields.
+//! versions of the fields and of the objects' existence.
 
 use super::fork::Fork;
 use super::level::Level;
 use super::manager::{Manager, World};
+use super::objects::{initial, Existence, Object};
 use super::outcome::Outcome;
 use super::session::Session;
+use super::versions::Versions;
 use crate::limits::*;
-use crate::record::Value;
+use crate::record::{History, Value};
 use crate::tally::{Event, Tally};
 use std::collections::HashMap;
 
-struct Version {
-    write_stamp: u32,
-    value: Value,
-}
+type Kept = Object<Versions<Value>, Versions<Existence>>;
 
 pub struct Scheduler<'a> {
     pub(super) session: &'a Session,
     pub(super) levels: Vec<Level>,
-    /// The versions of each object's fields, oldest first.
-    versions: Vec<[Vec<Version>; FIELDS]>,
+    /// By number.
+    objects: Vec<Kept>,
     reply: Value,
     /// For a level, an object and a field of another level: the fork stamp of the
     /// manager that read it last, and what it read. For the tally alone.
@@ -34,11 +33,9 @@ pub struct Scheduler<'a> {
 impl<'a> Scheduler<'a> {
     /// The session as read in: the root's manager waits, no other is there.
     pub fn new(session: &'a Session, tally: &'a mut Tally) -> Self {
-        let initial = |value| {
-            vec![Version {
-                write_stamp: 0,
-                value,
-            }]
+        let kept = |object: Object<Value, Existence>| Kept {
+            fields: object.fields.map(Versions::initial),
+            existence: Versions::initial(object.existence),
         };
         let mut levels: Vec<Level> = session.lattice.levels().map(|_| Level::default()).collect();
         levels[session.root_level()]
@@ -47,11 +44,7 @@ impl<'a> Scheduler<'a> {
         Scheduler {
             session,
             levels,
-            versions: session
-                .objects
-                .iter()
-                .map(|object| object.fields.map(initial))
-                .collect(),
+            objects: initial(session).into_iter().map(kept).collect(),
             reply: None,
             reads: HashMap::new(),
             is_early: false,
@@ -142,9 +135,12 @@ impl<'a> Scheduler<'a> {
                 tally.saw(Event::ThirtyTwoForks);
             }
         }
-        let newest = |versions: Vec<Version>| versions.last().and_then(|version| version.value);
+        let left = |object: Kept| {
+            let is_there = object.existence.newest().is_there();
+            is_there.then(|| object.fields.map(|field| field.newest()))
+        };
         Outcome {
-            fields: self.versions.into_iter().map(|v| v.map(newest)).collect(),
+            objects: self.objects.into_iter().map(left).collect(),
             histories: self.levels.into_iter().map(|level| level.ended).collect(),
             reply: self.reply,
         }
@@ -155,13 +151,9 @@ impl World for Scheduler<'_> {
     fn read(&mut self, reader: &Manager, object: u8, field: u8) -> Value {
         let level = self.session.level_of(object);
         let seen = self.newest_seen(reader, level);
-        let versions = &self.versions[usize::from(object)][usize::from(field)];
-        let position = versions
-            .iter()
-            .rposition(|version| version.write_stamp <= seen)
-            .expect("version 0 is always there");
-        let value = versions[position].value;
-        if position + 1 < versions.len() {
+        let versions = &self.objects[usize::from(object)].fields[usize::from(field)];
+        let (value, is_older) = versions.not_above(seen);
+        if is_older {
             let mut ancestors = reader.ancestors.iter();
             if ancestors.any(|ancestor| ancestor.level == level) {
                 self.saw(Event::OlderAtAncestor);
@@ -179,18 +171,32 @@ impl World for Scheduler<'_> {
     }
 
     fn write(&mut self, writer: &Manager, object: u8, field: u8, value: Value) {
-        let versions = &mut self.versions[usize::from(object)][usize::from(field)];
-        let version = Version {
-            write_stamp: writer.write_stamp,
-            value,
-        };
-        match versions.last_mut() {
-            Some(last) if last.write_stamp == version.write_stamp => {
-                *last = version;
-                self.saw(Event::WriteReplaced);
-            }
-            _ => versions.push(version),
+        let versions = &mut self.objects[usize::from(object)].fields[usize::from(field)];
+        if versions.put(writer.write_stamp, value) {
+            self.saw(Event::WriteReplaced);
         }
+    }
+
+    fn existence(&self, reader: &Manager, object: u8) -> Existence {
+        let seen = self.newest_seen(reader, self.session.level_of(object));
+        let versions = &self.objects[usize::from(object)].existence;
+        let (existence, _) = versions.not_above(seen);
+        existence
+    }
+
+    fn newest_existence(&self, object: u8) -> Existence {
+        self.objects[usize::from(object)].existence.newest()
+    }
+
+    fn change_existence(&mut self, writer: &Manager, object: u8, existence: Existence) {
+        let versions = &mut self.objects[usize::from(object)].existence;
+        if versions.put(writer.write_stamp, existence) {
+            self.saw(Event::ExistenceReplaced);
+        }
+    }
+
+    fn ended(&self, level: usize) -> &[History] {
+        &self.levels[level].ended
     }
 
     fn fork(&mut self, fork: Fork) {

@@ -1,6 +1,7 @@
 //! What an accepted session says.
 
 use super::lattice::Lattice;
+use super::objects::owner;
 use crate::limits::*;
 use crate::record::{self, Operation, Record, Value};
 
@@ -47,12 +48,18 @@ impl Session {
         }
     }
 
-    pub fn script(&self, object: u8, name: u8) -> &[Operation] {
-        &self.scripts[method(object, name)]
+    /// The script of a name in the methods of an object of the session; an empty one
+    /// if there is no such object.
+    pub fn script(&self, methods_of: Option<u8>, name: u8) -> &[Operation] {
+        match methods_of {
+            Some(object) => &self.scripts[method(object, name)],
+            None => &[],
+        }
     }
 
+    /// The level of an object of the session, or of a number that a level owns.
     pub fn level_of(&self, object: u8) -> usize {
-        self.objects[usize::from(object)].level
+        owner(object).unwrap_or_else(|| self.objects[usize::from(object)].level)
     }
 
     pub fn root_level(&self) -> usize {

@@ -6,8 +6,10 @@ use crate::limits::*;
 use crate::random::Random;
 use crate::record::{level, Record};
 
-/// Byte values next to the limits of document 01.
-const EDGES: [u8; 16] = [0, 1, 2, 3, 4, 5, 7, 8, 15, 16, 17, 31, 32, 127, 128, 255];
+/// Byte values next to the limits of documents 01 and 02.
+const EDGES: [u8; 20] = [
+    0, 1, 2, 3, 4, 5, 7, 8, 9, 10, 15, 16, 17, 31, 32, 63, 64, 127, 128, 255,
+];
 
 /// A session made from a valid one by damage, or not from one at all. It may
 /// still be valid, as not every change does harm.

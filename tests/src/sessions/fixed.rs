@@ -9,12 +9,13 @@ use crate::record::Operation::{self, *};
 pub type Fixed = fn() -> Vec<u8>;
 
 /// All of them by name.
-pub const FIXED: [(&str, Fixed); 5] = [
+pub const FIXED: [(&str, Fixed); 6] = [
     ("session W", example_w),
     ("typical", typical),
     ("largest by forks", largest_by_forks),
     ("largest by steps", largest_by_steps),
     ("largest by versions", largest_by_versions),
+    ("largest by objects", largest_by_objects),
 ];
 
 fn send(a: u8, name: u8, object: u8) -> Operation {
@@ -199,6 +200,24 @@ pub fn largest_by_versions() -> Vec<u8> {
         [read, [Add { a, b }, Write { a, field }]].concat()
     });
     draft.put(reader, 0, script.collect::<Vec<_>>().concat());
+    draft.bytes()
+}
+
+/// The longest result: as many managers as there can be, and 64 objects, half of them
+/// made. A chain of 8 levels; every manager makes 15 forks at the next level and tries
+/// to make four objects, which the first of each level does.
+fn largest_by_objects() -> Vec<u8> {
+    let mut draft = full_size((0..8u32).map(|i| ((1u32 << (i + 1)) - 1) as u8).collect());
+    for level in 0..8u8 {
+        let object = 4 * level;
+        let mut script = match level {
+            7 => Vec::new(),
+            _ => counted(FORKS_MAX, vec![send(0, 0, object + 4)]),
+        };
+        script.push(Set { a: 1, n: 7 });
+        script.extend([Create { a: 0 }; MADE_MAX]);
+        draft.put(object, 0, script);
+    }
     draft.bytes()
 }
 

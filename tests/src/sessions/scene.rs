@@ -4,7 +4,7 @@ use super::draft::Draft;
 use crate::limits::*;
 use crate::random::Random;
 use crate::record::Operation;
-use crate::reference::Lattice;
+use crate::reference::{made_by, Lattice};
 
 /// Names under which objects have ordinary methods.
 pub const WORK_NAMES: usize = 3;
@@ -16,6 +16,8 @@ pub struct Scene<'r> {
     pub random: &'r mut Random,
     pub lattice: Lattice,
     pub draft: Draft,
+    /// Whether ordinary methods make and withdraw objects.
+    pub with_objects: bool,
 }
 
 impl<'r> Scene<'r> {
@@ -41,6 +43,7 @@ impl<'r> Scene<'r> {
             ..Draft::default()
         };
         Scene {
+            with_objects: random.one_in(3),
             random,
             lattice: Lattice::new(masks),
             draft,
@@ -71,6 +74,28 @@ impl<'r> Scene<'r> {
 
     pub fn object_below(&mut self, level: usize) -> Option<u8> {
         self.object_where(|lattice, other| lattice.strictly_dominates(level, other))
+    }
+
+    /// A number that a level owns, the first more often: it is the first one used.
+    pub fn owned_by(&mut self, level: usize) -> u8 {
+        let numbers: Vec<u8> = made_by(level).collect();
+        let any = self.random.pick(&numbers);
+        self.random.pick(&[numbers[0], numbers[0], any, any])
+    }
+
+    /// A step that makes or withdraws an object, or sends to one that a level may have
+    /// made.
+    pub fn object_step(&mut self) -> Operation {
+        let a = self.random.byte_below(REGISTERS);
+        match self.random.below(8) {
+            0..=2 => Operation::Create { a },
+            3 => Operation::Withdraw,
+            _ => {
+                let level = self.random.below(self.draft.masks.len());
+                let object = self.owned_by(level);
+                self.send_work(object)
+            }
+        }
     }
 
     /// The level that all others dominate.

@@ -25,6 +25,9 @@ pub fn work_everywhere(scene: &mut Scene, most: usize) {
 }
 
 fn work_step(scene: &mut Scene, object: u8) -> Operation {
+    if scene.with_objects && scene.random.one_in(6) {
+        return scene.object_step();
+    }
     let level = scene.level_of(object);
     let a = scene.random.byte_below(REGISTERS);
     match scene.random.below(9) {
@@ -77,6 +80,9 @@ pub fn versions(random: &mut Random) -> Draft {
 
 /// A write, a read of an object below, or work for one above.
 fn version_step(scene: &mut Scene, object: u8) -> Operation {
+    if scene.with_objects && scene.random.one_in(6) {
+        return scene.object_step();
+    }
     let level = scene.level_of(object);
     let a = scene.random.byte_below(REGISTERS);
     let name = match scene.random.below(8) {
@@ -196,6 +202,9 @@ fn busy_script(scene: &mut Scene, object: u8, longest: usize) -> Vec<Operation> 
 }
 
 fn busy_step(scene: &mut Scene, object: u8, length: usize) -> Operation {
+    if scene.with_objects && scene.random.one_in(6) {
+        return scene.object_step();
+    }
     let level = scene.level_of(object);
     let a = scene.random.byte_below(REGISTERS);
     match scene.random.below(20) {

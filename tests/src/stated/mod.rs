@@ -1,8 +1,10 @@
 //! The cases M1 to M12 that document 01 states with their answers, M5's as
 //! document 02 changes it, two with more than 65,536 bytes, tables with and without
-//! greatest lower bounds, and pages.
+//! greatest lower bounds, pages, and objects made and withdrawn.
 
 mod bounds;
+mod objects;
+mod receivers;
 
 use crate::library::Answer;
 use crate::limits::*;
@@ -78,6 +80,8 @@ pub fn cases() -> Vec<(&'static str, Vector)> {
     let mut cases = stated_cases();
     cases.extend(bounds::cases());
     cases.extend(pages());
+    cases.extend(receivers::cases());
+    cases.extend(objects::cases());
     cases
 }
 

@@ -1,6 +1,7 @@
 //! Generated calls of the library: its runs are compared with each other, its
 //! answers with the reference.
 
+mod objects;
 mod page;
 
 use crate::clearances;
@@ -157,6 +158,7 @@ impl<'a> Trial<'a> {
                 .map_err(|message| format!("clearance {clearance}: {message}"))?;
             self.tuned_agrees(bytes, clearance, &list, &expected)?;
             self.pages(bytes, &session, &left, clearance, &mut tally)?;
+            self.note_objects(&session, &left, clearance, &mut tally);
         }
         self.other_timetables(bytes, &session, &list, &mut tally)?;
         self.counts.limits.add(&tally);
@@ -318,7 +320,7 @@ impl<'a> Trial<'a> {
         let page = PAGE_LENGTH + 1 - random.below(3);
         let lengths = Lengths {
             work: random.pick(&[0, 1, work, work, work, 9000]),
-            result: random.pick(&[0, 16, result, result, result, 5000]),
+            result: random.pick(&[0, 16, result, result, result, 6000]),
             page: random.pick(&[0, 28, page, page, page, 9000]),
             place_and_count,
         };

@@ -1,11 +1,14 @@
 //! The check, each question in as few passes as it takes.
 
 use crate::limits::*;
-use crate::record::{Record, JUMP, LEVEL, OBJECT, QUIT, ROOT, SEND, SET};
+use crate::record::{Record, JUMP, LEVEL, OBJECT, ROOT, SEND, SET, WITHDRAW};
+use std::ops::Range;
 
 const REGISTER_MAX: u8 = REGISTERS as u8 - 1;
 const FIELD_MAX: u8 = FIELDS as u8 - 1;
 const NAME_MAX: u8 = NAMES as u8 - 1;
+/// Numbers of operations, with 0, which is none.
+const OPERATIONS: usize = WITHDRAW as usize + 1;
 
 /// The records of an accepted session by kind, or the number of the first
 /// question answered no.
@@ -32,7 +35,7 @@ pub fn parts(session: &[u8]) -> Result<Parts<'_>, u32> {
     if !objects_fit(parts.objects, masks.len()) {
         return Err(6);
     }
-    if !steps_fit(parts.steps, parts.objects.len()) {
+    if !steps_fit(parts.steps, parts.objects.len(), masks.len()) {
         return Err(7);
     }
     if !root_fits(parts.root, parts.objects.len()) {
@@ -154,7 +157,8 @@ fn objects_fit(objects: &[Record], levels: usize) -> bool {
 
 /// Question 7: every method's object present, its name at most 15, methods in
 /// order of object and name, at most 16 steps each, and every step well formed.
-fn steps_fit(steps: &[Record], objects: usize) -> bool {
+fn steps_fit(steps: &[Record], objects: usize, levels: usize) -> bool {
+    let mut largest = Largest::new(objects, levels);
     let mut last = None;
     // A run of equal (object, name) is a method. Runs end where the pair
     // changes, so "never falling" means rising from run to run.
@@ -168,31 +172,62 @@ fn steps_fit(steps: &[Record], objects: usize) -> bool {
                 && usize::from(key.0) < objects
                 && key.1 <= NAME_MAX
                 && method.len() <= METHOD_STEPS_MAX
-                && method_fits(method, objects)
+                && largest.all_fit(method)
         })
 }
 
-/// Question 7 for the steps of one method of at most 16 steps: operation 1 to
-/// 7, operands within their limits, unused bytes 0.
-fn method_fits(method: &[Record], objects: usize) -> bool {
-    // The largest operands and the largest n by operation; 0 where unused.
-    let mut b_max = [0, 0, REGISTER_MAX, 0, FIELD_MAX, FIELD_MAX, NAME_MAX, 0];
-    b_max[usize::from(JUMP)] = method.len() as u8;
-    let mut c_max = [0; 8];
-    c_max[usize::from(SEND)] = (objects - 1) as u8;
-    let mut n_max = [0; 8];
-    n_max[usize::from(SET)] = u64::from(u32::MAX);
-    method.iter().all(|step| {
-        let [_, _, _, operation, a, b, c, unused, tail @ ..] = *step;
-        let i = usize::from(operation);
-        (SET..=QUIT).contains(&operation)
-            && a <= REGISTER_MAX
-            && b <= b_max[i]
-            && c <= c_max[i]
-            && unused == 0
-            // Bytes 8 to 15 as one number: below 2^32 when 12 to 15 are 0.
-            && u64::from_le_bytes(tail) <= n_max[i]
-    })
+/// The largest operands and the largest n by operation; 0 where unused.
+struct Largest {
+    a: [u8; OPERATIONS],
+    b: [u8; OPERATIONS],
+    c: [u8; OPERATIONS],
+    n: [u64; OPERATIONS],
+    /// Numbers that present levels own, which SEND may name too.
+    owned: Range<u8>,
+}
+
+impl Largest {
+    fn new(objects: usize, levels: usize) -> Self {
+        let mut largest = Largest {
+            a: [REGISTER_MAX; OPERATIONS],
+            b: [
+                0,
+                0,
+                REGISTER_MAX,
+                0,
+                FIELD_MAX,
+                FIELD_MAX,
+                NAME_MAX,
+                0,
+                0,
+                0,
+            ],
+            c: [0; OPERATIONS],
+            n: [0; OPERATIONS],
+            owned: OBJECTS_MAX as u8..(OBJECTS_MAX + MADE_MAX * levels) as u8,
+        };
+        largest.a[usize::from(WITHDRAW)] = 0;
+        largest.c[usize::from(SEND)] = (objects - 1) as u8;
+        largest.n[usize::from(SET)] = u64::from(u32::MAX);
+        largest
+    }
+
+    /// Question 7 for the steps of one method of at most 16 steps: operation 1 to 9,
+    /// operands within their limits, unused bytes 0.
+    fn all_fit(&mut self, method: &[Record]) -> bool {
+        self.b[usize::from(JUMP)] = method.len() as u8;
+        method.iter().all(|step| {
+            let [_, _, _, operation, a, b, c, unused, tail @ ..] = *step;
+            let i = usize::from(operation);
+            (SET..=WITHDRAW).contains(&operation)
+                && a <= self.a[i]
+                && b <= self.b[i]
+                && (c <= self.c[i] || (operation == SEND && self.owned.contains(&c)))
+                && unused == 0
+                // Bytes 8 to 15 as one number: below 2^32 when 12 to 15 are 0.
+                && u64::from_le_bytes(tail) <= self.n[i]
+        })
+    }
 }
 
 /// Question 8: the root's object present, its name at most 15, its tag 0 or 1,

@@ -38,13 +38,14 @@ impl Histories {
             .map_or(1, |last| last.last_write_stamp + 1)
     }
 
-    /// Writes the result; `field` gives the fields as they are at the end.
+    /// Writes the result; `fields` gives the fields of an object as they are at the
+    /// end, and none if it is not there then.
     pub fn show(
         &self,
         tables: &Tables,
         clearance: usize,
         reply: Value,
-        field: impl Fn(usize, usize) -> Value,
+        fields: impl Fn(u8) -> Option<[Value; FIELDS]>,
         result: &mut [u8],
     ) -> Answer {
         let shown = tables.dominated(clearance as u8);
@@ -55,15 +56,20 @@ impl Histories {
             places[count] = record;
             count += 1;
         };
-        for (i, object) in tables.objects.iter().enumerate() {
-            if is_shown(object[2]) {
-                let fields = [0, 1, 2].map(|k| field(i, k));
-                put(record::object(
-                    record::SHOWN_OBJECT,
-                    i as u8,
-                    object[2],
-                    fields,
-                ));
+        let mut put_object = |number: usize, level: u8| {
+            if is_shown(level) {
+                let number = number as u8;
+                if let Some(fields) = fields(number) {
+                    put(record::object(record::SHOWN_OBJECT, number, level, fields));
+                }
+            }
+        };
+        for (number, object) in tables.objects.iter().enumerate() {
+            put_object(number, object[2]);
+        }
+        if tables.changes_objects {
+            for place in 0..MADE_MAX * tables.levels {
+                put_object(OBJECTS_MAX + place, (place / MADE_MAX) as u8);
             }
         }
         for level in 0..tables.levels as u8 {

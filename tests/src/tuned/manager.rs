@@ -1,17 +1,27 @@
-//! A message manager and its script steps, for any `World` of fields and forks.
+//! A message manager and its script steps, for any `World` of objects and forks.
 
 use super::tables::Tables;
 use crate::limits::*;
 use crate::record::{number_at, History, Value};
-use crate::record::{ADD, JUMP, READ, SEND, SET, WRITE};
+use crate::record::{ADD, CREATE, JUMP, READ, SEND, SET, WITHDRAW, WRITE};
 
 /// No register takes the reply.
 const NO_REPLY: u8 = u8::MAX;
 
 /// What a run provides for its managers.
 pub trait World {
+    /// Whether objects may be made or withdrawn. If not, those of the session are there
+    /// and no others, and the functions on existence are not called.
+    const CHANGES: bool;
+
     fn read(&mut self, reader: &Manager, object: u8, level: u8, field: u8) -> Value;
     fn write(&mut self, writer: &Manager, object: u8, field: u8, value: Value);
+    /// The object of the session whose methods an object has, as a READ would see it;
+    /// none if it is not there.
+    fn methods_of(&mut self, reader: &Manager, object: u8, level: u8) -> Option<u8>;
+    fn change_existence(&mut self, writer: &Manager, object: u8, methods_of: Option<u8>);
+    /// How many objects a level has made.
+    fn made(&mut self, level: u8) -> &mut u8;
     fn fork(&mut self, level: u8, fork: Fork);
 }
 
@@ -80,7 +90,13 @@ pub struct Manager {
 }
 
 impl Manager {
-    pub fn new(level: u8, fork: &Fork, write_stamp: u16, tables: &Tables) -> Self {
+    pub fn new(
+        level: u8,
+        fork: &Fork,
+        write_stamp: u16,
+        tables: &Tables,
+        world: &mut impl World,
+    ) -> Self {
         let mut manager = Manager {
             frames: [Frame::default(); FRAMES_MAX],
             height: 0,
@@ -95,7 +111,9 @@ impl Manager {
             write_stamp,
             reply: None,
         };
-        manager.push(tables, (fork.object, fork.name), fork.parameter, NO_REPLY);
+        let message = (fork.object, fork.name);
+        let level = tables.level_of(fork.object);
+        manager.push(tables, world, message, level, fork.parameter, NO_REPLY);
         manager
     }
 
@@ -107,7 +125,7 @@ impl Manager {
 
     /// One script step; the ending, if it was the last.
     #[inline]
-    pub fn step(&mut self, tables: &Tables, world: &mut impl World) -> Option<u8> {
+    pub fn step<W: World>(&mut self, tables: &Tables, world: &mut W) -> Option<u8> {
         let frame = &mut self.frames[self.height - 1];
         let step = &tables.steps[usize::from(frame.next)];
         let [_, _, _, operation, a, b, c, ..] = *step;
@@ -131,7 +149,10 @@ impl Manager {
             }
             READ => {
                 let (object, level) = (frame.object, frame.level);
-                let value = world.read(self, object, level, b);
+                let value = match self.is_there(world, object, level) {
+                    true => world.read(self, object, level, b),
+                    false => None,
+                };
                 self.frames[self.height - 1].registers[register] = value;
             }
             WRITE => {
@@ -140,6 +161,16 @@ impl Manager {
                 }
             }
             SEND => self.send(tables, world, register, (c, b)),
+            CREATE if W::CHANGES => {
+                if !self.create(world, register) {
+                    return Some(2);
+                }
+            }
+            WITHDRAW if W::CHANGES => {
+                if !self.withdraw(world) {
+                    return Some(2);
+                }
+            }
             _ => {
                 let reply = frame.registers[register];
                 self.pop(reply);
@@ -159,13 +190,64 @@ impl Manager {
     #[inline]
     fn write(&mut self, world: &mut impl World, register: usize, field: u8) -> bool {
         let frame = &self.frames[self.height - 1];
-        if frame.level == self.level {
+        let (object, value) = (frame.object, frame.registers[register]);
+        if frame.level == self.level && self.is_there(world, object, frame.level) {
             if u32::from(self.writes) == WRITES_MAX {
                 return false;
             }
             self.writes += 1;
-            let (object, value) = (frame.object, frame.registers[register]);
             world.write(self, object, field, value);
+        }
+        true
+    }
+
+    #[inline]
+    fn is_there<W: World>(&self, world: &mut W, object: u8, level: u8) -> bool {
+        !W::CHANGES || world.methods_of(self, object, level).is_some()
+    }
+
+    /// Whose methods the top frame's object has, if it is of the manager's level and
+    /// there.
+    fn changeable(&self, world: &mut impl World) -> Option<u8> {
+        let frame = &self.frames[self.height - 1];
+        let methods_of = world.methods_of(self, frame.object, frame.level);
+        methods_of.filter(|_| frame.level == self.level)
+    }
+
+    /// False for one that passes 16 writes, which is not made.
+    #[inline(never)]
+    fn create(&mut self, world: &mut impl World, register: usize) -> bool {
+        let methods_of = self.changeable(world);
+        let made = world.made(self.level);
+        let mut number = None;
+        if methods_of.is_some() && usize::from(*made) < MADE_MAX {
+            if u32::from(self.writes) + CREATE_WRITES > WRITES_MAX {
+                return false;
+            }
+            self.writes += CREATE_WRITES as u8;
+            let object = OBJECTS_MAX as u8 + MADE_MAX as u8 * self.level + *made;
+            *made += 1;
+            let [_, fields @ ..] = self.frames[self.height - 1].registers;
+            for (field, value) in (0..).zip(fields) {
+                world.write(self, object, field, value);
+            }
+            world.change_existence(self, object, methods_of);
+            number = Some(u32::from(object));
+        }
+        self.frames[self.height - 1].registers[register] = number;
+        true
+    }
+
+    /// False for one that passes 16 writes, which is not made.
+    #[inline(never)]
+    fn withdraw(&mut self, world: &mut impl World) -> bool {
+        if self.changeable(world).is_some() {
+            if u32::from(self.writes) == WRITES_MAX {
+                return false;
+            }
+            self.writes += 1;
+            let object = self.frames[self.height - 1].object;
+            world.change_existence(self, object, None);
         }
         true
     }
@@ -187,7 +269,7 @@ impl Manager {
             if self.height == FRAMES_MAX {
                 frame.registers[register] = None;
             } else {
-                self.push(tables, (object, name), parameter, register as u8);
+                self.push(tables, world, (object, name), to, parameter, register as u8);
             }
             return;
         }
@@ -199,20 +281,34 @@ impl Manager {
         if join != self.level {
             self.fork(world, join, (object, name), parameter);
         } else if self.height < FRAMES_MAX {
-            self.push(tables, (object, name), parameter, NO_REPLY);
+            self.push(tables, world, (object, name), to, parameter, NO_REPLY);
         }
     }
 
-    /// A new frame; the caller knows that there is room for it.
-    fn push(&mut self, tables: &Tables, (object, name): (u8, u8), parameter: Value, reply_to: u8) {
-        let (start, end) = tables.script(object, name);
+    /// A new frame of an object at a level; the caller knows that there is room for it.
+    /// If the object is not there the method is empty.
+    fn push<W: World>(
+        &mut self,
+        tables: &Tables,
+        world: &mut W,
+        (object, name): (u8, u8),
+        level: u8,
+        parameter: Value,
+        reply_to: u8,
+    ) {
+        let methods_of = match W::CHANGES {
+            true => world.methods_of(self, object, level),
+            false => (usize::from(object) < OBJECTS_MAX).then_some(object),
+        };
+        let script = methods_of.map(|object| tables.script(object, name));
+        let (start, end) = script.unwrap_or((0, 0));
         self.frames[self.height] = Frame {
             registers: [parameter, None, None, None],
             next: start,
             start,
             end,
             object,
-            level: tables.level_of(object),
+            level,
             reply_to,
         };
         self.height += 1;

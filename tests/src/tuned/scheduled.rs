@@ -3,7 +3,7 @@
 use super::histories::Histories;
 use super::manager::{Fork, Manager, World};
 use super::tables::Tables;
-use super::versions::{number, Versions, View};
+use super::versions::{existence, number, Versions, View, ALL, GIVEN};
 use crate::library::Answer;
 use crate::limits::*;
 use crate::record::Value;
@@ -15,14 +15,17 @@ struct Queue {
     started: usize,
 }
 
-struct Scheduler<'a> {
+/// With versions of so many fields.
+struct Scheduler<'a, const N: usize> {
     tables: &'a Tables<'a>,
     queues: [Queue; LEVELS_MAX],
     /// Levels with a manager that has not ended, one bit for each.
     active: u8,
-    versions: Versions<'a>,
+    versions: Versions<'a, N>,
     /// What the running manager of each level sees.
-    views: [View; LEVELS_MAX],
+    views: [View<N>; LEVELS_MAX],
+    /// Objects that each level has made.
+    made: [u8; LEVELS_MAX],
     histories: Histories,
     reply: Value,
 }
@@ -34,7 +37,22 @@ pub fn run_timetable(
     work: &mut [u32],
     result: &mut [u8],
 ) -> Answer {
-    let mut scheduler = Scheduler::new(tables, work);
+    match tables.changes_objects {
+        true => timetabled::<ALL>(tables, timetable, clearance, work, result),
+        false => timetabled::<GIVEN>(tables, timetable, clearance, work, result),
+    }
+}
+
+/// Apart from the other number of fields, without which the loop is faster.
+#[inline(never)]
+fn timetabled<const N: usize>(
+    tables: &Tables,
+    timetable: &[u8],
+    clearance: usize,
+    work: &mut [u32],
+    result: &mut [u8],
+) -> Answer {
+    let mut scheduler = Scheduler::<N>::new(tables, work);
     let mut running = [const { None }; LEVELS_MAX];
     for (position, &level) in timetable.iter().enumerate() {
         let Some(running) = running.get_mut(usize::from(level)) else {
@@ -52,7 +70,20 @@ pub fn run_timetable(
 }
 
 pub fn run_plain(tables: &Tables, clearance: usize, work: &mut [u32], result: &mut [u8]) -> Answer {
-    let mut scheduler = Scheduler::new(tables, work);
+    match tables.changes_objects {
+        true => plain::<ALL>(tables, clearance, work, result),
+        false => plain::<GIVEN>(tables, clearance, work, result),
+    }
+}
+
+#[inline(never)]
+fn plain<const N: usize>(
+    tables: &Tables,
+    clearance: usize,
+    work: &mut [u32],
+    result: &mut [u8],
+) -> Answer {
+    let mut scheduler = Scheduler::<N>::new(tables, work);
     // Every order that is allowed leaves the same. This one runs a level to its
     // end once none below it has managers: those that it forks are above it.
     while let Some(level) = scheduler.lowest() {
@@ -63,7 +94,7 @@ pub fn run_plain(tables: &Tables, clearance: usize, work: &mut [u32], result: &m
     scheduler.show(clearance, result)
 }
 
-impl<'a> Scheduler<'a> {
+impl<'a, const N: usize> Scheduler<'a, N> {
     fn new(tables: &'a Tables<'a>, work: &'a mut [u32]) -> Self {
         const EMPTY: Queue = Queue {
             forks: [Fork::NONE; KEPT_MAX],
@@ -76,6 +107,7 @@ impl<'a> Scheduler<'a> {
             active: 0,
             versions: Versions::new(work),
             views: [View::INITIAL; LEVELS_MAX],
+            made: [0; LEVELS_MAX],
             histories: Histories::new(),
             reply: None,
         };
@@ -168,7 +200,7 @@ impl<'a> Scheduler<'a> {
         let write_stamp = self.histories.next_write_stamp(level);
         let seen = self.seen(level, &fork);
         self.views[usize::from(level)].seen = seen;
-        let mut manager = Manager::new(level, &fork, write_stamp, self.tables);
+        let mut manager = Manager::new(level, &fork, write_stamp, self.tables, self);
         manager.pop_finished();
         manager
     }
@@ -208,26 +240,53 @@ impl<'a> Scheduler<'a> {
     }
 
     fn show(&self, clearance: usize, result: &mut [u8]) -> Answer {
-        let newest = |object: usize, field: usize| {
-            let number = object * FIELDS + field;
+        let newest = |number: usize| {
             let position = self.versions.newest(number);
             self.versions.value(self.tables, number, position)
         };
+        let is_there = |object: u8| !Self::CHANGES || newest(existence(object)).is_some();
+        let fields = |object: u8| {
+            let fields = [0, 1, 2].map(|field| newest(number(object, field)));
+            is_there(object).then_some(fields)
+        };
         self.histories
-            .show(self.tables, clearance, self.reply, newest, result)
+            .show(self.tables, clearance, self.reply, fields, result)
     }
-}
 
-impl World for Scheduler<'_> {
+    /// What a manager sees of a field, or of an object's existence.
     #[inline]
-    fn read(&mut self, reader: &Manager, object: u8, level: u8, field: u8) -> Value {
-        let number = number(object, field);
+    fn see(&mut self, reader: &Manager, number: usize, level: u8) -> Value {
         let position = if level == reader.level {
             self.versions.newest(number)
         } else {
             self.views[usize::from(reader.level)].find(&self.versions, number, level)
         };
         self.versions.value(self.tables, number, position)
+    }
+}
+
+impl<const N: usize> World for Scheduler<'_, N> {
+    const CHANGES: bool = N == ALL;
+
+    #[inline]
+    fn read(&mut self, reader: &Manager, object: u8, level: u8, field: u8) -> Value {
+        self.see(reader, number(object, field), level)
+    }
+
+    #[inline]
+    fn methods_of(&mut self, reader: &Manager, object: u8, level: u8) -> Option<u8> {
+        let methods_of = self.see(reader, existence(object), level);
+        methods_of.map(|object| object as u8)
+    }
+
+    fn change_existence(&mut self, writer: &Manager, object: u8, methods_of: Option<u8>) {
+        let value = methods_of.map(u32::from);
+        self.versions
+            .write(existence(object), writer.write_stamp, value);
+    }
+
+    fn made(&mut self, level: u8) -> &mut u8 {
+        &mut self.made[usize::from(level)]
     }
 
     #[inline]

@@ -2,13 +2,15 @@
 
 use super::check::Parts;
 use crate::limits::*;
-use crate::record::{parameter, Record, Value};
+use crate::record::{parameter, Record, Value, QUIT};
 
 pub struct Tables<'a> {
     pub objects: &'a [Record],
     pub steps: &'a [Record],
     pub root: &'a Record,
     pub levels: usize,
+    /// Whether a step makes or withdraws objects.
+    pub changes_objects: bool,
     /// Bit k of masks[i]: level i dominates level k.
     masks: [u8; LEVELS_MAX],
     /// Bit k of above[i]: level k dominates level i.
@@ -30,7 +32,9 @@ impl<'a> Tables<'a> {
         }
         let mut starts = [0; OBJECTS_MAX * NAMES + 1];
         let mut next = 0;
+        let mut changes_objects = false;
         for (i, step) in parts.steps.iter().enumerate() {
+            changes_objects |= step[3] > QUIT;
             let method = method(step[1], step[2]);
             while next <= method {
                 starts[next] = i as u16;
@@ -43,6 +47,7 @@ impl<'a> Tables<'a> {
             steps: parts.steps,
             root: parts.root,
             levels: parts.levels.len(),
+            changes_objects,
             masks,
             above,
             starts,
@@ -76,8 +81,12 @@ impl<'a> Tables<'a> {
         unreachable!("in an accepted session every pair has a least upper bound")
     }
 
+    /// The level of an object of the session, or the one that owns the number.
     pub fn level_of(&self, object: u8) -> u8 {
-        self.objects[usize::from(object)][2]
+        match self.objects.get(usize::from(object)) {
+            Some(object) => object[2],
+            None => (object - OBJECTS_MAX as u8) / MADE_MAX as u8,
+        }
     }
 
     /// The first step of a method and the step behind its last.

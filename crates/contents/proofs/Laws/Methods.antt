@@ -57,7 +57,7 @@ module _ (s : List ℕ) (a : verdictOf s ≡ Accepted) where
   -- (object, name) never falls
   pub keys-rise : risingFrom keyOf 0 (stepRecords s) ≡ true
   unfolding scriptsValid
-  keys-rise = and-left (risingFrom keyOf 0 (stepRecords s)) (methodsValid (objectCount s) (stepRecords s)) (yes-to-all .seven)
+  keys-rise = and-left (risingFrom keyOf 0 (stepRecords s)) (methodsValid (levelCount s) (objectCount s) (stepRecords s)) (yes-to-all .seven)
 
   -- where a method starts: behind the steps with smaller keys, before the others
   pub start-first : (k : ℕ) → levelCount s + objectCount s ≤ methodStart s k
@@ -126,7 +126,7 @@ module _ (s : List ℕ) (a : verdictOf s ≡ Accepted) where
       let k = key o m in
       let next = key ((16 * o + m + 1) / names) ((16 * o + m + 1) % names) in
       let same : countBelow keyOf next (stepRecords s) ≡ countBelow keyOf (suc k) (stepRecords s) =
-      ap length (select-same (λ rec. ltb (keyOf rec) next) (λ rec. ltb (keyOf rec) (suc k)) (scriptValid (objectCount s) (stepRecords s))
+      ap length (select-same (λ rec. ltb (keyOf rec) next) (λ rec. ltb (keyOf rec) (suc k)) (scriptValid (levelCount s) (objectCount s) (stepRecords s))
       (λ rec v. no-name-between o m (numberOf rec) (nameOf rec) h (ltb-true (nameOf rec) names (step-name s rec v)))
       (stepRecords s) (steps-valid s yes-to-all)) in
       omega (arith, same, count-more keyOf k (stepRecords s))

@@ -6,7 +6,8 @@ use native.Mathlib.Omega.{arith}
 use Rattle.session.specs.Program.{Program, programOf}
 use Rattle.session.specs.declared.Value.{Value}
 use Rattle.session.specs.declared.Message.{Message}
-use Rattle.session.proofs.Laws.Numbering.{few-objects}
+use Rattle.session.proofs.Laws.Numbering.{few-levels}
+use Rattle.session.proofs.Laws.Numbers.{number-few}
 use Rattle.session.proofs.Laws.Verdict.{accepted}
 use Rattle.scripts.specs.Effect as effect
 use Rattle.scripts.specs.State.{Manager}
@@ -47,15 +48,16 @@ module _ {s masks index : List ℕ} (a : Tables s masks index) {left : ℕ} {f :
     write-there q =
         record {
           room = q .1 .fields-there;
-          object = omega (arith, there .0, few-objects s (accepted s (a .accepted) .three));
-          field = there .1;
+          object = number-few s (a .accepted) o (there .0);
+          field = omega (arith, there .1);
         }
 
     pub perform-writes : (w : Words) (c' : List ℕ) → FieldSet (w .current) c' o i v → Performed s left f forks e w (record { current = c'; ended = w .ended; tallies = w .tallies })
     unfolding effected
     perform-writes w c' set = (
-      spared-write s w c' o i v (there .0) (there .1) set,
-      λ g x n represents same forking. rw is (kept-write s g (w .current) c' (w .ended) (w .tallies) o i v represents (there .0) (there .1) set),
+      spared-write s (a .accepted) w c' o i v (there .0) (omega (arith, there .1)) set,
+      λ g x n represents same forking.
+          rw is (kept-write s g (w .current) c' (w .ended) (w .tallies) o i v represents set (there .1) (few-levels s (accepted s (a .accepted) .three))),
     )
 
   -- one that made a fork: it runs whole, if its level keeps it

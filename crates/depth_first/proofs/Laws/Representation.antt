@@ -1,51 +1,38 @@
--- What a write and the end of a manager do to the words of a run, and what a read of existence sees. Assumes nothing.
+-- What a write and the end of a manager do to the words of a run. Assumes nothing.
 use Prim.Native.Nat.{ℕ, _+_, _≤_, _<_}
 use mathlib.Core.Path.{_≡_, refl, sym, _∙_, ap}
+use mathlib.Core.Bool.{true}
 use mathlib.Core.List.{List, _∷_}
 use native.Mathlib.Decide.{ℕ-discrete}
 use native.Mathlib.Omega.{arith}
 use borrow.Author.Tests.{eq-eqb, ne-eqb}
+use lib.Dec.{eqb}
 use lib.ListN.{length, getD}
-use Rattle.session.specs.Limits.{maxLevels, fields}
+use Rattle.lattice.proofs.Laws.Range.{not-both}
+use Rattle.session.specs.Limits.{maxLevels, maxNumbers, fields}
 use Rattle.session.specs.Parts.{levelCount, objectCount}
-use Rattle.session.specs.Questions.{verdictOf}
 use Rattle.session.specs.Program.{Program, programOf}
 use Rattle.session.specs.declared.Value.{Value}
-use Rattle.session.specs.declared.Verdict.the-variants.{Accepted}
-use Rattle.scripts.specs.Existence.{existence, ownScript, initially, scriptSeen}
-use Rattle.scripts.proofs.Laws.Existence.{first-there}
+use Rattle.scripts.specs.Effect.{Written}
+use Rattle.scripts.specs.Existence.{existence, initially}
 use Rattle.scripts.specs.Limits.{maxForks}
 use Rattle.scripts.specs.Value.{numberIn}
 use Rattle.scripts.specs.State.{Manager}
 use Rattle.scripts.specs.declared.Ended.{Ended}
-use Rattle.scripts.proofs.Laws.Accepted.{program-sound}
-use Rattle.scripts.proofs.Laws.Effects.{Legible}
-use Rattle.words.specs.Fields.{fieldAt, FieldSet}
-use Rattle.words.specs.Reads.{AllThere}
+use Rattle.words.specs.Limits.{objectValues}
+use Rattle.words.specs.Fields.{fieldAt, scriptIn, FieldSet}
 use Rattle.model.specs.Limits.{maxManagers}
 use Rattle.model.specs.Lists.{inserted}
 use Rattle.model.specs.Fork as model
 use Rattle.model.specs.History as history
-use Rattle.model.specs.DepthFirst.{Written, Tally, Progress, newTally, tallyAt, current, fieldNow, close}
+use Rattle.model.specs.DepthFirst.{Tally, Progress, newTally, tallyAt, current, fieldNow, close}
 use Rattle.theorems.proofs.Laws.Lists.{modify-length, modify-at, modify-other}
-use Rattle.theorems.proofs.Laws.Invariant.Contained.{first-readable}
 use Rattle.theorems.proofs.Laws.Invariant.Measure.{inserted-length}
 use Rattle.records.specs.Histories.{historiesAt, historyOf, Added}
-use Rattle.tallies.specs.Places.{nextPlace, tallied}
+use Rattle.tallies.specs.Places.{nextPlace, waitingPlace, allChangesPlace, tallyNumbers, tallied, changed, unchanged}
+use Rattle.tallies.proofs.Laws.Changed.{changed-length, changed-other, changed-all}
 use Rattle.tallies.proofs.Laws.Closed.{tallied-length, tallied-other, tallied-count, tallied-next}
 use Rattle.depth_first.specs.Representation.{Counted, RepresentedBy}
-
--- each object of the session is there, with its own methods
-module _ (s : List ℕ) (g : Progress) {c e t : List ℕ} (q : RepresentedBy s g c e t) where
-  pub all-there : AllThere s (fieldNow (programOf s) g)
-  all-there o h = q .existing o ∙ first-there s o h
-
-  pub own-script : (o : ℕ) → o < objectCount s → scriptSeen (fieldNow (programOf s) g) o ≡ ownScript o
-  own-script o h = ap numberIn (all-there o h)
-
-  -- and what is seen of existence names scripts that the objects' levels may read
-  pub fields-legible : verdictOf s ≡ Accepted → Legible (programOf s) (fieldNow (programOf s) g)
-  fields-legible a o = rw (q .existing o) (first-readable (programOf s) (program-sound s a) o)
 
 -- the fields after a write
 abbrev pub wrote : ℕ → ℕ → Value → Progress → Progress
@@ -63,33 +50,62 @@ current-other i o k o' k' v ws n = elim (ℕ-discrete o o') [
   | yes a ↦ rw (eq-eqb o o' a, ne-eqb k k' (λ b. n (sym a) (sym b))) refl
 ]
 
-pub kept-write : (s : List ℕ) (g : Progress) (c c' e t : List ℕ) (o k : ℕ) (v : Value) → RepresentedBy s g c e t → o < objectCount s → k < fields → FieldSet c c' o k v → RepresentedBy s (wrote o k v g) c' e t
-kept-write s g c c' e t o k v q ho hk f =
-    record {
-      fields-there = rw (f .outside .length-same) (q .fields-there);
-      histories-there = q .histories-there;
-      tallies-there = q .tallies-there;
-      counts-few = q .counts-few;
-      levels = q .levels;
-      field = λ o' k' a b. here o' k' a b (ℕ-discrete o' o) (ℕ-discrete k' k);
-      existing = λ o'. current-other (initially (programOf s) o' existence) o k o' existence v (g .written) (λ _ z. omega (arith, z, hk)) ∙ q .existing o';
-      counted = λ l h. recount (q .counted l h);
-    }
-  where
-    recount : {l : ℕ} → Counted g e t l → Counted (wrote o k v g) e t l
-    recount z =
-        record { few = z .few; count = z .count; histories = z .histories; rises = z .rises; next = z .next; pace = z .pace }
+module _ (s : List ℕ) (g : Progress) (c c' e t : List ℕ) (o k : ℕ) (v : Value) (q : RepresentedBy s g c e t) (f : FieldSet c c' o k v) where
+  other : (o' k' : ℕ) → o' < maxNumbers → k' < objectValues → (o' ≡ o → k' ≡ k → ⊥) → fieldAt c' o' k' ≡ fieldNow (programOf s) (wrote o k v g) o' k'
+  other o' k' a b n =
+      f .others o' k' b n
+      ∙ q .field o' k' a b
+      ∙ sym (current-other (initially (programOf s) o' k') o k o' k' v (g .written) n)
 
-    other : (o' k' : ℕ) → o' < objectCount s → k' < fields → (o' ≡ o → k' ≡ k → ⊥) → fieldAt c' o' k' ≡ fieldNow (programOf s) (wrote o k v g) o' k'
-    other o' k' a b n =
-        f .others o' k' b n
-        ∙ q .field o' k' a b
-        ∙ sym (current-other (initially (programOf s) o' k') o k o' k' v (g .written) n)
+  here : (o' k' : ℕ) → o' < maxNumbers → k' < objectValues → Dec (o' ≡ o) → Dec (k' ≡ k) → fieldAt c' o' k' ≡ fieldNow (programOf s) (wrote o k v g) o' k'
+  here o' k' a b (yes x) (yes y) = rw (x, y) (f .set ∙ sym (current-own (initially (programOf s) o k) o k v (g .written)))
+  here o' k' a b (no x) d = other o' k' a b (λ z _. x z)
+  here o' k' a b (yes x) (no y) = other o' k' a b (λ _ z. y z)
 
-    here : (o' k' : ℕ) → o' < objectCount s → k' < fields → Dec (o' ≡ o) → Dec (k' ≡ k) → fieldAt c' o' k' ≡ fieldNow (programOf s) (wrote o k v g) o' k'
-    here o' k' a b (yes x) (yes y) = rw (x, y) (f .set ∙ sym (current-own (initially (programOf s) o k) o k v (g .written)))
-    here o' k' a b (no x) d = other o' k' a b (λ z _. x z)
-    here o' k' a b (yes x) (no y) = other o' k' a b (λ _ z. y z)
+  -- the script of an object, if its existence is written or not
+  script-after : (existence ≡ k → numberIn v ≤ objectCount s) → (o' : ℕ) → o' < maxNumbers → Dec (o' ≡ o) → Dec (existence ≡ k) → scriptIn c' o' ≤ objectCount s
+  script-after low o' a (yes x) (yes y) = rw (x, y, f .set) (low y)
+  script-after low o' a (no x) d = rw (f .others o' existence (omega arith) (λ z _. x z)) (q .scripted o' a)
+  script-after low o' a (yes x) (no y) = rw (f .others o' existence (omega arith) (λ _ z. y z)) (q .scripted o' a)
+
+  -- with counts that say the same of ended managers and write stamps. Existence that is written has a script of the session, and is counted
+  kept-value : (t' : List ℕ) → tallyNumbers ≤ length t' → ((j : ℕ) → j < waitingPlace 0 → getD t' j 0 ≡ getD t j 0) → (existence ≡ k → numberIn v ≤ objectCount s) → (unchanged t' ≡ true → (unchanged t ≡ true) × (k < fields)) → levelCount s ≤ maxLevels → RepresentedBy s (wrote o k v g) c' e t'
+  kept-value t' room same low written few =
+      record {
+        fields-there = rw (f .outside .length-same) (q .fields-there);
+        histories-there = q .histories-there;
+        tallies-there = room;
+        counts-few = λ l h. rw (same l (omega (arith, h))) (q .counts-few l h);
+        levels = q .levels;
+        field = λ o' k' a b. here o' k' a b (ℕ-discrete o' o) (ℕ-discrete k' k);
+        scripted = λ o' a. script-after low o' a (ℕ-discrete o' o) (ℕ-discrete existence k);
+        existing = λ u o'. current-other (initially (programOf s) o' existence) o k o' existence v (g .written) (λ _ z. omega (arith, z, written u .1)) ∙ q .existing (written u .0) o';
+        counted = λ l h. recount l h (q .counted l h);
+      }
+    where
+      recount : (l : ℕ) → l < levelCount s → Counted g e t l → Counted (wrote o k v g) e t' l
+      recount l h z =
+          record {
+            few = z .few;
+            count = same l (omega (arith, h, few)) ∙ z .count;
+            histories = z .histories;
+            rises = z .rises;
+            next = same (nextPlace l) (omega (arith, h, few)) ∙ z .next;
+            pace = z .pace;
+          }
+
+  -- a field gets a value
+  pub kept-write : k < fields → levelCount s ≤ maxLevels → RepresentedBy s (wrote o k v g) c' e t
+  kept-write h few = kept-value t (q .tallies-there) (λ j _. refl) (λ z. absurd (omega (arith, z, h))) (λ u. (u, h)) few
+
+  -- existence is written, and that it was
+  pub kept-change : (l : ℕ) → l < maxLevels → k ≡ existence → numberIn v ≤ objectCount s → levelCount s ≤ maxLevels → RepresentedBy s (wrote o k v g) c' e (changed l t)
+  kept-change l small is low few =
+      kept-value (changed l t) (rw (changed-length l t) (q .tallies-there))
+      (λ j h. changed-other l t j (λ z. omega (arith, z, h)) (λ z. omega (arith, z, h)))
+      (λ _. low)
+      (λ u. absurd (not-both (unchanged (changed l t)) u (changed-all l t small (q .tallies-there))))
+      few
 
 -- the counts of a level whose manager has ended
 abbrev closedTally : model.Fork → Manager → Tally → Tally
@@ -131,6 +147,11 @@ module _ (s : List ℕ) (g : Progress) (c e e' t : List ℕ) (q : RepresentedBy 
 
   count-other : (j : ℕ) → j < maxLevels → (j ≡ l → ⊥) → getD t' j 0 ≡ getD t j 0
   count-other j hj d = tallied-other l (getD t l 0 + 1) (m .stamp + 1) t j d (λ z. omega (arith, z, hj))
+
+  -- whether existence was written is counted as it was
+  unchanged-same : unchanged t' ≡ unchanged t
+  unchanged-same =
+      ap (λ n. eqb n 0) (tallied-other l (getD t l 0 + 1) (m .stamp + 1) t allChangesPlace (λ z. omega (arith, z, small)) (λ z. omega (arith, z, small)))
 
   -- what the level's histories are then
   pub ended-own : tallyAt (close l x m g) l .ended ≡ inserted (λ h. h .stamp) (historyOf r) (tallyAt g l .ended)
@@ -188,7 +209,8 @@ module _ (s : List ℕ) (g : Progress) (c e e' t : List ℕ) (q : RepresentedBy 
         ];
         levels = close-levels l x m g ∙ q .levels;
         field = λ o k a b. q .field o k a b ∙ sym (close-fields (programOf s) l x m g o k);
-        existing = λ o. close-fields (programOf s) l x m g o existence ∙ q .existing o;
+        scripted = q .scripted;
+        existing = λ u o. close-fields (programOf s) l x m g o existence ∙ q .existing (sym unchanged-same ∙ u) o;
         counted = λ j hj. elim (ℕ-discrete j l) [
           | yes z ↦ rw z counted-own
           | no z ↦ counted-other j hj z

@@ -9,6 +9,7 @@ use Rattle.session.specs.Meaning.{levelOf, rootObject, rootOf}
 use Rattle.session.specs.Program.{Program, programOf}
 use Rattle.session.proofs.Laws.Accepted.{level-present, root-present, root-named}
 use Rattle.session.proofs.Laws.Contents.{level-limit, object-limit, masks-length}
+use Rattle.session.proofs.Laws.Numbers.{number-own, number-few}
 use Rattle.scripts.specs.declared.Ended.{Ended}
 use Rattle.model.specs.Limits.{maxManagers, resultBytes}
 use Rattle.model.specs.Fork as model
@@ -48,9 +49,9 @@ module _ (s masks index : List ℕ) (a : Tables s masks index) where
 
     same-bytes : bytesIn s (resultIn (w .current) (w .ended) (w .tallies)) c (levelOf s (rootObject s)) ≡ bytesIn s (resultOfDepthFirst p g) c (levelOf s (rootObject s))
     same-bytes =
-        bytes-depend p (resultIn (w .current) (w .ended) (w .tallies)) (resultOfDepthFirst p g) c (levelOf s (rootObject s)) (rw levels-are root-level)
-        (λ o k h j. q .field o k (rw (sym objects-are) h) j)
-        (λ l h _. same-ended l (rw (sym levels-are) h))
+        bytes-depend s (resultIn (w .current) (w .ended) (w .tallies)) (resultOfDepthFirst p g) c (levelOf s (rootObject s)) root-level
+        (λ o k n h. q .field o k (number-few s (a .accepted) o n) (omega (arith, h)))
+        (λ l h _. same-ended l h)
 
     bytes-few : length (bytesIn s (resultOfDepthFirst p g) c (levelOf s (rootObject s))) ≤ resultBytes
     bytes-few =
@@ -63,7 +64,7 @@ module _ (s masks index : List ℕ) (a : Tables s masks index) where
     root-runnable =
         record {
           placed = rw (r .level) root-level;
-          present = rw (r .message) (root-present s (a .accepted));
+          present = rw (r .message) (number-own s (rootObject s) (root-present s (a .accepted)));
           named = rw (r .message) (root-named s (a .accepted));
           shallow = omega (arith, r .depth, table-length, level-limit s (a .accepted));
           fits = rw (r .stamp, r .depth) (omega arith);

@@ -1,8 +1,8 @@
 -- `depth_first::root_fork` meets its contract. Assumes nothing.
 use mathlib.Core.Path.{refl, _∙_, ap}
-use native.Mathlib.Omega.{arith}
-use Rattle.session.specs.Meaning.{levelOf}
+use Rattle.session.specs.Meaning.{levelOf, rootObject}
 use Rattle.session.proofs.Laws.Accepted.{root-present}
+use Rattle.session.proofs.Laws.Numbers.{number-own}
 use Rattle.depth_first.proofs.Laws.Start.{level-byte}
 use borrow.Author.Needs.{needs}
 use Rattle.depth_first.proofs.root_fork.Statement.{statement}
@@ -17,7 +17,7 @@ cast-level-of c = search needs
 level-of-requires : tie.Need-level-of-requires
 level-of-requires c κs =
     let z = c .before .before .before .before in
-    (z .pre .0, z .pre .1, omega (arith, ap (λ m. m .object) (c .before .root .ensures), root-present (z .args .session .now) (z .pre .0)))
+    (z .pre .0, z .pre .1, rw (ap (λ m. m .object) (c .before .root .ensures)) (number-own (z .args .session .now) (rootObject (z .args .session .now)) (root-present (z .args .session .now) (z .pre .0))))
 
 cast-t6 : tie.Need-cast-t6
 cast-t6 c =

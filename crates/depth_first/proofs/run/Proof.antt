@@ -6,7 +6,7 @@ use Rattle.session.specs.Limits.{maxMethods}
 use Rattle.contents.proofs.Laws.Methods.{index-made}
 use Rattle.words.specs.Limits.{fieldWords}
 use Rattle.records.specs.Limits.{historyWords}
-use Rattle.depth_first.proofs.Laws.Start.{long, kept-start}
+use Rattle.depth_first.proofs.Laws.Start.{zeros, long, kept-start}
 use borrow.Author.Needs.{needs}
 use Rattle.depth_first.proofs.run.Statement.{statement}
 use Rattle.depth_first.proofs.run.Tie as tie
@@ -45,7 +45,7 @@ run-over-requires c κs =
     let a = z .pre .0 in (
       record { accepted = a; masks-are = z .pre .1; index-is = index-made s (replicate (maxMethods + 1) 0) _ refl (c .before .before .before .before .before .before .before .before .before .before .index-methods .ensures) },
       (
-        kept-start s a _ _ _ _ (c .before .before .before .before .before .before .before .fill .ensures) (long fieldWords) (long historyWords) (c .before .before .before .before .before .first .ensures),
+        kept-start s a _ _ _ _ (c .before .before .before .before .before .before .before .fill .ensures) (long fieldWords) (zeros fieldWords) (long historyWords) (c .before .before .before .before .before .first .ensures),
         z .pre .2,
       ),
     )

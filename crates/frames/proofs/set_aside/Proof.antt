@@ -6,6 +6,7 @@ use native.Mathlib.Omega.{arith}
 use Rattle.session.specs.Questions.{verdictOf}
 use Rattle.session.specs.declared.Verdict.the-variants.{Accepted}
 use Rattle.session.proofs.Laws.Contents.{object-limit}
+use Rattle.session.proofs.Laws.Numbers.{number-few}
 use Rattle.scripts.proofs.Laws.Accepted.{script-short}
 use Rattle.frames.specs.Frames.{scriptIn, nameIn, placeOf, asideOf, asideFrom, Placed, Waits}
 use Rattle.frames.specs.declared.Frame.{Frame}
@@ -16,7 +17,7 @@ use Rattle.frames.proofs.set_aside.Tie as tie
 module _ (s : List ℕ) (f : Frame) (a : verdictOf s ≡ Accepted) (p : Placed s f) where
   -- an object fits 8 bits, and the number of a step 16
   object-fits : f .object < 256
-  object-fits = omega (arith, object-limit s a, p .called .0)
+  object-fits = omega (arith, number-few s a (f .object) (p .called .0))
 
   place-fits : placeOf (f .slot) (f .next) < 65536
   place-fits =

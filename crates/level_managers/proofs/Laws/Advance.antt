@@ -1,20 +1,23 @@
 -- A scheduler step that makes a script step: its stages together are what the definition's step does. Assumes nothing.
 use Prim.Native.Nat.{ℕ, zero, suc, _+_, _-_, _≤_, _<_}
-use mathlib.Core.Path.{_≡_, refl, sym, _∙_, ap}
+use mathlib.Core.Path.{_≡_, refl, sym, _∙_, ap, ap₂}
 use mathlib.Core.List.{List, [], _∷_}
 use native.Mathlib.Decide.{ℕ-discrete}
 use native.Mathlib.Omega.{arith}
 use lib.ListN.{length, getD, set}
 use Rattle.session.specs.Limits.{maxLevels}
 use Rattle.session.specs.Parts.{levelCount}
+use Rattle.session.specs.Meaning.{Numbered}
 use Rattle.session.specs.Program.{programOf}
 use Rattle.session.specs.Questions.{verdictOf}
 use Rattle.session.specs.declared.Verdict.the-variants.{Accepted}
 use Rattle.session.specs.declared.Message.{Message}
 use Rattle.session.specs.declared.Value.{Value}
 use Rattle.scripts.specs.Manager.{stepped}
+use Rattle.scripts.specs.Existence.{existence}
+use Rattle.scripts.specs.Valid.{Each}
 use Rattle.scripts.specs.State.{Manager, Stepped}
-use Rattle.scripts.specs.Effect.{Effect}
+use Rattle.scripts.specs.Effect.{Written, Effect}
 use Rattle.scripts.specs.Effect as effect
 use Rattle.model.specs.Lists.{modify}
 use Rattle.model.specs.Fork.{Fork, childStamp, childOf}
@@ -29,9 +32,9 @@ use Rattle.theorems.proofs.Laws.Code.Needs.{live-room, live-versions, live-writ
 use Rattle.queues.specs.Queue.{forkOfRow, forkAt}
 use Rattle.versions.specs.Log.{maxVersions}
 use Rattle.level_managers.specs.Representation.{Words, Runs, Represents, placed}
-use Rattle.level_managers.specs.Steps.{Parts, runningFork, Wrote, Forked, EffectDone, Settled}
+use Rattle.level_managers.specs.Steps.{Parts, runningFork, WroteAll, noted, Forked, EffectDone, Settled}
 use Rattle.level_managers.proofs.Laws.Representation.{Limited, at-own, at-other}
-use Rattle.level_managers.proofs.Laws.Write.{withVersions, represents-write}
+use Rattle.level_managers.proofs.Laws.Writes.{writtenAll, all-versions, all-but, represents-noted, represents-writes, writes-limited, noted-each}
 use Rattle.level_managers.proofs.Laws.Arrive.{represents-arrive}
 use Rattle.level_managers.proofs.Laws.Settle.{represents-settle}
 
@@ -110,34 +113,42 @@ module _ (s : List ℕ) (a : verdictOf s ≡ Accepted) (few : levelCount s ≤ m
   effect-is : (e : Effect) → n .effect ≡ e → stepped (programOf s) (readAt (programOf s) st l x) m .effect ≡ e
   effect-is e is = ap (λ n. n .effect) made ∙ is
 
-  module _ (o k : ℕ) (c : Value) (is : n .effect ≡ effect.Write o k c) (wrote : Wrote (w .current) (q .current) (w .tallies) (q .tallies) (w .work) (q .work) l (m .stamp) o k c) (same : q .queue ≡ w .queue) where
-    few-versions : length (v .versions) < maxVersions
-    few-versions = live-write s a st i l h x m runs (readAt (programOf s) st l x) o k c (effect-is (effect.Write o k c) is) .0
+  module _ (ws : List Written) (is : n .effect ≡ effect.Write ws) (wrote : WroteAll (noted partsBefore l ws) q l (m .stamp) ws) where
+    live : (length (v .versions) + length ws ≤ maxVersions) × Each (λ w. (programOf s .level (w .object) ≡ l) × (Numbered s (w .object) × (w .field ≤ existence))) ws
+    live = live-write s a st i l h x m runs (readAt (programOf s) st l x) ws (effect-is (effect.Write ws) is)
 
-    lies : programOf s .level o ≡ l
-    lies = live-write s a st i l h x m runs (readAt (programOf s) st l x) o k c (effect-is (effect.Write o k c) is) .1 .0
+    small : l < maxLevels
+    small = omega (arith, h, few)
+
+    lies : (ws : List Written) → Each (λ w. (programOf s .level (w .object) ≡ l) × (Numbered s (w .object) × (w .field ≤ existence))) ws → Each (λ w. programOf s .level (w .object) ≡ l) ws
+    lies [] e = tt
+    lies (w ∷ ws) e = (e .0 .0, lies ws (e .1))
 
     abbrev written : Level → Level
-    written v = withVersions (record { stamp = m .stamp; object = o; field = k; value = c } ∷ v .versions) v
+    written = writtenAll (m .stamp) ws
 
     at-l : levelAt (modify l written st) l ≡ written v
     at-l = at-own s w w ms ms st t limits l h written
 
-    limits-written : (j : ℕ) → j < levelCount s → Limited (levelAt (modify l written st) j)
-    limits-written j hj = elim (ℕ-discrete j l) [
-      | yes e ↦ rw (e, at-l) (record { managers = limits l h .managers; versions = omega (arith, few-versions) })
-      | no d ↦ rw (at-other s w w ms ms st t limits l h written j d) (limits j hj)
-    ]
+    represents-all : Represents s middle ms (modify l written st)
+    represents-all =
+        represents-writes s few ms (w .ended) st l h (m .stamp) (noted partsBefore l ws) q ws (represents-noted s few ms (w .ended) st l h (m .stamp) partsBefore ws t limits) limits (live .0) (lies ws (live .1)) (noted-each partsBefore l ws small (t .roomy .tallies)) wrote
+
+    limits-all : (j : ℕ) → j < levelCount s → Limited (levelAt (modify l written st) j)
+    limits-all = writes-limited s few ms (w .ended) st l h (m .stamp) ws (at-own s w w ms ms st t limits l h) (at-other s w w ms ms st t limits l h) limits (live .0)
 
     represents-written : Settled (w .ended) ended' (q .tallies) tallies' (q .queue) l (n .manager) → Represents s wordsAfter (placed l (n .manager) ms) (stepAt (programOf s) l st)
     represents-written z =
+        let same = all-but (m .stamp) ws v in
         represents-state
         (modify-twice l settled written st
         ∙ modify-fixed newLevel l (λ v. settled (written v)) st
-        ∙ ap (λ u. modify l (λ _. u) st) (after-any v (written v) (v .waiting) (written v .versions) x (n .manager) refl refl)
+        ∙ ap (λ u. modify l (λ _. u) st)
+        (after-any v (written v) (written v .waiting) (written v .versions) x (n .manager) (same .ended) (same .next)
+        ∙ ap₂ (λ a b. after v a b x (n .manager)) (same .waiting) (all-versions (m .stamp) ws v))
         ∙ sym (delivers-none _)
-        ∙ sym (step-is (effect.Write o k c) is))
-        (settles (modify l written st) (represents-words (ap (λ queue. record { current = q .current; ended = w .ended; tallies = q .tallies; queue = queue; work = q .work }) (sym same)) (represents-write s w ms st t limits few l h (q .current) (q .tallies) (q .work) (m .stamp) o k c wrote lies)) limits-written (ap (λ v. v .activity) at-l ∙ runs) z)
+        ∙ sym (step-is (effect.Write ws) is))
+        (settles (modify l written st) represents-all limits-all (ap (λ v. v .activity) at-l ∙ same .activity ∙ runs) z)
 
   module _ (u : ℕ) (message : Message) (is : n .effect ≡ effect.Fork u message) (forked : Forked (w .tallies) (q .tallies) (w .queue) (q .queue) l (m .stamp) (m .forks) u message) (same-current : q .current ≡ w .current) (same-work : q .work ≡ w .work) where
     above : u < levelCount s
@@ -192,5 +203,5 @@ module _ (s : List ℕ) (a : verdictOf s ≡ Accepted) (few : levelCount s ≤ m
     where
       by : (e : Effect) → n .effect ≡ e → EffectDone partsBefore q l (m .stamp) (m .forks) e → Represents s wordsAfter (placed l (n .manager) ms) (stepAt (programOf s) l st)
       by effect.Nothing is d = represents-nothing is d z
-      by (effect.Write o k c) is d = represents-written o k c is (d .0) (d .1) z
+      by (effect.Write ws) is d = represents-written ws is d z
       by (effect.Fork u message) is d = represents-forked u message is (d .0) (d .1 .0) (d .1 .1) z

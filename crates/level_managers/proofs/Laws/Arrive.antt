@@ -15,7 +15,7 @@ use Rattle.model.specs.Level.{Activity, idle, busy, Level, startedCount, arrive
 use Rattle.model.specs.Step.{State, levelAt}
 use Rattle.queues.specs.Queue.{forkOfRow, forksAt, ForksRise, Arrived}
 use Rattle.queues.proofs.Laws.Queue.{forks-length, fork-apart}
-use Rattle.tallies.specs.Places.{nextPlace, waitingPlace, versionsPlace, busyPlace}
+use Rattle.tallies.specs.Places.{nextPlace, waitingPlace, versionsPlace, busyPlace, changesPlace, allChangesPlace}
 use Rattle.level_managers.specs.Representation.{Words, Runs, LevelRepresents, Represents}
 use Rattle.level_managers.specs.Steps.{startedOf}
 use Rattle.level_managers.proofs.Laws.Representation.{Limited, SameAt, started-is, field-kept, represents-change}
@@ -79,6 +79,8 @@ module _ (s : List ℕ) (w : Words) (ms : ℕ → Manager) (st : State) (t : Rep
         rows = λ first c e. came .others j first c d e;
         fork = λ n i e. fork-apart (w .queue) queue' u (startedOf (w .tallies) u) (getD (w .tallies) (waitingPlace u) 0) row count came n j i d e;
         log = λ c e. refl;
+        changes = λ z. sym (tally-other (changesPlace j) (λ e. omega (arith, e, hj, h, few))) ∙ z;
+        all-changes = λ z. sym (tally-other allChangesPlace (λ e. omega (arith, e, h, few))) ∙ z;
       }
 
   started : startedOf (w .tallies) u ≡ startedCount v
@@ -125,6 +127,8 @@ module _ (s : List ℕ) (w : Words) (ms : ℕ → Manager) (st : State) (t : Rep
         version-count = tally-other (versionsPlace u) (λ e. omega (arith, e, h, few)) ∙ q .version-count ∙ ap length (sym (versions-arrived x v));
         versions = rw (versions-arrived x v) (q .versions);
         activity = at-level (activity-arrived x v) (ap length ended) (runs (length (v .ended)) (v .activity) refl refl (q .activity));
+        unchanged-own = λ z. rw (versions-arrived x v) (q .unchanged-own (sym (tally-other (changesPlace u) (λ e. omega (arith, e, h, few))) ∙ z));
+        unchanged-any = λ z. rw (versions-arrived x v) (q .unchanged-any (sym (tally-other allChangesPlace (λ e. omega (arith, e, h, few))) ∙ z));
       }
 
   -- the words then say that the fork has arrived

@@ -15,7 +15,7 @@ use Rattle.model.specs.Level.{idle, busy, Level, isBusy, startedCount}
 use Rattle.model.specs.Step.{State, levelAt}
 use Rattle.queues.specs.Queue.{forkAt, forksAt, ForksRise}
 use Rattle.queues.proofs.Laws.Queue.{forks-first, rises-behind}
-use Rattle.tallies.specs.Places.{nextPlace, waitingPlace, versionsPlace, busyPlace, tallyNumbers}
+use Rattle.tallies.specs.Places.{nextPlace, waitingPlace, versionsPlace, busyPlace, tallyNumbers, changesPlace, allChangesPlace}
 use Rattle.level_managers.specs.Representation.{Words, LevelRepresents, Represents, placed}
 use Rattle.level_managers.specs.Steps.{begunTallies}
 use Rattle.level_managers.proofs.Laws.Representation.{Limited, SameAt, field-kept, represents-change}
@@ -81,6 +81,8 @@ module _ (s : List ℕ) (w : Words) (ms : ℕ → Manager) (st : State) (t : Rep
         rows = λ first c q. refl;
         fork = λ n i q. refl;
         log = λ c q. refl;
+        changes = λ z. sym (tally-other (changesPlace j) (λ q. omega (arith, q, hj, h, few)) (λ q. omega (arith, q, hj, h, few))) ∙ z;
+        all-changes = λ z. sym (tally-other allChangesPlace (λ q. omega (arith, q, h, few)) (λ q. omega (arith, q, h, few))) ∙ z;
       }
 
   started : startedCount v ≡ length (v .ended)
@@ -115,6 +117,8 @@ module _ (s : List ℕ) (w : Words) (ms : ℕ → Manager) (st : State) (t : Rep
         version-count = tally-other (versionsPlace l) (λ q. omega (arith, q, h, few)) (λ q. omega (arith, q, h, few)) ∙ q .version-count;
         versions = q .versions;
         activity = (tally-busy, (refl, first-fork));
+        unchanged-own = λ z. q .unchanged-own (sym (tally-other (changesPlace l) (λ q. omega (arith, q, h, few)) (λ q. omega (arith, q, h, few))) ∙ z);
+        unchanged-any = λ z. q .unchanged-any (sym (tally-other allChangesPlace (λ q. omega (arith, q, h, few)) (λ q. omega (arith, q, h, few))) ∙ z);
       }
 
   -- the words then say that the manager runs

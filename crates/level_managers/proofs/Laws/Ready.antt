@@ -1,22 +1,25 @@
 -- What each stage of a scheduler step asks for is there. Assumes nothing.
 use Prim.Native.Nat.{ℕ, _≤_, _<_}
 use mathlib.Core.Path.{_≡_, refl, sym, _∙_, ap}
-use mathlib.Core.Bool.{true, not, _||_}
+use mathlib.Core.Bool.{Bool, true, false, not, cond, _||_}
 use mathlib.Core.List.{List, [], _∷_}
 use native.Mathlib.Omega.{arith}
 use lib.ListN.{length, getD, length-set}
 use lib.Seq.{getD-set-other}
 use Rattle.lattice.proofs.Laws.Range.{not-both}
-use Rattle.session.specs.Limits.{maxLevels, maxObjects}
+use Rattle.session.specs.Limits.{maxLevels, maxNumbers, maxObjects}
 use Rattle.session.specs.Parts.{levelCount, objectCount}
+use Rattle.session.specs.Meaning.{Numbered}
 use Rattle.session.specs.Program.{programOf}
 use Rattle.session.specs.Questions.{verdictOf}
 use Rattle.session.specs.declared.Verdict.the-variants.{Accepted}
 use Rattle.session.specs.declared.Value.{Value}
+use Rattle.session.proofs.Laws.Numbers.{number-few}
+use Rattle.scripts.specs.Existence.{existence}
 use Rattle.scripts.specs.Manager.{stepped}
-use Rattle.scripts.specs.Valid.{Indexed}
+use Rattle.scripts.specs.Valid.{Each}
 use Rattle.scripts.specs.State.{Manager}
-use Rattle.scripts.specs.Effect.{Effect}
+use Rattle.scripts.specs.Effect.{Written, Effect}
 use Rattle.scripts.specs.Effect as effect
 use Rattle.model.specs.Limits.{maxManagers}
 use Rattle.model.specs.Fork.{Fork}
@@ -26,9 +29,10 @@ use Rattle.theorems.proofs.Laws.Code.Reached.{ReachedState}
 use Rattle.theorems.proofs.Laws.Code.Needs.{live-startable, live-write, live-fork}
 use Rattle.queues.specs.Queue.{forkAt}
 use Rattle.queues.proofs.Laws.Queue.{stamp-any, depth-any, message-any}
-use Rattle.tallies.specs.Places.{waitingPlace, versionsPlace, busyPlace}
-use Rattle.level_managers.specs.Representation.{Words, Runs, LevelRepresents, Roomy, Represents}
-use Rattle.level_managers.specs.Steps.{Parts, runningFork, EffectReady, EffectDone, SettleReady, StartReady}
+use Rattle.tallies.specs.Places.{waitingPlace, versionsPlace, busyPlace, changed}
+use Rattle.tallies.proofs.Laws.Changed.{changed-length, changed-other}
+use Rattle.level_managers.specs.Representation.{Words, Runs, LevelRepresents, Roomy, Represents, RunInvariant}
+use Rattle.level_managers.specs.Steps.{Tables, Parts, runningFork, touches, WroteAll, noted, EffectReady, EffectDone, SettleReady, StartReady}
 use Rattle.level_managers.proofs.Laws.Representation.{Limited, started-is, busy-fewer}
 use Rattle.level_managers.proofs.Laws.Begin.{first-fork}
 use Rattle.level_managers.proofs.Laws.Advance.{live-limited}
@@ -85,14 +89,35 @@ record SameCounts (a b : Parts) (l : ℕ) : Type 0 where
   tallies-long : length (b .tallies) ≡ length (a .tallies)
   queue-long : length (b .queue) ≡ length (a .queue)
 
+writes-steady : (a b : Parts) (l stamp : ℕ) (ws : List Written) → l < maxLevels → WroteAll a b l stamp ws → SameCounts a b l
+writes-steady a b l stamp [] h e =
+    record { ended-count = ap (λ p. getD (p .tallies) l 0) e; tallies-long = ap (λ p. length (p .tallies)) e; queue-long = ap (λ p. length (p .queue)) e }
+writes-steady a b l stamp (w ∷ ws) h (m, (e, (x, q))) =
+    let y = writes-steady a m l stamp ws h e in
+    record {
+      ended-count = ap (λ t. getD t l 0) (x .count) ∙ getD-set-other (m .tallies) (versionsPlace l) l _ 0 (λ z. omega (arith, z, h)) ∙ y .ended-count;
+      tallies-long = ap length (x .count) ∙ length-set (m .tallies) (versionsPlace l) _ ∙ y .tallies-long;
+      queue-long = ap length q ∙ y .queue-long;
+    }
+
+noted-steady : (a : Parts) (l : ℕ) (ws : List Written) → l < maxLevels → SameCounts a (noted a l ws) l
+noted-steady a l ws h = by (touches ws)
+  where
+    by : (x : Bool) → SameCounts a (record { current = a .current; tallies = cond x (changed l (a .tallies)) (a .tallies); queue = a .queue; work = a .work }) l
+    by true =
+        record { ended-count = changed-other l (a .tallies) l (λ e. omega (arith, e, h)) (λ e. omega (arith, e, h)); tallies-long = changed-length l (a .tallies); queue-long = refl }
+    by false = record { ended-count = refl; tallies-long = refl; queue-long = refl }
+
 effect-steady : (a b : Parts) (l stamp forks : ℕ) (e : Effect) → l < maxLevels → EffectDone a b l stamp forks e → SameCounts a b l
 effect-steady a b l stamp forks effect.Nothing h d =
     record { ended-count = ap (λ p. getD (p .tallies) l 0) d; tallies-long = ap (λ p. length (p .tallies)) d; queue-long = ap (λ p. length (p .queue)) d }
-effect-steady a b l stamp forks (effect.Write o k v) h d =
+effect-steady a b l stamp forks (effect.Write ws) h d =
+    let x = writes-steady (noted a l ws) b l stamp ws h d in
+    let y = noted-steady a l ws h in
     record {
-      ended-count = ap (λ t. getD t l 0) (d .0 .count) ∙ getD-set-other (a .tallies) (versionsPlace l) l _ 0 (λ e. omega (arith, e, h));
-      tallies-long = ap length (d .0 .count) ∙ length-set (a .tallies) (versionsPlace l) _;
-      queue-long = ap length (d .1);
+      ended-count = x .ended-count ∙ y .ended-count;
+      tallies-long = x .tallies-long ∙ y .tallies-long;
+      queue-long = x .queue-long ∙ y .queue-long;
     }
 effect-steady a b l stamp forks (effect.Fork u message) h d =
     record {
@@ -120,20 +145,25 @@ module _ (s : List ℕ) (a : verdictOf s ≡ Accepted) (few : levelCount s ≤ m
   limits = live-limited s a st i
 
   -- a fork that waits can start
-  pub start-ready : (index : List ℕ) → Indexed s index → v .activity ≡ idle → hasManager v ≡ true → StartReady s index (w .ended) (w .tallies) (w .queue) l
-  start-ready index indexed quiescent has = by (waits-some v has quiescent)
+  pub start-ready : (masks index : List ℕ) → Tables s masks index → RunInvariant s w ms st → v .activity ≡ idle → hasManager v ≡ true → StartReady s masks index w l
+  start-ready masks index tables y quiescent has = by (waits-some v has quiescent)
     where
-      by : (x : Fork) × ((xs : List Fork) × (v .waiting ≡ x ∷ xs)) → StartReady s index (w .ended) (w .tallies) (w .queue) l
+      by : (x : Fork) × ((xs : List Fork) × (v .waiting ≡ x ∷ xs)) → StartReady s masks index w l
       by (x, (xs, e)) =
           record {
-            indexed = indexed;
+            tables = tables;
+            readable = record { managers = ms; state = st; invariant = y; present = h; there = settles (ap length e) .there };
             startable = rw (message-any 0 (levelCount s) (w .queue) l (getD (w .tallies) l 0), ap (forkAt (levelCount s) (w .queue) l) (t .level l h .ended-count), first-fork s w ms st t limits few l h x xs quiescent e m, t .level l h .next) (live-startable s a st i l h x xs e);
             waits = omega (arith, t .level l h .waiting-count, ap length e);
-            settles = settle-ready (levelCount s) w l (ms l) v (t .level l h) (t .roomy) (omega (arith, h, few)) (omega (arith, limits l h .managers, ap length e));
+            settles = settles (ap length e);
           }
         where
           m : Manager
           m = ms l
+
+          settles : length (v .waiting) ≡ length (x ∷ xs) → SettleReady (w .ended) (w .tallies) (w .queue) l
+          settles more =
+              settle-ready (levelCount s) w l (ms l) v (t .level l h) (t .roomy) (omega (arith, h, few)) (omega (arith, limits l h .managers, more))
 
   module _ (x : Fork) (m : Manager) (runs : v .activity ≡ busy x m) where
     running : runningFork 0 (w .tallies) (w .queue) l .stamp ≡ x .stamp
@@ -153,13 +183,13 @@ module _ (s : List ℕ) (a : verdictOf s ≡ Accepted) (few : levelCount s ≤ m
     -- what its script step does outside it can be done
     pub effect-ready : (read : ℕ → ℕ → Value) (e : Effect) → stepped (programOf s) read m .effect ≡ e → EffectReady (w .current) (w .tallies) (w .queue) (w .work) l (m .forks) e
     effect-ready read effect.Nothing is = tt
-    effect-ready read (effect.Write o k c) is =
-        let f = live-write s a st i l h x m runs read o k c is in
-        record {
-          there = record { room = t .roomy .current; object = omega (arith, f .1 .1 .0, few-objects); field = f .1 .1 .1 };
-          within = record { level-present = omega (arith, h, few); fits = omega (arith, t .level l h .version-count, f .0); field-fits = f .1 .1 .1; long = t .roomy .work };
-          counted = t .roomy .tallies;
-        }
+    effect-ready read (effect.Write ws) is =
+        let f = live-write s a st i l h x m runs read ws is in
+        (numbers ws (f .1), (t .roomy .current, (omega (arith, t .level l h .version-count, f .0), (t .roomy .work, (omega (arith, h, few), t .roomy .tallies)))))
+      where
+        numbers : (ws : List Written) → Each (λ w. (programOf s .level (w .object) ≡ l) × (Numbered s (w .object) × (w .field ≤ existence))) ws → Each (λ w. (w .object < maxNumbers) × (w .field ≤ existence)) ws
+        numbers [] e = tt
+        numbers (w ∷ ws) e = ((number-few s a (w .object) (e .0 .1 .0), e .0 .1 .1), numbers ws (e .1))
     effect-ready read (effect.Fork u message) is =
         let f = live-fork s a st i l h x m runs read u message is in
         let q = t .level u (f .0) in

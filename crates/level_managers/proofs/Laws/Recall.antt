@@ -40,6 +40,11 @@ module _ (s : List ℕ) (w : Words) (l : ℕ) (low : l < maxLevels) (o k : ℕ) 
   same : (x x' : Fork) (n n' : ℕ) (vs vs' : List Version) → x' ≡ x → n' ≡ n → vs' ≡ vs → readBy x' n' vs' ≡ readBy x n vs
   same x x' n n' vs vs' e1 e2 e3 = rw (e1, e2, e3) refl
 
+  -- a note changes none of these
+  pub counts-known-read : (tallies' : List ℕ) → getD tallies' l 0 ≡ getD (w .tallies) l 0 → getD tallies' j 0 ≡ getD (w .tallies) j 0 → getD tallies' (versionsPlace j) 0 ≡ getD (w .tallies) (versionsPlace j) 0 → foundIn s (record { current = w .current; ended = w .ended; tallies = tallies'; queue = w .queue; work = w .work }) l o k ≡ foundIn s w l o k
+  counts-known-read tallies' own ended versions =
+      same _ _ _ _ _ _ (ap (forkAt (levelCount s) (w .queue) l) own) ended (ap (logOf (w .work) (logStart j)) versions)
+
   pub write-known-read : (current' tallies' work' : List ℕ) (stamp object i : ℕ) (v : Value) → Wrote (w .current) current' (w .tallies) tallies' (w .work) work' l stamp object i v → getD (w .tallies) (versionsPlace j) 0 ≤ maxVersions → foundIn s (record { current = current'; ended = w .ended; tallies = tallies'; queue = w .queue; work = work' }) l o k ≡ foundIn s w l o k
   write-known-read current' tallies' work' stamp object i v d few =
       let other : (at : ℕ) → (at ≡ versionsPlace l → ⊥) → getD tallies' at 0 ≡ getD (w .tallies) at 0 = λ at z. ap (λ t. getD t at 0) (d .count) ∙ getD-set-other (w .tallies) (versionsPlace l) at _ 0 z in

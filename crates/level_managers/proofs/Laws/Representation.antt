@@ -7,10 +7,10 @@ use native.Mathlib.Decide.{ℕ-discrete}
 use native.Mathlib.Omega.{arith}
 use lib.ListN.{length, getD}
 use Rattle.lattice.proofs.Laws.Range.{not-both}
-use Rattle.session.specs.Limits.{maxLevels, fields}
-use Rattle.session.specs.Parts.{levelCount, objectCount}
+use Rattle.session.specs.Limits.{maxNumbers, maxLevels}
+use Rattle.session.specs.Parts.{levelCount}
 use Rattle.session.specs.Program.{programOf}
-use Rattle.scripts.specs.Existence.{initially}
+use Rattle.scripts.specs.Existence.{existence, initially}
 use Rattle.scripts.specs.State.{Manager}
 use Rattle.words.specs.Fields.{fieldAt}
 use Rattle.model.specs.Limits.{maxManagers}
@@ -24,7 +24,7 @@ use Rattle.rows.specs.Rows.{rowsAt}
 use Rattle.queues.specs.Queue.{forkWords, forkPlace, forkAt, ForksRise}
 use Rattle.queues.proofs.Laws.Queue.{forks-same}
 use Rattle.versions.specs.Log.{maxVersions, logStart, logOf}
-use Rattle.tallies.specs.Places.{nextPlace, waitingPlace, versionsPlace, busyPlace}
+use Rattle.tallies.specs.Places.{nextPlace, waitingPlace, versionsPlace, busyPlace, changesPlace, allChangesPlace}
 use Rattle.level_managers.specs.Representation.{Words, Runs, LevelRepresents, Roomy, Represents}
 use Rattle.level_managers.specs.Steps.{startedOf}
 
@@ -44,6 +44,9 @@ pub record SameAt (w w' : Words) (k : ℕ) : Type 0 where
   pub rows : (first c : ℕ) → first + c ≤ maxManagers → rowsAt (w' .queue) (forkPlace k first) forkWords c ≡ rowsAt (w .queue) (forkPlace k first) forkWords c
   pub fork : (n i : ℕ) → i < maxManagers → forkAt n (w' .queue) k i ≡ forkAt n (w .queue) k i
   pub log : (c : ℕ) → c ≤ maxVersions → logOf (w' .work) (logStart k) c ≡ logOf (w .work) (logStart k) c
+  -- what is noted of existence stays noted
+  pub changes : getD (w' .tallies) (changesPlace k) 0 ≡ 0 → getD (w .tallies) (changesPlace k) 0 ≡ 0
+  pub all-changes : getD (w' .tallies) allChangesPlace 0 ≡ 0 → getD (w .tallies) allChangesPlace 0 ≡ 0
 
 rises-same : (ws ws' : List ℕ) (l first c : ℕ) → rowsAt ws' (forkPlace l first) forkWords c ≡ rowsAt ws (forkPlace l first) forkWords c → ForksRise ws l first c → ForksRise ws' l first c
 rises-same ws ws' l first c e r = rw e r
@@ -73,6 +76,8 @@ module _ (n : ℕ) (w w' : Words) (k : ℕ) (m : Manager) (v : Level) (b : Limit
         version-count = e .version-count ∙ t .version-count;
         versions = e .log (length (v .versions)) (b .versions) ∙ t .versions;
         activity = runs-same (v .activity) refl (t .activity);
+        unchanged-own = λ z. t .unchanged-own (e .changes z);
+        unchanged-any = λ z. t .unchanged-any (e .all-changes z);
       }
 
 -- as many have started as are counted
@@ -97,6 +102,8 @@ represents-idle n w k m m' v q t =
       version-count = t .version-count;
       versions = t .versions;
       activity = by (v .activity) q (t .activity);
+      unchanged-own = t .unchanged-own;
+      unchanged-any = t .unchanged-any;
     }
   where
     by : (a : Activity) → a ≡ idle → Runs n w k m (length (v .ended)) a → Runs n w k m' (length (v .ended)) a
@@ -112,7 +119,7 @@ module _ (s : List ℕ) (w w' : Words) (ms ms' : ℕ → Manager) (st : State) (
   at-other k d = modify-other newLevel l k f st (λ e. d (sym e))
 
   -- a change that makes no version leaves the fields
-  pub field-kept : ((v : Level) → f v .versions ≡ v .versions) → (o k : ℕ) → o < objectCount s → k < fields → fieldAt (w .current) o k ≡ newest (initially (programOf s) o k) o k (levelAt (modify l f st) (programOf s .level o) .versions)
+  pub field-kept : ((v : Level) → f v .versions ≡ v .versions) → (o k : ℕ) → o < maxNumbers → k ≤ existence → fieldAt (w .current) o k ≡ newest (initially (programOf s) o k) o k (levelAt (modify l f st) (programOf s .level o) .versions)
   field-kept kept o k ho hk =
       t .field o k ho hk ∙ ap (newest (initially (programOf s) o k) o k) (sym (by (ℕ-discrete (programOf s .level o) l)))
     where
@@ -122,7 +129,7 @@ module _ (s : List ℕ) (w w' : Words) (ms ms' : ℕ → Manager) (st : State) (
 
   pub represents-change : Roomy w'
       → ((k : ℕ) → k < maxLevels → getD (w' .tallies) k 0 ≤ maxManagers)
-      → ((o k : ℕ) → o < objectCount s → k < fields → fieldAt (w' .current) o k ≡ newest (initially (programOf s) o k) o k (levelAt (modify l f st) (programOf s .level o) .versions))
+      → ((o k : ℕ) → o < maxNumbers → k ≤ existence → fieldAt (w' .current) o k ≡ newest (initially (programOf s) o k) o k (levelAt (modify l f st) (programOf s .level o) .versions))
       → LevelRepresents (levelCount s) w' l (ms' l) (f (levelAt st l))
       → ((k : ℕ) → k < levelCount s → (k ≡ l → ⊥) → SameAt w w' k)
       → ((k : ℕ) → (k ≡ l → ⊥) → ms' k ≡ ms k)

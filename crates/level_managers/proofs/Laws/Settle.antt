@@ -23,7 +23,7 @@ use Rattle.theorems.proofs.Laws.Invariant.Measure.{inserted-length}
 use Rattle.records.specs.Histories.{historiesAt, InOrder, historyOf}
 use Rattle.queues.specs.Queue.{forkAt, forksAt}
 use Rattle.queues.proofs.Laws.Queue.{stamp-any}
-use Rattle.tallies.specs.Places.{nextPlace, waitingPlace, versionsPlace, busyPlace, tallyNumbers, tallied}
+use Rattle.tallies.specs.Places.{nextPlace, waitingPlace, versionsPlace, busyPlace, tallyNumbers, tallied, changesPlace, allChangesPlace}
 use Rattle.tallies.proofs.Laws.Closed.{tallied-length, tallied-other, tallied-count, tallied-next}
 use Rattle.level_managers.specs.Representation.{Words, Runs, LevelRepresents, Represents, placed}
 use Rattle.level_managers.specs.Steps.{Closed, Settled}
@@ -105,6 +105,8 @@ module _ (s : List ℕ) (w : Words) (ms : ℕ → Manager) (st : State) (t : Rep
           rows = λ first c q. refl;
           fork = λ n i q. refl;
           log = λ c q. refl;
+          changes = λ z. sym (tally (changesPlace j)) ∙ z;
+          all-changes = λ z. sym (tally allChangesPlace) ∙ z;
         }
 
     waiting-at : forksAt n (w .queue) l (length (v .ended) + 1) (length (v .waiting)) ≡ v .waiting
@@ -124,6 +126,8 @@ module _ (s : List ℕ) (w : Words) (ms : ℕ → Manager) (st : State) (t : Rep
           version-count = tally (versionsPlace l) ∙ q .version-count;
           versions = q .versions;
           activity = (tally (busyPlace l) ∙ was-busy .0, (refl, was-busy .1));
+          unchanged-own = λ z. q .unchanged-own (sym (tally (changesPlace l)) ∙ z);
+          unchanged-any = λ z. q .unchanged-any (sym (tally allChangesPlace) ∙ z);
         }
 
     represents-running : Represents s wordsSettled (placed l m ms) (modify l settledLevel st)
@@ -192,6 +196,8 @@ module _ (s : List ℕ) (w : Words) (ms : ℕ → Manager) (st : State) (t : Rep
           rows = λ first k q. refl;
           fork = λ n i q. refl;
           log = λ k q. refl;
+          changes = λ z. sym (tally-other (changesPlace j) (λ q. omega (arith, q, hj, h, few)) (λ q. omega (arith, q, hj, h, few)) (λ q. omega (arith, q, hj, h, few))) ∙ z;
+          all-changes = λ z. sym (tally-other allChangesPlace (λ q. omega (arith, q, h, few)) (λ q. omega (arith, q, h, few)) (λ q. omega (arith, q, h, few))) ∙ z;
         }
 
     -- the history that is kept
@@ -229,6 +235,8 @@ module _ (s : List ℕ) (w : Words) (ms : ℕ → Manager) (st : State) (t : Rep
           version-count = tally-other (versionsPlace l) (λ q. omega (arith, q, h, few)) (λ q. omega (arith, q, h, few)) (λ q. omega (arith, q, h, few)) ∙ q .version-count;
           versions = q .versions;
           activity = tally-busy;
+          unchanged-own = λ z. q .unchanged-own (sym (tally-other (changesPlace l) (λ q. omega (arith, q, h, few)) (λ q. omega (arith, q, h, few)) (λ q. omega (arith, q, h, few))) ∙ z);
+          unchanged-any = λ z. q .unchanged-any (sym (tally-other allChangesPlace (λ q. omega (arith, q, h, few)) (λ q. omega (arith, q, h, few)) (λ q. omega (arith, q, h, few))) ∙ z);
         }
 
     counts-own : (j : ℕ) → j < maxLevels → getD tallies' j 0 ≤ maxManagers

@@ -11,12 +11,11 @@ use Rattle.session.specs.Meaning.{rootOf}
 use Rattle.session.specs.Program.{programOf}
 use Rattle.session.specs.Questions.{verdictOf}
 use Rattle.session.specs.declared.Verdict.the-variants.{Accepted}
+use Rattle.scripts.specs.Existence.{scriptSeen}
 use Rattle.scripts.specs.Manager.{started, stepped}
 use Rattle.scripts.specs.State.{Manager, Stepped}
-use Rattle.scripts.specs.Effect.{Effect}
+use Rattle.scripts.specs.Effect.{Written, Effect}
 use Rattle.scripts.specs.Effect as effect
-use Rattle.scripts.proofs.Laws.Existence.{first-there}
-use Rattle.words.specs.Reads.{AllThere}
 use Rattle.model.specs.Limits.{workNumbers}
 use Rattle.model.specs.Lists.{modify}
 use Rattle.model.specs.Fork.{Fork}
@@ -25,14 +24,13 @@ use Rattle.model.specs.Step.{State, levelAt, readAt, stepAt}
 use Rattle.model.specs.Schedule.{readIn, stepRefusal}
 use Rattle.theorems.proofs.Laws.Lists.{modify-twice}
 use Rattle.theorems.proofs.Laws.Order.Accepted.{sound}
-use Rattle.theorems.proofs.Laws.Invariant.Contained.{read-existence}
 use Rattle.theorems.proofs.Laws.Code.Direct.{step-start}
 use Rattle.theorems.proofs.Laws.Code.Reached.{ReachedState, present}
 use Rattle.theorems.proofs.Laws.Code.Progress.{leads-more, leads-live}
 use Rattle.queues.specs.Queue.{forkAt}
 use Rattle.queues.proofs.Laws.Queue.{message-any}
 use Rattle.level_managers.specs.Representation.{Words, Represents, RunInvariant, placed}
-use Rattle.level_managers.specs.Steps.{Parts, EffectDone, Settled, begunTallies, Started}
+use Rattle.level_managers.specs.Steps.{Parts, WroteAll, noted, EffectDone, Settled, runningFork, begunTallies, firstMessage, Started}
 use Rattle.level_managers.proofs.Laws.Representation.{Limited, at-own, at-other}
 use Rattle.level_managers.proofs.Laws.Settle.{placed-own, placed-other, represents-settle}
 use Rattle.level_managers.proofs.Laws.Begin.{begunLevel, first-fork, represents-begin}
@@ -65,15 +63,14 @@ invariant-step s w w' ms ms' st l y ok t =
       reached = (y .reached .0 ++ (l ∷ []), leads-more (programOf s) (readIn (programOf s) (rootOf s)) (y .reached .0) st l (y .reached .1) ok);
     }
 
--- in a state that a run reaches a manager reads each object of the session as there, with its own methods
-pub objects-there : (s : List ℕ) → verdictOf s ≡ Accepted → (st : State) → ReachedState s st → (l : ℕ) (x : Fork) → AllThere s (readAt (programOf s) st l x)
-objects-there s a st i l x o h =
-    read-existence (programOf s) (sound s a) st (i .reachable .steady .contained) l x o ∙ first-there s o h
-
 -- the work slice is as it was beyond the versions
+rest-writes : (a b : Parts) (l stamp : ℕ) (ws : List Written) → WroteAll a b l stamp ws → drop workNumbers (b .work) ≡ drop workNumbers (a .work)
+rest-writes a b l stamp [] e = ap (λ p. drop workNumbers (p .work)) e
+rest-writes a b l stamp (w ∷ ws) (m, (e, (x, q))) = x .version .rest ∙ rest-writes a m l stamp ws e
+
 pub rest-effect : (a b : Parts) (l stamp forks : ℕ) (e : Effect) → EffectDone a b l stamp forks e → drop workNumbers (b .work) ≡ drop workNumbers (a .work)
 rest-effect a b l stamp forks effect.Nothing d = ap (λ p. drop workNumbers (p .work)) d
-rest-effect a b l stamp forks (effect.Write o i v) d = d .0 .version .rest
+rest-effect a b l stamp forks (effect.Write ws) d = rest-writes (noted a l ws) b l stamp ws d
 rest-effect a b l stamp forks (effect.Fork u message) d = ap (drop workNumbers) (d .1 .1)
 
 module _ (s : List ℕ) (a : verdictOf s ≡ Accepted) (few : levelCount s ≤ maxLevels) (w : Words) (ms : ℕ → Manager) (st : State) (y : RunInvariant s w ms st) (l : ℕ) (h : l < levelCount s) (ok : stepRefusal (programOf s) st l ≡ 0) where
@@ -87,7 +84,7 @@ module _ (s : List ℕ) (a : verdictOf s ≡ Accepted) (few : levelCount s ≤ m
   v = levelAt st l
 
   -- a step that starts a manager
-  module _ (x : Fork) (xs : List Fork) (quiescent : v .activity ≡ idle) (waits : v .waiting ≡ x ∷ xs) (ended' tallies' : List ℕ) (m : Manager) (d : Started s (w .ended) ended' (w .tallies) tallies' (w .queue) l m) where
+  module _ (x : Fork) (xs : List Fork) (quiescent : v .activity ≡ idle) (waits : v .waiting ≡ x ∷ xs) (ended' tallies' : List ℕ) (m : Manager) (d : Started s w ended' tallies' l m) where
     abbrev wordsStarted : Words
     wordsStarted =
         record { current = w .current; ended = ended'; tallies = tallies'; queue = w .queue; work = w .work }
@@ -112,10 +109,18 @@ module _ (s : List ℕ) (a : verdictOf s ≡ Accepted) (few : levelCount s ≤ m
       | no z ↦ rw (at-other s w w ms ms st (y .represents) limits l h begun k z) (limits k hk)
     ]
 
+    first-is : runningFork (levelCount s) (w .tallies) (w .queue) l ≡ x
+    first-is =
+        ap (forkAt (levelCount s) (w .queue) l) (y .represents .level l h .ended-count)
+        ∙ first-fork s w ms st (y .represents) limits few l h x xs quiescent waits m
+
+    seen : scriptSeen (readAt (programOf s) st l x) (firstMessage w l .object) ≡ d .script
+    seen = ap (λ z. scriptSeen (readAt (programOf s) st l z) (firstMessage w l .object)) (sym first-is) ∙ d .seen ms st y
+
     manager-is : m ≡ started (programOf s) (readAt (programOf s) st l x) l (v .next) (x .message)
     manager-is =
-        d .manager (readAt (programOf s) st l x) (objects-there s a st i l x)
-        ∙ ap₂ (started (programOf s) (readAt (programOf s) st l x) l) (y .represents .level l h .next) (message-any 0 (levelCount s) (w .queue) l (getD (w .tallies) l 0) ∙ ap (λ k. forkAt (levelCount s) (w .queue) l k .message) (y .represents .level l h .ended-count) ∙ ap (λ x. x .message) (first-fork s w ms st (y .represents) limits few l h x xs quiescent waits m))
+        d .manager (readAt (programOf s) st l x) seen
+        ∙ ap₂ (started (programOf s) (readAt (programOf s) st l x) l) (y .represents .level l h .next) (message-any 0 (levelCount s) (w .queue) l (getD (w .tallies) l 0) ∙ ap (λ x. x .message) first-is)
 
     step-is : modify l settled (modify l begun st) ≡ stepAt (programOf s) l st
     step-is =

@@ -2,23 +2,24 @@
 use Prim.Native.Nat.{ℕ, _+_, _≤_, _<_}
 use mathlib.Core.Path.{_≡_, refl, sym, _∙_, ap}
 use mathlib.Core.List.{List, _∷_}
+use mathlib.Core.Logic.{_⊎_, inl, inr}
 use native.Mathlib.Decide.{ℕ-discrete}
 use native.Mathlib.Omega.{arith}
 use borrow.Author.Tests.{eq-eqb, ne-eqb}
 use lib.ListN.{length, getD, length-set}
 use lib.Seq.{getD-set-same, getD-set-other}
-use Rattle.session.specs.Limits.{maxLevels, fields}
-use Rattle.session.specs.Parts.{levelCount, objectCount}
+use Rattle.session.specs.Limits.{maxNumbers, maxLevels, fields}
+use Rattle.session.specs.Parts.{levelCount}
 use Rattle.session.specs.Program.{programOf}
 use Rattle.session.specs.declared.Value.{Value}
-use Rattle.scripts.specs.Existence.{initially}
+use Rattle.scripts.specs.Existence.{existence, initially}
 use Rattle.scripts.specs.State.{Manager}
 use Rattle.words.specs.Fields.{fieldAt}
 use Rattle.model.specs.Lists.{modify}
 use Rattle.model.specs.Level.{Version, Activity, idle, busy, Level, newest}
 use Rattle.model.specs.Step.{State, levelAt}
 use Rattle.versions.specs.Log.{logStart, logOf}
-use Rattle.tallies.specs.Places.{nextPlace, waitingPlace, versionsPlace, busyPlace}
+use Rattle.tallies.specs.Places.{nextPlace, waitingPlace, versionsPlace, busyPlace, changesPlace, allChangesPlace}
 use Rattle.level_managers.specs.Representation.{Words, Runs, LevelRepresents, Represents}
 use Rattle.level_managers.specs.Steps.{Wrote}
 use Rattle.level_managers.proofs.Laws.Representation.{Limited, SameAt, at-own, at-other, represents-change}
@@ -40,7 +41,7 @@ newest-other i o k o' k' stamp v vs n = elim (ℕ-discrete o o') [
   | yes a ↦ rw (eq-eqb o o' a, ne-eqb k k' (λ b. n (sym a) (sym b))) refl
 ]
 
-module _ (s : List ℕ) (w : Words) (ms : ℕ → Manager) (st : State) (t : Represents s w ms st) (b : (k : ℕ) → k < levelCount s → Limited (levelAt st k)) (few : levelCount s ≤ maxLevels) (l : ℕ) (h : l < levelCount s) (current' tallies' work' : List ℕ) (stamp o k : ℕ) (v : Value) (wrote : Wrote (w .current) current' (w .tallies) tallies' (w .work) work' l stamp o k v) where
+module _ (s : List ℕ) (w : Words) (ms : ℕ → Manager) (st : State) (t : Represents s w ms st) (b : (k : ℕ) → k < levelCount s → Limited (levelAt st k)) (few : levelCount s ≤ maxLevels) (l : ℕ) (h : l < levelCount s) (current' tallies' work' : List ℕ) (stamp o k : ℕ) (v : Value) (wrote : Wrote (w .current) current' (w .tallies) tallies' (w .work) work' l stamp o k v) (of-field : (getD (w .tallies) (changesPlace l) 0 ≡ 0) ⊎ (getD (w .tallies) allChangesPlace 0 ≡ 0) → k < fields) where
   abbrev pub wordsWritten : Words
   wordsWritten =
       record { current = current'; ended = w .ended; tallies = tallies'; queue = w .queue; work = work' }
@@ -74,6 +75,8 @@ module _ (s : List ℕ) (w : Words) (ms : ℕ → Manager) (st : State) (t : Rep
         rows = λ first c e. refl;
         fork = λ n i e. refl;
         log = λ c e. wrote .version .others j c d e;
+        changes = λ z. sym (tally-other (changesPlace j) (λ e. omega (arith, e, hj, h, few))) ∙ z;
+        all-changes = λ z. sym (tally-other allChangesPlace (λ e. omega (arith, e, h, few))) ∙ z;
       }
 
   abbrev own-level : Level
@@ -97,6 +100,8 @@ module _ (s : List ℕ) (w : Words) (ms : ℕ → Manager) (st : State) (t : Rep
         version-count = tally-own ∙ ap (λ n. n + 1) (q .version-count) ∙ omega arith;
         versions = versions-own;
         activity = own-runs (length (own-level .ended)) (own-level .activity) (q .activity);
+        unchanged-own = λ z. let y = sym (tally-other (changesPlace l) (λ e. omega (arith, e, h, few))) ∙ z in (of-field (inl y), q .unchanged-own y);
+        unchanged-any = λ z. let y = sym (tally-other allChangesPlace (λ e. omega (arith, e, h, few))) ∙ z in (of-field (inr y), q .unchanged-any y);
       }
     where
       versions-own : logOf work' (logStart l) (length (ver ∷ own-level .versions)) ≡ ver ∷ own-level .versions
@@ -110,15 +115,15 @@ module _ (s : List ℕ) (w : Words) (ms : ℕ → Manager) (st : State) (t : Rep
           more : {c : ℕ} → c ≡ length (own-level .versions) → length (ver ∷ own-level .versions) ≡ c + 1
           more e = omega (arith, e)
 
-  field-is : programOf s .level o ≡ l → (o' k' : ℕ) → o' < objectCount s → k' < fields → fieldAt current' o' k' ≡ newest (initially (programOf s) o' k') o' k' (levelAt (modify l written st) (programOf s .level o') .versions)
+  field-is : programOf s .level o ≡ l → (o' k' : ℕ) → o' < maxNumbers → k' ≤ existence → fieldAt current' o' k' ≡ newest (initially (programOf s) o' k') o' k' (levelAt (modify l written st) (programOf s .level o') .versions)
   field-is lies o' k' ho hk = by (ℕ-discrete o' o) (ℕ-discrete k' k)
     where
       here : (o' : ℕ) → programOf s .level o' ≡ l → levelAt (modify l written st) (programOf s .level o') .versions ≡ ver ∷ levelAt st (programOf s .level o') .versions
       here o' e = rw e (ap (λ v. v .versions) (at-own s w wordsWritten ms ms st t b l h written))
 
-      other : (o' k' : ℕ) → o' < objectCount s → k' < fields → (o' ≡ o → k' ≡ k → ⊥) → fieldAt current' o' k' ≡ newest (initially (programOf s) o' k') o' k' (levelAt (modify l written st) (programOf s .level o') .versions)
+      other : (o' k' : ℕ) → o' < maxNumbers → k' ≤ existence → (o' ≡ o → k' ≡ k → ⊥) → fieldAt current' o' k' ≡ newest (initially (programOf s) o' k') o' k' (levelAt (modify l written st) (programOf s .level o') .versions)
       other o' k' ho hk d =
-          wrote .field .others o' k' hk d
+          wrote .field .others o' k' (omega (arith, hk)) d
           ∙ t .field o' k' ho hk
           ∙ elim (ℕ-discrete (programOf s .level o') l) [
             | yes e ↦

@@ -11,37 +11,40 @@ use lib.ListN.{length, getD, set, length-set}
 use lib.Seq.{getD-set-same, getD-set-other}
 use Rattle.lattice.proofs.Laws.Range.{not-both, and-left, and-right}
 use Rattle.session.specs.Limits.{fields}
+use Rattle.session.specs.declared.Step.{Step}
+use Rattle.session.specs.declared.Step.the-variants as op
 use Rattle.session.specs.Program.{Program, programOf}
 use Rattle.session.specs.declared.Value.{Value}
 use Rattle.session.specs.declared.Value.the-variants.{Number}
 use Rattle.session.proofs.Laws.Lists.{holds, fails, truth}
-use Rattle.scripts.specs.Existence.{ownScript}
 use Rattle.scripts.specs.Limits.{maxFrames, maxScriptSteps}
 use Rattle.scripts.specs.Ending.{isRunning}
 use Rattle.scripts.specs.Effect as effect
 use Rattle.scripts.specs.State as defined
 use Rattle.scripts.specs.Manager.{isEnd, nextStep}
-use Rattle.words.specs.Reads.{shownIn, Agrees}
+use Rattle.words.specs.Reads.{scriptFound, isOwn, shownIn, Agrees}
 use Rattle.frames.specs.Frames.{frameOf, asideOf, noWaiting, asideFrom, below, Placed, Waits}
 use Rattle.frames.specs.declared.Waiting.{Waiting}
 use Rattle.frames.proofs.Laws.Frames.{set-aside-same, not-end}
 use Rattle.operations.specs.Core.{bare, standing, stackOf, effectOf, settledOf, comesTo, isOver, isAsking, isNothing, isDone, Tall, Present, Sits}
-use Rattle.operations.specs.Moves.{causing, endingAs, restacked, Operable, Asks, Operated, Pushed, Popped}
+use Rattle.operations.specs.Moves.{causing, endingAs, restacked, Operable, isPause, pauseOn, pauseOf, asking, Operated, Pushed, Popped}
 use Rattle.operations.specs.declared.Core.{Core}
 use Rattle.operations.specs.declared.Effect.{Effect}
-use Rattle.operations.specs.declared.Effect.the-variants.{Nothing, End, Write, Read, Fork, Call, Pop}
+use Rattle.operations.specs.declared.Effect.the-variants.{Nothing, End, Write, Read, Change, Fork, Call, Pop}
 use Rattle.managers.specs.Manager.{managerOf}
-use Rattle.managers.specs.Steps.{Leads, internal, InternalSteps, waitingFrames, Advanceable, pausesOn, isPaused}
+use Rattle.managers.specs.Steps.{Leads, internal, InternalSteps, waitingFrames, Advanceable, isPaused}
 use Rattle.managers.specs.declared.Manager.{Manager}
 use Rattle.managers.proofs.Laws.Leads.{leads-alike}
 use Rattle.managers.proofs.Laws.Turns.{below-length, below-pushed, below-popped, comes-alike, internal-comes, no-pops, push-comes, pop-comes, turn-leads}
 
--- a way to read: what the words at hand say of fields, and each object there with its own methods
-abbrev pub sayingOf : List ℕ → List ℕ → List ℕ → Bool → ℕ → ℕ → ℕ → Value
-sayingOf s current cache all level o k = cond (ltb k fields) (shownIn s current cache all level o k) (Number (ownScript o))
+-- a way to read: what the words at hand say of fields and scripts
+abbrev pub sayingOf : List ℕ → List ℕ → List ℕ → Bool → Bool → ℕ → ℕ → ℕ → Value
+sayingOf s current cache all unchanged level o k =
+    cond (ltb k fields) (shownIn s current cache all level o k) (Number (scriptFound current cache (isOwn s all level o) unchanged o))
 
-pub saying-agrees : (s current cache : List ℕ) (all : Bool) (level : ℕ) → Agrees s current cache all level (sayingOf s current cache all level)
-saying-agrees s current cache all level = record { there = λ o ho. refl; shown = λ o k ho hk e. rw (lt-ltb k fields hk) refl }
+pub saying-agrees : (s current cache : List ℕ) (all unchanged : Bool) (level : ℕ) → Agrees s current cache all unchanged level (sayingOf s current cache all unchanged level)
+saying-agrees s current cache all unchanged level =
+    record { shown = λ o k ho hk e. rw (lt-ltb k fields hk) refl; existing = λ o ho e. refl }
 
 -- a stack of some frames has its top
 pub stack-some : (h : ℕ) (f : defined.Frame) (gs : List defined.Frame) → 0 < h → stackOf h f gs ≡ f ∷ gs
@@ -49,18 +52,18 @@ stack-some zero f gs some = absurd (omega arith)
 stack-some (suc h) f gs some = refl
 
 -- what holds each time round: script steps led here from the manager with core c₀ and the frames ws₀
-pub record Turning (s masks index current cache : List ℕ) (all : Bool) (limit : ℕ) (c₀ : Core) (ws₀ : List Waiting) (c : Core) (ws : List Waiting) : Type 0 where
+pub record Turning (s masks index current cache : List ℕ) (all unchanged : Bool) (limit : ℕ) (c₀ : Core) (ws₀ : List Waiting) (c : Core) (ws : List Waiting) : Type 0 where
   pub able : Advanceable s masks index current cache (record { core = c₀; waiting = ws₀ })
   pub limited : (c₀ .steps < limit) × (limit ≤ maxScriptSteps)
-  pub leads : (read : ℕ → ℕ → Value) → Agrees s current cache all (c₀ .level) read → Leads (programOf s) read (managerOf (record { core = c₀; waiting = ws₀ })) (comesTo (programOf s) c (below ws (c .height - 1)))
+  pub leads : (read : ℕ → ℕ → Value) → Agrees s current cache all unchanged (c₀ .level) read → Leads (programOf s) read (managerOf (record { core = c₀; waiting = ws₀ })) (comesTo (programOf s) c (below ws (c .height - 1)))
   pub sits : Sits s c
   pub present : Present s (c .effect)
   pub room : length ws ≡ waitingFrames
   pub each : (k : ℕ) → k + 1 < c .height → Waits s (asideOf (getD ws k noWaiting))
-  pub asks : (o k : ℕ) → c .effect ≡ Read o k → (c .steps < limit) × Asks s cache all c o k
+  pub asks : isAsking (c .effect) ≡ true → (c .steps < limit) × (pauseOf s current cache all unchanged c ≡ asking (c .effect))
   pub few : c .steps ≤ limit
   pub grown : c₀ .steps ≤ c .steps
-  pub early : c .steps ≡ c₀ .steps → isPaused s cache all c₀ ≡ false → (c .effect ≡ Nothing) × (frameOf (c .top) ≡ frameOf (c₀ .top))
+  pub early : c .steps ≡ c₀ .steps → isPaused s current cache all unchanged c₀ ≡ false → (c .effect ≡ Nothing) × (frameOf (c .top) ≡ frameOf (c₀ .top))
 
 -- each time round makes this less: a step more, a frame less, or something left to do
 abbrev pub turnsLeft : Core → ℕ
@@ -69,8 +72,8 @@ turnsLeft c = 2 * (maxScriptSteps - c .steps) + c .height + cond (isNothing (c .
 nothing-over : (e : Effect) → e ≡ Nothing → isOver e ≡ false
 nothing-over e q = rw q refl
 
-read-not-nothing : (o k : ℕ) (e : Effect) → e ≡ Nothing → e ≡ Read o k → ⊥
-read-not-nothing o k e q r = not-both (isAsking e) (ap isAsking r) (ap isAsking q)
+asking-not-nothing : (e : Effect) → e ≡ Nothing → isAsking e ≡ true → ⊥
+asking-not-nothing e q a = not-both (isAsking e) a (ap isAsking q)
 
 start-internal : (p : Program) (read : ℕ → ℕ → Value) (c : Core) (ws : List Waiting) → 0 < c .height → InternalSteps p read 0 (managerOf (record { core = c; waiting = ws })) (standing c (below ws (c .height - 1)))
 unfolding InternalSteps managerOf
@@ -83,6 +86,7 @@ over-settled p c gs hs e Nothing o = absurd (not-both false o refl)
 over-settled p c gs hs e End o = ap (bare c) e
 over-settled p c gs hs e (Write object field value) o = absurd (not-both false o refl)
 over-settled p c gs hs e (Read object field) o = absurd (not-both false o refl)
+over-settled p c gs hs e Change o = absurd (not-both false o refl)
 over-settled p c gs hs e (Fork level object name parameter) o = absurd (not-both false o refl)
 over-settled p c gs hs e (Call object way parameter) o = absurd (not-both false o refl)
 over-settled p c gs hs e (Pop reply) o = absurd (not-both false o refl)
@@ -95,24 +99,15 @@ over-comes p c gs hs o e =
 same-height : (p : Program) (c r : Core) (ws : List Waiting) → r .height ≡ c .height → comesTo p r (below ws (c .height - 1)) ≡ comesTo p r (below ws (r .height - 1))
 same-height p c r ws e = ap (λ h. comesTo p r (below ws (h - 1))) (sym e)
 
--- what is asked for
-abbrev askedObject : ℕ → Effect → ℕ
-askedObject d Nothing = d
-askedObject d End = d
-askedObject d (Write object field value) = d
-askedObject d (Read object field) = object
-askedObject d (Fork level object name parameter) = d
-askedObject d (Call object way parameter) = d
-askedObject d (Pop reply) = d
-
-abbrev askedField : ℕ → Effect → ℕ
-askedField d Nothing = d
-askedField d End = d
-askedField d (Write object field value) = d
-askedField d (Read object field) = field
-askedField d (Fork level object name parameter) = d
-askedField d (Call object way parameter) = d
-askedField d (Pop reply) = d
+-- a core that has not become lower, or has ended, comes to the same above as many frames as before
+pub same-frames : (p : Program) (c r : Core) (ws : List Waiting) → ((r .height ≡ 0 → ⊥) → r .height ≡ c .height) → (isOver (r .effect) ≡ false → r .height ≡ c .height) → comesTo p r (below ws (c .height - 1)) ≡ comesTo p r (below ws (r .height - 1))
+same-frames p c r ws flat tall = elim (ℕ-discrete (r .height) 0) [
+  | no h ↦ same-height p c r ws (flat h)
+  | yes z ↦ elim (truth (isOver (r .effect))) [
+    | holds w ↦ over-comes p r (below ws (c .height - 1)) (below ws (r .height - 1)) w (rw z refl)
+    | fails w ↦ same-height p c r ws (tall w)
+  ]
+]
 
 -- is a frame to be made
 abbrev isCall : Effect → Bool
@@ -120,26 +115,67 @@ isCall Nothing = false
 isCall End = false
 isCall (Write object field value) = false
 isCall (Read object field) = false
+isCall Change = false
 isCall (Fork level object name parameter) = false
 isCall (Call object way parameter) = true
 isCall (Pop reply) = false
 
-asks-caused : (s cache : List ℕ) (all : Bool) (c : Core) (e : Effect) (o k : ℕ) → Asks s cache all c o k → Asks s cache all (causing c e) o k
-asks-caused s cache all c e o k a = record { register = a .register; step = a .step; object = a .object; shut = a .shut }
+-- an effect that asks is not nothing, and makes no frame
+asking-not : (e : Effect) → isAsking e ≡ true → isNothing e ≡ false
+asking-not Nothing a = absurd (not-both false a refl)
+asking-not End a = refl
+asking-not (Write object field value) a = refl
+asking-not (Read object field) a = refl
+asking-not Change a = refl
+asking-not (Fork level object name parameter) a = refl
+asking-not (Call object way parameter) a = refl
+asking-not (Pop reply) a = refl
 
-asks-shut : (s cache : List ℕ) (all : Bool) (c : Core) (o k : ℕ) → Asks s cache all c o k → isPaused s cache all c ≡ true
-asks-shut s cache all c o k a = rw (a .step, a .object, a .shut) refl
+asking-no-call : (e : Effect) → isAsking e ≡ true → isCall e ≡ false
+asking-no-call Nothing a = refl
+asking-no-call End a = refl
+asking-no-call (Write object field value) a = refl
+asking-no-call (Read object field) a = refl
+asking-no-call Change a = refl
+asking-no-call (Fork level object name parameter) a = refl
+asking-no-call (Call object way parameter) a = absurd (not-both false a refl)
+asking-no-call (Pop reply) a = refl
 
-shut-same : (s cache : List ℕ) (all : Bool) (c d : Core) → c .level ≡ d .level → frameOf (c .top) ≡ frameOf (d .top) → isPaused s cache all c ≡ isPaused s cache all d
-shut-same s cache all c d l f =
-    ap (λ i. pausesOn s cache all i (frameOf (c .top) .object) (nextStep (programOf s) (frameOf (c .top)))) l
-    ∙ ap (λ g. pausesOn s cache all (d .level) (g .object) (nextStep (programOf s) g)) f
+-- what asks waits
+pub asking-pause : (e : Effect) → isAsking e ≡ true → isPause (asking e) ≡ true
+asking-pause Nothing a = absurd (not-both false a refl)
+asking-pause End a = absurd (not-both false a refl)
+asking-pause (Write object field value) a = absurd (not-both false a refl)
+asking-pause (Read object field) a = refl
+asking-pause Change a = refl
+asking-pause (Fork level object name parameter) a = absurd (not-both false a refl)
+asking-pause (Call object way parameter) a = absurd (not-both false a refl)
+asking-pause (Pop reply) a = absurd (not-both false a refl)
 
--- how an operation turns out: a script step is made, the script's end is met, or a READ is asked for
-data Turned (s cache : List ℕ) (all : Bool) (c r : Core) : Type 0 where
-  stepped-on : r .steps ≡ c .steps + 1 → Turned s cache all c r
-  ended : isEnd (nextStep (programOf s) (frameOf (c .top))) ≡ true → r ≡ endingAs c → Turned s cache all c r
-  asked : (o k : ℕ) → r ≡ causing c (Read o k) → Asks s cache all c o k → Turned s cache all c r
+-- no script's end waits
+pub pause-unfinished : (s current cache : List ℕ) (all unchanged : Bool) (level o : ℕ) (i : Step) → isPause (pauseOn s current cache all unchanged level o i) ≡ true → isEnd i ≡ false
+unfolding pauseOn
+pause-unfinished s current cache all unchanged level o op.End w = absurd (not-both false w refl)
+pause-unfinished s current cache all unchanged level o (op.Set a n) w = refl
+pause-unfinished s current cache all unchanged level o (op.Add a b) w = refl
+pause-unfinished s current cache all unchanged level o (op.Jump a b) w = refl
+pause-unfinished s current cache all unchanged level o (op.Read a b) w = refl
+pause-unfinished s current cache all unchanged level o (op.Write a b) w = refl
+pause-unfinished s current cache all unchanged level o (op.Send a b c) w = refl
+pause-unfinished s current cache all unchanged level o (op.Quit a) w = refl
+pause-unfinished s current cache all unchanged level o (op.Create a) w = refl
+pause-unfinished s current cache all unchanged level o op.Withdraw w = refl
+
+pub pause-same : (s current cache : List ℕ) (all unchanged : Bool) (c d : Core) → c .level ≡ d .level → frameOf (c .top) ≡ frameOf (d .top) → pauseOf s current cache all unchanged c ≡ pauseOf s current cache all unchanged d
+pause-same s current cache all unchanged c d l f =
+    ap (λ i. pauseOn s current cache all unchanged i (frameOf (c .top) .object) (nextStep (programOf s) (frameOf (c .top)))) l
+    ∙ ap (λ g. pauseOn s current cache all unchanged (d .level) (g .object) (nextStep (programOf s) g)) f
+
+-- how an operation turns out: a script step is made, the script's end is met, or the step waits
+data Turned (s current cache : List ℕ) (all unchanged : Bool) (c r : Core) : Type 0 where
+  stepped-on : r .steps ≡ c .steps + 1 → Turned s current cache all unchanged c r
+  ended : isEnd (nextStep (programOf s) (frameOf (c .top))) ≡ true → r ≡ endingAs c → Turned s current cache all unchanged c r
+  asked : r ≡ causing c (r .effect) → isAsking (r .effect) ≡ true → isPaused s current cache all unchanged c ≡ true → Turned s current cache all unchanged c r
 
 ending-steps : (c : Core) → endingAs c .steps ≡ c .steps
 ending-steps c = elim (truth (eqb (c .height) 1)) [
@@ -147,12 +183,12 @@ ending-steps c = elim (truth (eqb (c .height) 1)) [
   | fails e ↦ rw e refl
 ]
 
-turned-grows : (s cache : List ℕ) (all : Bool) (c r : Core) → Turned s cache all c r → (c .steps ≤ r .steps) × (r .steps ≤ c .steps + 1)
-turned-grows s cache all c r (stepped-on n) = (omega (arith, n), omega (arith, n))
-turned-grows s cache all c r (ended x e) =
+turned-grows : (s current cache : List ℕ) (all unchanged : Bool) (c r : Core) → Turned s current cache all unchanged c r → (c .steps ≤ r .steps) × (r .steps ≤ c .steps + 1)
+turned-grows s current cache all unchanged c r (stepped-on n) = (omega (arith, n), omega (arith, n))
+turned-grows s current cache all unchanged c r (ended x e) =
     let n = ap (λ z. z .steps) e ∙ ending-steps c in
     (omega (arith, n), omega (arith, n))
-turned-grows s cache all c r (asked o k e a) =
+turned-grows s current cache all unchanged c r (asked e a b) =
     let n = ap (λ z. z .steps) e in
     (omega (arith, n), omega (arith, n))
 
@@ -179,41 +215,43 @@ one-or-none : (b : Bool) → cond b 1 0 ≤ 1
 one-or-none true = omega arith
 one-or-none false = omega arith
 
-less-done : (s cache : List ℕ) (all : Bool) (c r : Core) → c .steps < maxScriptSteps → 0 < c .height → r .height ≤ c .height → isDone (r .effect) ≡ true → Turned s cache all c r → turnsLeft r < 2 * (maxScriptSteps - c .steps) + c .height + 1
-less-done s cache all c r few some lower d (stepped-on n) =
+less-done : (s current cache : List ℕ) (all unchanged : Bool) (c r : Core) → c .steps < maxScriptSteps → 0 < c .height → r .height ≤ c .height → isDone (r .effect) ≡ true → Turned s current cache all unchanged c r → turnsLeft r < 2 * (maxScriptSteps - c .steps) + c .height + 1
+less-done s current cache all unchanged c r few some lower d (stepped-on n) =
     omega (arith, few, lower, n, one-or-none (isNothing (r .effect)))
-less-done s cache all c r few some lower d (ended x e) = elim (truth (eqb (c .height) 1)) [
+less-done s current cache all unchanged c r few some lower d (ended x e) = elim (truth (eqb (c .height) 1)) [
   | holds one ↦ rw (e, one) (omega (arith, some))
   | fails more ↦ absurd (not-both (isDone (r .effect)) d (rw (e, more) refl))
 ]
-less-done s cache all c r few some lower d (asked o k e a) = rw e (omega arith)
+less-done s current cache all unchanged c r few some lower d (asked e a b) =
+    let quiet : isNothing (r .effect) ≡ false = asking-not (r .effect) a in
+    rw quiet (omega (arith, ap (λ z. z .steps) e, ap (λ z. z .height) e))
 
-less-pushed : (s cache : List ℕ) (all : Bool) (c r : Core) → c .steps < maxScriptSteps → isCall (r .effect) ≡ true → r .height ≡ c .height → Turned s cache all c r → (left : ℕ) → left ≡ 2 * (maxScriptSteps - r .steps) + (r .height + 1) + 1 → left < 2 * (maxScriptSteps - c .steps) + c .height + 1
-less-pushed s cache all c r few d still (stepped-on n) left is = omega (arith, few, still, n, is)
-less-pushed s cache all c r few d still (ended x e) left is = elim (truth (eqb (c .height) 1)) [
+less-pushed : (s current cache : List ℕ) (all unchanged : Bool) (c r : Core) → c .steps < maxScriptSteps → isCall (r .effect) ≡ true → r .height ≡ c .height → Turned s current cache all unchanged c r → (left : ℕ) → left ≡ 2 * (maxScriptSteps - r .steps) + (r .height + 1) + 1 → left < 2 * (maxScriptSteps - c .steps) + c .height + 1
+less-pushed s current cache all unchanged c r few d still (stepped-on n) left is = omega (arith, few, still, n, is)
+less-pushed s current cache all unchanged c r few d still (ended x e) left is = elim (truth (eqb (c .height) 1)) [
   | holds one ↦ absurd (not-both (isCall (r .effect)) d (rw (e, one) refl))
   | fails more ↦ absurd (not-both (isCall (r .effect)) d (rw (e, more) refl))
 ]
-less-pushed s cache all c r few d still (asked o k e a) left is =
-    absurd (not-both (isCall (r .effect)) d (rw e refl))
+less-pushed s current cache all unchanged c r few d still (asked e a b) left is =
+    absurd (not-both (isCall (r .effect)) d (asking-no-call (r .effect) a))
 
-less-popped : (s cache : List ℕ) (all : Bool) (c r : Core) → c .steps < maxScriptSteps → 1 < r .height → r .height ≡ c .height → Turned s cache all c r → (left : ℕ) → left ≡ 2 * (maxScriptSteps - r .steps) + (r .height - 1) + 1 → left < 2 * (maxScriptSteps - c .steps) + c .height + 1
-less-popped s cache all c r few two still (stepped-on n) left is = omega (arith, few, two, still, n, is)
-less-popped s cache all c r few two still (ended x e) left is =
+less-popped : (s current cache : List ℕ) (all unchanged : Bool) (c r : Core) → c .steps < maxScriptSteps → 1 < r .height → r .height ≡ c .height → Turned s current cache all unchanged c r → (left : ℕ) → left ≡ 2 * (maxScriptSteps - r .steps) + (r .height - 1) + 1 → left < 2 * (maxScriptSteps - c .steps) + c .height + 1
+less-popped s current cache all unchanged c r few two still (stepped-on n) left is = omega (arith, few, two, still, n, is)
+less-popped s current cache all unchanged c r few two still (ended x e) left is =
     let n = ap (λ z. z .steps) e ∙ ending-steps c in
     omega (arith, few, two, still, n, is)
-less-popped s cache all c r few two still (asked o k e a) left is =
+less-popped s current cache all unchanged c r few two still (asked e a b) left is =
     let n = ap (λ z. z .steps) e in
     omega (arith, few, two, still, n, is)
 
-module _ (s masks index current cache : List ℕ) (all : Bool) (limit : ℕ) (c₀ : Core) (ws₀ : List Waiting) where
+module _ (s masks index current cache : List ℕ) (all unchanged : Bool) (limit : ℕ) (c₀ : Core) (ws₀ : List Waiting) where
   abbrev p : Program
   p = programOf s
 
   abbrev m₀ : Manager
   m₀ = record { core = c₀; waiting = ws₀ }
 
-  pub turning-start : Advanceable s masks index current cache m₀ → (c₀ .steps < limit) × (limit ≤ maxScriptSteps) → c₀ .effect ≡ Nothing → Turning s masks index current cache all limit c₀ ws₀ c₀ ws₀
+  pub turning-start : Advanceable s masks index current cache m₀ → (c₀ .steps < limit) × (limit ≤ maxScriptSteps) → c₀ .effect ≡ Nothing → Turning s masks index current cache all unchanged limit c₀ ws₀ c₀ ws₀
   turning-start a l q =
       let gs = below ws₀ (c₀ .height - 1) in
       let h = a .held in
@@ -241,19 +279,19 @@ module _ (s masks index current cache : List ℕ) (all : Bool) (limit : ℕ) (c�
         present = rw q tt;
         room = h .room;
         each = h .each;
-        asks = λ o k e. absurd (read-not-nothing o k (c₀ .effect) q e);
+        asks = λ a. absurd (asking-not-nothing (c₀ .effect) q a);
         few = omega (arith, l .0);
         grown = omega arith;
         early = λ _ _. (q, refl);
       }
 
-  module _ (c : Core) (ws : List Waiting) (t : Turning s masks index current cache all limit c₀ ws₀ c ws) where
+  module _ (c : Core) (ws : List Waiting) (t : Turning s masks index current cache all unchanged limit c₀ ws₀ c ws) where
     -- what the words at hand say is a way to read
     abbrev shown : ℕ → ℕ → Value
-    shown = sayingOf s current cache all (c₀ .level)
+    shown = sayingOf s current cache all unchanged (c₀ .level)
 
-    at-hand : Agrees s current cache all (c₀ .level) shown
-    at-hand = saying-agrees s current cache all (c₀ .level)
+    at-hand : Agrees s current cache all unchanged (c₀ .level) shown
+    at-hand = saying-agrees s current cache all unchanged (c₀ .level)
 
     alike : (c .level ≡ c₀ .level) × (c .first ≡ c₀ .first)
     unfolding managerOf
@@ -274,6 +312,8 @@ module _ (s masks index current cache : List ℕ) (all : Bool) (limit : ℕ) (c�
           leveled = t .able .leveled;
           fields-there = t .able .fields-there;
           cache-there = t .able .cache-there;
+          current-scripted = t .able .current-scripted;
+          cache-scripted = t .able .cache-scripted;
           sits = t .sits;
           internal = q;
           few = omega (arith, l, t .limited .1);
@@ -286,60 +326,52 @@ module _ (s masks index current cache : List ℕ) (all : Bool) (limit : ℕ) (c�
     enough q = omega (arith, below-length ws (c .height - 1), some q)
 
     -- an operation was made
-    module _ (q : c .effect ≡ Nothing) (l : c .steps < limit) (r : Core) (o : Operated s current cache all c r) where
+    module _ (q : c .effect ≡ Nothing) (l : c .steps < limit) (r : Core) (o : Operated s current cache all unchanged c r) where
       run : isRunning (c .ending) ≡ true
       run = t .sits .runs (nothing-over (c .effect) q)
 
-      made-here : (read : ℕ → ℕ → Value) → Agrees s current cache all (c₀ .level) read → Leads p read (managerOf m₀) (comesTo p r (below ws (c .height - 1)))
+      made-here : (read : ℕ → ℕ → Value) → Agrees s current cache all unchanged (c₀ .level) read → Leads p read (managerOf m₀) (comesTo p r (below ws (c .height - 1)))
       made-here read see =
-          turn-leads s masks current cache all c r (turning-operable q l) o read (subst (λ i. Agrees s current cache all i read) (sym turning-level) see) (below ws (c .height - 1)) (enough q) (managerOf m₀) (t .leads read see)
+          turn-leads s masks current cache all unchanged c r (turning-operable q l) o read (subst (λ i. Agrees s current cache all unchanged i read) (sym turning-level) see) (below ws (c .height - 1)) (enough q) (managerOf m₀) (t .leads read see)
 
       stands-here : comesTo p r (below ws (c .height - 1)) ≡ comesTo p r (below ws (r .height - 1))
-      stands-here = elim (ℕ-discrete (r .height) 0) [
-        | no h ↦ same-height p c r ws (o .flat h)
-        | yes z ↦ elim (truth (isOver (r .effect))) [
-          | holds w ↦ over-comes p r (below ws (c .height - 1)) (below ws (r .height - 1)) w (rw z refl)
-          | fails w ↦ same-height p c r ws (o .tall w)
-        ]
-      ]
+      stands-here = same-frames p c r ws (o .flat) (o .tall)
 
       -- it made a script step, or met the script's end, or asks
-      turned : Turned s cache all c r
+      turned : Turned s current cache all unchanged c r
       turned = elim (truth (isEnd (nextStep p (frameOf (c .top))))) [
         | holds e ↦ ended e (o .ends e)
         | fails e ↦ elim (truth (isAsking (r .effect))) [
-          | holds w ↦ let x = o .asks w in asked (x .0) (x .1 .0) (x .1 .1 .0) (x .1 .1 .1)
+          | holds w ↦ let x = o .asks w in asked (x .0) w (ap isPause (x .1) ∙ asking-pause (r .effect) w)
           | fails w ↦ stepped-on (o .steps e w .steps-are)
         ]
       ]
 
       grows : (c .steps ≤ r .steps) × (r .steps ≤ c .steps + 1)
-      grows = turned-grows s cache all c r turned
+      grows = turned-grows s current cache all unchanged c r turned
 
-      asks-here : (x k : ℕ) → r .effect ≡ Read x k → (r .steps < limit) × Asks s cache all r x k
-      asks-here x k e =
-          let y = o .asks (ap isAsking e) in
-          let same = ap (λ z. z .effect) (y .1 .1 .0) in
-          let ex : y .0 ≡ x = ap (askedObject 0) (sym same ∙ e) in
-          let ek : y .1 .0 ≡ k = ap (askedField 0) (sym same ∙ e) in
-          let there : Asks s cache all r (y .0) (y .1 .0) = subst (λ z. Asks s cache all z (y .0) (y .1 .0)) (sym (y .1 .1 .0)) (asks-caused s cache all c (Read (y .0) (y .1 .0)) (y .0) (y .1 .0) (y .1 .1 .1)) in
-          (omega (arith, l, ap (λ z. z .steps) (y .1 .1 .0)), subst (λ z. Asks s cache all r z k) ex (subst (λ z. Asks s cache all r (y .0) z) ek there))
+      asks-here : isAsking (r .effect) ≡ true → (r .steps < limit) × (pauseOf s current cache all unchanged r ≡ asking (r .effect))
+      asks-here w =
+          let x = o .asks w in (
+            omega (arith, l, ap (λ z. z .steps) (x .0)),
+            pause-same s current cache all unchanged r c (ap (λ z. z .level) (x .0)) (ap (λ z. frameOf (z .top)) (x .0)) ∙ x .1,
+          )
 
       -- no step is made only where the first asks
-      no-early : r .steps ≡ c₀ .steps → isPaused s cache all c₀ ≡ false → ⊥
+      no-early : r .steps ≡ c₀ .steps → isPaused s current cache all unchanged c₀ ≡ false → ⊥
       no-early e shut =
           let back : c .steps ≡ c₀ .steps = omega (arith, e, grows .0, t .grown) in
           let first = t .early back shut .1 in
           let unfinished : isEnd (nextStep p (frameOf (c .top))) ≡ false = ap (λ f. isEnd (nextStep p f)) first ∙ not-end s (t .able .indexed .accepted) (c₀ .top) (t .able .held .top) (t .able .held .unfinished (t .able .running)) in
           by turned back first unfinished
         where
-          by : Turned s cache all c r → c .steps ≡ c₀ .steps → frameOf (c .top) ≡ frameOf (c₀ .top) → isEnd (nextStep (programOf s) (frameOf (c .top))) ≡ false → ⊥
+          by : Turned s current cache all unchanged c r → c .steps ≡ c₀ .steps → frameOf (c .top) ≡ frameOf (c₀ .top) → isEnd (nextStep (programOf s) (frameOf (c .top))) ≡ false → ⊥
           by (stepped-on n) back first unfinished = omega (arith, e, n, t .grown)
           by (ended x y) back first unfinished = not-both (isEnd (nextStep (programOf s) (frameOf (c .top)))) x unfinished
-          by (asked x k y z) back first unfinished =
-              not-both (isPaused s cache all c) (asks-shut s cache all c x k z) (shut-same s cache all c c₀ turning-level first ∙ shut)
+          by (asked x y z) back first unfinished =
+              not-both (isPaused s current cache all unchanged c) z (ap isPause (pause-same s current cache all unchanged c c₀ turning-level first) ∙ shut)
 
-      pub turning-made : Turning s masks index current cache all limit c₀ ws₀ r ws
+      pub turning-made : Turning s masks index current cache all unchanged limit c₀ ws₀ r ws
       turning-made =
           record {
             able = t .able;
@@ -357,7 +389,7 @@ module _ (s masks index current cache : List ℕ) (all : Bool) (limit : ℕ) (c�
 
       -- each turn makes less
       pub turning-less : isDone (r .effect) ≡ true → turnsLeft r < turnsLeft c
-      turning-less d = rw q (less-done s cache all c r (turning-operable q l .few) (some q) (o .lower) d turned)
+      turning-less d = rw q (less-done s current cache all unchanged c r (turning-operable q l .few) (some q) (o .lower) d turned)
 
       -- a frame made above the top
       module _ (x u : ℕ) (v : Value) (is : r .effect ≡ Call x u v) (w : Waiting) (aside : (w ≡ asideFrom (r .top)) × Waits s (asideOf w)) (r' : Core) (h : Pushed s r x u v r') where
@@ -367,7 +399,7 @@ module _ (s masks index current cache : List ℕ) (all : Bool) (limit : ℕ) (c�
         room-here : r .height < maxFrames
         room-here = subst (λ e. Tall e (r .height)) is (o .sits .tall)
 
-        pub turning-pushed : Turning s masks index current cache all limit c₀ ws₀ r' (set ws (r .height - 1) w)
+        pub turning-pushed : Turning s masks index current cache all unchanged limit c₀ ws₀ r' (set ws (r .height - 1) w)
         turning-pushed =
             let tr = turning-made in
             let height : r' .height ≡ r .height + 1 = ap (λ z. z .height) (h .core-is) in
@@ -390,7 +422,7 @@ module _ (s masks index current cache : List ℕ) (all : Bool) (limit : ℕ) (c�
               present = rw quiet' tt;
               room = length-set ws (r .height - 1) w ∙ t .room;
               each = λ k hk. each-pushed k hk (ℕ-discrete k (r .height - 1)) height;
-              asks = λ a b e. absurd (read-not-nothing a b (r' .effect) quiet' e);
+              asks = λ a. absurd (asking-not-nothing (r' .effect) quiet' a);
               few = omega (arith, steps, tr .few);
               grown = omega (arith, steps, tr .grown);
               early = λ e shut. absurd (no-early (sym steps ∙ e) shut);
@@ -404,14 +436,14 @@ module _ (s masks index current cache : List ℕ) (all : Bool) (limit : ℕ) (c�
 
         pub pushed-less : turnsLeft r' < turnsLeft c
         pushed-less =
-            rw q (less-pushed s cache all c r (turning-operable q l .few) (rw is refl) still turned (turnsLeft r') (rw (h .core-is) (omega arith)))
+            rw q (less-pushed s current cache all unchanged c r (turning-operable q l .few) (rw is refl) still turned (turnsLeft r') (rw (h .core-is) (omega arith)))
 
       -- the top popped
       module _ (v : Value) (is : r .effect ≡ Pop v) (r' : Core) (h : Popped s r (getD ws (r .height - 2) noWaiting) v r') where
         two-here : 1 < r .height
         two-here = subst (λ e. Tall e (r .height)) is (o .sits .tall)
 
-        pub turning-popped : Turning s masks index current cache all limit c₀ ws₀ r' ws
+        pub turning-popped : Turning s masks index current cache all unchanged limit c₀ ws₀ r' ws
         turning-popped =
             let tr = turning-made in
             let height : r' .height ≡ r .height - 1 = ap (λ z. z .height) (h .core-is) in
@@ -431,7 +463,7 @@ module _ (s masks index current cache : List ℕ) (all : Bool) (limit : ℕ) (c�
               present = rw quiet' tt;
               room = t .room;
               each = λ k hk. tr .each k (omega (arith, hk, height));
-              asks = λ a b e. absurd (read-not-nothing a b (r' .effect) quiet' e);
+              asks = λ a. absurd (asking-not-nothing (r' .effect) quiet' a);
               few = omega (arith, steps, tr .few);
               grown = omega (arith, steps, tr .grown);
               early = λ e shut. absurd (no-early (sym steps ∙ e) shut);
@@ -439,7 +471,7 @@ module _ (s masks index current cache : List ℕ) (all : Bool) (limit : ℕ) (c�
 
         pub popped-less : turnsLeft r' < turnsLeft c
         popped-less =
-            rw q (less-popped s cache all c r (turning-operable q l .few) two-here (o .tall (rw is refl)) turned (turnsLeft r') (rw (h .core-is) (omega arith)))
+            rw q (less-popped s current cache all unchanged c r (turning-operable q l .few) two-here (o .tall (rw is refl)) turned (turnsLeft r') (rw (h .core-is) (omega arith)))
 
 -- a core that goes on has nothing left to do, and steps below the limit
 nothing-at : (e : Effect) → isNothing e ≡ true → e ≡ Nothing
@@ -447,6 +479,7 @@ nothing-at Nothing n = refl
 nothing-at End n = absurd (not-both false n refl)
 nothing-at (Write object field value) n = absurd (not-both false n refl)
 nothing-at (Read object field) n = absurd (not-both false n refl)
+nothing-at Change n = absurd (not-both false n refl)
 nothing-at (Fork level object name parameter) n = absurd (not-both false n refl)
 nothing-at (Call object way parameter) n = absurd (not-both false n refl)
 nothing-at (Pop reply) n = absurd (not-both false n refl)

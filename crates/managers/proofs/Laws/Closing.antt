@@ -26,31 +26,34 @@ use Rattle.frames.specs.Frames.{intoOf, returnsOf, frameOf, asideOf, noWaiting,
 use Rattle.frames.specs.declared.Waiting.{Waiting}
 use Rattle.frames.proofs.Laws.Frames.{at-end, not-end, unfinished-there}
 use Rattle.operations.specs.Core.{bare, standing, stackOf, effectOf, settledOf, comesTo, isOver, isAsking, isDone, Tall, Sits}
-use Rattle.operations.specs.Moves.{causing, restacked, Popped, stoodAs, closedAs}
+use Rattle.operations.specs.Moves.{isPause, causing, restacked, Popped, stoodAs, closedAs}
 use Rattle.operations.specs.declared.Core.{Core}
 use Rattle.operations.specs.declared.Effect.{Effect}
-use Rattle.operations.specs.declared.Effect.the-variants.{Nothing, End, Write, Read, Fork, Call, Pop}
+use Rattle.operations.specs.declared.Effect.the-variants.{Nothing, End, Write, Read, Change, Fork, Call, Pop}
 use Rattle.operations.proofs.Laws.Closed.{closed-over as over-closed, closed-last, closed-unfinished, closed-out}
 use Rattle.managers.specs.Manager.{managerOf, steppedOf}
 use Rattle.managers.specs.Steps.{waitingFrames, WellFormed}
 use Rattle.managers.specs.declared.Manager.{Manager}
 use Rattle.managers.proofs.Laws.Turns.{below-popped, no-pops}
-use Rattle.managers.proofs.Laws.Advance.{Turning, stack-some}
+use Rattle.managers.proofs.Laws.Advance.{Turning, stack-some, asking-pause, pause-unfinished}
 
-pub asking-is : (e : Effect) → isAsking e ≡ true → (o : ℕ) × ((k : ℕ) × (e ≡ Read o k))
-asking-is Nothing a = absurd (not-both false a refl)
-asking-is End a = absurd (not-both false a refl)
-asking-is (Write object field value) a = absurd (not-both false a refl)
-asking-is (Read object field) a = (object, (field, refl))
-asking-is (Fork level object name parameter) a = absurd (not-both false a refl)
-asking-is (Call object way parameter) a = absurd (not-both false a refl)
-asking-is (Pop reply) a = absurd (not-both false a refl)
+-- an effect that asks has not ended its manager
+pub asking-lasts : (e : Effect) → isAsking e ≡ true → isOver e ≡ false
+asking-lasts Nothing a = refl
+asking-lasts End a = absurd (not-both false a refl)
+asking-lasts (Write object field value) a = refl
+asking-lasts (Read object field) a = refl
+asking-lasts Change a = refl
+asking-lasts (Fork level object name parameter) a = refl
+asking-lasts (Call object way parameter) a = refl
+asking-lasts (Pop reply) a = refl
 
 done-tall : (e : Effect) (h : ℕ) → isDone e ≡ true → Tall e h
 done-tall Nothing h d = tt
 done-tall End h d = tt
 done-tall (Write object field value) h d = tt
 done-tall (Read object field) h d = tt
+done-tall Change h d = tt
 done-tall (Fork level object name parameter) h d = tt
 done-tall (Call object way parameter) h d = absurd (not-both false d refl)
 done-tall (Pop reply) h d = absurd (not-both false d refl)
@@ -61,6 +64,7 @@ plain-settled p c gs Nothing d o a = refl
 plain-settled p c gs End d o a = absurd (not-both true refl o)
 plain-settled p c gs (Write object field value) d o a = refl
 plain-settled p c gs (Read object field) d o a = absurd (not-both true refl a)
+plain-settled p c gs Change d o a = absurd (not-both true refl a)
 plain-settled p c gs (Fork level object name parameter) d o a = refl
 plain-settled p c gs (Call object way parameter) d o a = absurd (not-both false d refl)
 plain-settled p c gs (Pop reply) d o a = absurd (not-both false d refl)
@@ -70,14 +74,20 @@ over-settled p c gs Nothing o = absurd (not-both false o refl)
 over-settled p c gs End o = refl
 over-settled p c gs (Write object field value) o = absurd (not-both false o refl)
 over-settled p c gs (Read object field) o = absurd (not-both false o refl)
+over-settled p c gs Change o = absurd (not-both false o refl)
 over-settled p c gs (Fork level object name parameter) o = absurd (not-both false o refl)
 over-settled p c gs (Call object way parameter) o = absurd (not-both false o refl)
 over-settled p c gs (Pop reply) o = absurd (not-both false o refl)
 
 asking-settled : (p : Program) (c : Core) (gs : List defined.Frame) (x : Effect) → isAsking x ≡ true → settledOf p c gs x ≡ standing c gs
-asking-settled p c gs x a =
-    let e = asking-is x a in
-    ap (settledOf p c gs) (e .1 .1)
+asking-settled p c gs Nothing a = absurd (not-both false a refl)
+asking-settled p c gs End a = absurd (not-both false a refl)
+asking-settled p c gs (Write object field value) a = absurd (not-both false a refl)
+asking-settled p c gs (Read object field) a = refl
+asking-settled p c gs Change a = refl
+asking-settled p c gs (Fork level object name parameter) a = absurd (not-both false a refl)
+asking-settled p c gs (Call object way parameter) a = absurd (not-both false a refl)
+asking-settled p c gs (Pop reply) a = absurd (not-both false a refl)
 
 -- the top, at its script's end, pops to the frame below it
 late-comes : (s : List ℕ) (c r : Core) (w : Waiting) (gs : List defined.Frame) → isEnd (nextStep (programOf s) (frameOf (c .top))) ≡ true → isDone (c .effect) ≡ true → isOver (c .effect) ≡ false → isAsking (c .effect) ≡ false → Popped s c w Nil r → comesTo (programOf s) (causing r (c .effect)) gs ≡ comesTo (programOf s) c (asideOf w ∷ gs)
@@ -113,8 +123,8 @@ pub record Lowering (s index : List ℕ) (ws : List Waiting) (c₀ c : Core) : T
   pub asks : isAsking (c .effect) ≡ true → c ≡ c₀
   pub unfinished : isAsking (c .effect) ≡ true → (c .top .next < c .top .count) × (c .steps < maxScriptSteps)
 
-pub lowering-start : (s masks index current cache : List ℕ) (all : Bool) (limit : ℕ) (c₀ : Core) (ws₀ : List Waiting) (c : Core) (ws : List Waiting) → Turning s masks index current cache all limit c₀ ws₀ c ws → isDone (c .effect) ≡ true → Lowering s index ws c c
-lowering-start s masks index current cache all limit c₀ ws₀ c ws t d =
+pub lowering-start : (s masks index current cache : List ℕ) (all unchanged : Bool) (limit : ℕ) (c₀ : Core) (ws₀ : List Waiting) (c : Core) (ws : List Waiting) → Turning s masks index current cache all unchanged limit c₀ ws₀ c ws → isDone (c .effect) ≡ true → Lowering s index ws c c
+lowering-start s masks index current cache all unchanged limit c₀ ws₀ c ws t d =
     record {
       indexed = t .able .indexed;
       same = refl;
@@ -128,9 +138,9 @@ lowering-start s masks index current cache all limit c₀ ws₀ c ws t d =
       first-is = refl;
       asks = λ _. refl;
       unfinished = λ a.
-          let e = asking-is (c .effect) a in
-          let x = t .asks (e .0) (e .1 .0) (e .1 .1) in
-          (unfinished-there s (t .able .indexed .accepted) (c .top) (t .sits .top) (rw (x .1 .step) refl), omega (arith, x .0, t .limited .1));
+          let x = t .asks a in
+          let waits = ap isPause (x .1) ∙ asking-pause (c .effect) a in
+          (unfinished-there s (t .able .indexed .accepted) (c .top) (t .sits .top) (pause-unfinished s current cache all unchanged (c .level) (c .top .object) (nextStep (programOf s) (frameOf (c .top))) waits), omega (arith, x .0, t .limited .1));
     }
 
 module _ (s index : List ℕ) (ws : List Waiting) (c₀ c : Core) (t : Lowering s index ws c₀ c) where
@@ -352,7 +362,7 @@ module _ (s index : List ℕ) (ws : List Waiting) (c₀ c : Core) (t : Lowering 
       -- one that asks runs on as it was
       pub closed-asks : isAsking (c .effect) ≡ true → r ≡ c
       closed-asks a =
-          let over : isOver (c .effect) ≡ false = let e = asking-is (c .effect) a in rw (e .1 .1) refl in
+          let over : isOver (c .effect) ≡ false = asking-lasts (c .effect) a in
           let run = t .sits .runs over in
           let g = t .unfinished a in
           is ∙ closed-unfinished c run (lt-leb (c .top .count) (c .top .next) (g .0)) (g .1)

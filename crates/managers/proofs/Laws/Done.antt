@@ -12,21 +12,20 @@ use Rattle.session.specs.declared.Value.{Value}
 use Rattle.session.proofs.Laws.Lists.{holds, fails, truth}
 use Rattle.scripts.specs.Ending.{isRunning}
 use Rattle.scripts.specs.Effect as effect
-use Rattle.scripts.specs.Manager.{topOf, top, nextStep}
-use Rattle.words.specs.Reads.{isAvailable}
+use Rattle.scripts.specs.Manager.{topOf, top}
 use Rattle.frames.specs.Frames.{frameOf, below}
 use Rattle.frames.specs.declared.Waiting.{Waiting}
 use Rattle.operations.specs.Core.{effectOf, isOver, isAsking, isNothing, isDone, Present}
-use Rattle.operations.specs.Moves.{causing, Asks, closedAs}
+use Rattle.operations.specs.Moves.{causing, pauseOf, asking, closedAs}
 use Rattle.operations.specs.declared.Core.{Core}
 use Rattle.operations.specs.declared.Effect.{Effect}
-use Rattle.operations.specs.declared.Effect.the-variants.{Nothing, End, Write, Read, Fork, Call, Pop}
+use Rattle.operations.specs.declared.Effect.the-variants.{Nothing, End, Write, Read, Change, Fork, Call, Pop}
 use Rattle.managers.specs.Manager.{managerOf, steppedOf}
 use Rattle.managers.specs.Steps.{Leads, WellFormed, Advanceable, Advanced, Stepped, isPaused}
 use Rattle.managers.specs.declared.Manager.{Manager}
 use Rattle.managers.proofs.Laws.Leads.{leads-one, Steps, none, some, leads-steps}
-use Rattle.managers.proofs.Laws.Advance.{sayingOf, saying-agrees, Turning, stack-some, turning-level, turning-first}
-use Rattle.managers.proofs.Laws.Closing.{Lowering, left, closed-comes, closed-held, closed-asks, closed-over, asking-is}
+use Rattle.managers.proofs.Laws.Advance.{sayingOf, saying-agrees, pause-same, Turning, stack-some, turning-level, turning-first}
+use Rattle.managers.proofs.Laws.Closing.{Lowering, left, closed-comes, closed-held, closed-asks, closed-over, asking-lasts}
 
 nothing-is : (e : Effect) → e ≡ Nothing → isNothing e ≡ true
 nothing-is e q = rw q refl
@@ -34,13 +33,13 @@ nothing-is e q = rw q refl
 -- an effect of its own is not nothing
 abbrev isIdle : effect.Effect → Bool
 isIdle effect.Nothing = true
-isIdle (effect.Write o k v) = false
+isIdle (effect.Write ws) = false
 isIdle (effect.Fork u message) = false
 
 not-nothing : (e : Effect) → effectOf e ≡ effect.Nothing → isIdle (effectOf e) ≡ false → ⊥
 not-nothing e x y = not-both (isIdle (effectOf e)) (ap isIdle x) y
 
-module _ (s masks index current cache : List ℕ) (all : Bool) (limit : ℕ) (c₀ : Core) (ws₀ : List Waiting) (c : Core) (ws : List Waiting) (t : Turning s masks index current cache all limit c₀ ws₀ c ws) (out : (isNothing (c .effect) && ltb (c .steps) limit) ≡ false) (d : Core) (low : Lowering s index ws c d) (q : (isRunning (d .ending) && (leb (d .top .count) (d .top .next) && ltb 1 (d .height))) ≡ false) (r : Core) (is : r ≡ closedAs d) where
+module _ (s masks index current cache : List ℕ) (all unchanged : Bool) (limit : ℕ) (c₀ : Core) (ws₀ : List Waiting) (c : Core) (ws : List Waiting) (t : Turning s masks index current cache all unchanged limit c₀ ws₀ c ws) (out : (isNothing (c .effect) && ltb (c .steps) limit) ≡ false) (d : Core) (low : Lowering s index ws c d) (q : (isRunning (d .ending) && (leb (d .top .count) (d .top .next) && ltb 1 (d .height))) ≡ false) (r : Core) (is : r ≡ closedAs d) where
   abbrev p : Program
   p = programOf s
 
@@ -64,12 +63,12 @@ module _ (s masks index current cache : List ℕ) (all : Bool) (limit : ℕ) (c�
       let b : isAsking (d .effect) ≡ true = ap isAsking (low .effect-is) ∙ a in
       closed-asks s index ws c d low q r is b ∙ low .asks b
 
-  asks-here : (o k : ℕ) → r .effect ≡ Read o k → (isRunning (r .ending) ≡ true) × Asks s cache all r o k
-  asks-here o k e =
-      let f : c .effect ≡ Read o k = sym effect-is ∙ e in
-      let same = stays (ap isAsking f) in
-      let over : isOver (c .effect) ≡ false = ap isOver f in
-      (ap (λ z. isRunning (z .ending)) same ∙ t .sits .runs over, subst (λ z. Asks s cache all z o k) (sym same) (t .asks o k f .1))
+  asks-here : isAsking (r .effect) ≡ true → (isRunning (r .ending) ≡ true) × (pauseOf s current cache all unchanged r ≡ asking (r .effect))
+  asks-here a =
+      let f : isAsking (c .effect) ≡ true = ap isAsking (sym effect-is) ∙ a in
+      let same = stays f in
+      let over : isOver (c .effect) ≡ false = asking-lasts (c .effect) f in
+      (ap (λ z. isRunning (z .ending)) same ∙ t .sits .runs over, subst (λ z. pauseOf s current cache all unchanged z ≡ asking (z .effect)) (sym same) (t .asks f .1))
 
   over-here : r .effect ≡ End → isRunning (r .ending) ≡ false
   over-here e =
@@ -77,8 +76,8 @@ module _ (s masks index current cache : List ℕ) (all : Bool) (limit : ℕ) (c�
       let no-more = low .sits .over (ap isOver x) in
       ap (λ z. isRunning (z .ending)) (closed-over s index ws c d low q r is no-more) ∙ no-more
 
-  early-here : r .steps ≡ c₀ .steps → isPaused s cache all c₀ ≡ true
-  early-here e = elim (truth (isPaused s cache all c₀)) [
+  early-here : r .steps ≡ c₀ .steps → isPaused s current cache all unchanged c₀ ≡ true
+  early-here e = elim (truth (isPaused s current cache all unchanged c₀)) [
     | holds h ↦ h
     | fails h ↦
         let back : c .steps ≡ c₀ .steps = sym steps-are ∙ e in
@@ -86,22 +85,21 @@ module _ (s masks index current cache : List ℕ) (all : Bool) (limit : ℕ) (c�
         absurd (omega (arith, at-limit (nothing-is (c .effect) internal), back, t .limited .0))
   ]
 
-  pub advance-done : Advanced s current cache all limit m₀ m
+  pub advance-done : Advanced s current cache all unchanged limit m₀ m
   advance-done =
       let x = left s index ws c d low q r is in
       record {
         leads = λ read see.
             subst (Leads p read (managerOf m₀)) (sym (closed-comes s index ws c d low q r is ∙ low .same)) (t .leads read see);
         held = closed-held s index ws c d low q r is;
-        level-is = x .level ∙ low .level-is ∙ turning-level s masks index current cache all limit c₀ ws₀ c ws t;
-        first-is = x .first ∙ low .first-is ∙ turning-first s masks index current cache all limit c₀ ws₀ c ws t;
+        level-is = x .level ∙ low .level-is ∙ turning-level s masks index current cache all unchanged limit c₀ ws₀ c ws t;
+        first-is = x .first ∙ low .first-is ∙ turning-first s masks index current cache all unchanged limit c₀ ws₀ c ws t;
         present = subst (Present s) (sym effect-is) (t .present);
         done = ap isDone (x .effect) ∙ low .done;
         asks = asks-here;
         waits = λ a.
             let f : isAsking (c .effect) ≡ true = ap isAsking (sym effect-is) ∙ a in
-            let e = asking-is (c .effect) f in
-            omega (arith, steps-are, t .asks (e .0) (e .1 .0) (e .1 .1) .0);
+            omega (arith, steps-are, t .asks f .0);
         over = over-here;
         few = omega (arith, steps-are, t .few);
         at-limit = λ n _. omega (arith, at-limit (ap isNothing (sym effect-is) ∙ n), t .few, steps-are);
@@ -109,10 +107,10 @@ module _ (s masks index current cache : List ℕ) (all : Bool) (limit : ℕ) (c�
       }
 
 -- what the manager's last step did before does not matter
-pub advanced-self : (s current cache : List ℕ) (all : Bool) (limit : ℕ) (m r : Manager) (c₀ : Core) → c₀ ≡ causing (m .core) Nothing → Advanced s current cache all limit (record { core = c₀; waiting = m .waiting }) r → Advanced s current cache all limit m r
+pub advanced-self : (s current cache : List ℕ) (all unchanged : Bool) (limit : ℕ) (m r : Manager) (c₀ : Core) → c₀ ≡ causing (m .core) Nothing → Advanced s current cache all unchanged limit (record { core = c₀; waiting = m .waiting }) r → Advanced s current cache all unchanged limit m r
 unfolding managerOf
-advanced-self s current cache all limit m r c₀ e a =
-    let b : Advanced s current cache all limit (record { core = causing (m .core) Nothing; waiting = m .waiting }) r = subst (λ z. Advanced s current cache all limit (record { core = z; waiting = m .waiting }) r) e a in
+advanced-self s current cache all unchanged limit m r c₀ e a =
+    let b : Advanced s current cache all unchanged limit (record { core = causing (m .core) Nothing; waiting = m .waiting }) r = subst (λ z. Advanced s current cache all unchanged limit (record { core = z; waiting = m .waiting }) r) e a in
     record {
       leads = b .leads;
       held = b .held;
@@ -136,6 +134,8 @@ self-able s masks index current cache m c₀ e a =
       leveled = a .leveled;
       fields-there = a .fields-there;
       cache-there = a .cache-there;
+      current-scripted = a .current-scripted;
+      cache-scripted = a .cache-scripted;
       held = record {
         level = a .held .level;
         low = a .held .low;
@@ -160,7 +160,7 @@ held-top m high =
     ap topOf (stack-some (m .core .height) (frameOf (m .core .top)) (below (m .waiting) (m .core .height - 1)) high)
 
 -- a limit of one more makes one step
-module _ (s current cache : List ℕ) (m r : Manager) (h : WellFormed s m) (run : isRunning (m .core .ending) ≡ true) (a : Advanced s current cache false (m .core .steps + 1) m r) where
+module _ (s current cache : List ℕ) (unchanged : Bool) (m r : Manager) (h : WellFormed s m) (run : isRunning (m .core .ending) ≡ true) (a : Advanced s current cache false unchanged (m .core .steps + 1) m r) where
   abbrev program : Program
   program = programOf s
 
@@ -174,6 +174,7 @@ module _ (s current cache : List ℕ) (m r : Manager) (h : WellFormed s m) (run 
       still End e on x = absurd (not-both (isRunning (r .core .ending)) on (a .over e))
       still (Write object field value) e on x = absurd (not-nothing (Write object field value) x refl)
       still (Read object field) e on x = absurd (not-both (isAsking (r .core .effect)) (ap isAsking e) asks)
+      still Change e on x = absurd (not-both (isAsking (r .core .effect)) (ap isAsking e) asks)
       still (Fork level object name parameter) e on x = absurd (not-nothing (Fork level object name parameter) x refl)
       still (Call object way parameter) e on x = absurd (not-both (isDone (r .core .effect)) (a .done) (ap isDone e))
       still (Pop reply) e on x = absurd (not-both (isDone (r .core .effect)) (a .done) (ap isDone e))
@@ -184,32 +185,25 @@ module _ (s current cache : List ℕ) (m r : Manager) (h : WellFormed s m) (run 
       by (some e) = omega (arith, e, a .few)
 
   -- one that is asked for leaves the manager as it was
-  unchanged : isAsking (r .core .effect) ≡ true → managerOf r ≡ managerOf m
+  unmoved : isAsking (r .core .effect) ≡ true → managerOf r ≡ managerOf m
   unfolding managerOf
-  unchanged asks = by (leads-steps program at-hand (managerOf m) (steppedOf r) (a .leads at-hand (saying-agrees s current cache false (m .core .level))))
+  unmoved asks = by (leads-steps program at-hand (managerOf m) (steppedOf r) (a .leads at-hand (saying-agrees s current cache false unchanged (m .core .level))))
     where
       at-hand : ℕ → ℕ → Value
-      at-hand = sayingOf s current cache false (m .core .level)
+      at-hand = sayingOf s current cache false unchanged (m .core .level)
 
       by : Steps (managerOf m) (steppedOf r) → managerOf r ≡ managerOf m
       by (none e) = ap (λ d. d .manager) e
       by (some e) = absurd (omega (arith, e, a .waits asks))
 
-  asked : (o k : ℕ) → r .core .effect ≡ Read o k → (managerOf r ≡ managerOf m) × Asks s cache false (m .core) o k
-  asked o k e =
-      let same = unchanged (ap isAsking e) in
-      let x = a .asks o k e in
-      let top-is : frameOf (r .core .top) ≡ frameOf (m .core .top) = sym (held-top r (a .held .live (x .0))) ∙ ap top same ∙ held-top m (h .live run) in (
-        same,
-        record {
-          register = x .1 .register;
-          step = ap (nextStep program) (sym top-is) ∙ x .1 .step;
-          object = ap (λ f. f .object) (sym top-is) ∙ x .1 .object;
-          shut = ap (λ l. isAvailable s cache false l o k) (sym (a .level-is)) ∙ x .1 .shut;
-        },
-      )
+  asked : isAsking (r .core .effect) ≡ true → (managerOf r ≡ managerOf m) × (pauseOf s current cache false unchanged (m .core) ≡ asking (r .core .effect))
+  asked w =
+      let same = unmoved w in
+      let x = a .asks w in
+      let top-is : frameOf (r .core .top) ≡ frameOf (m .core .top) = sym (held-top r (a .held .live (x .0))) ∙ ap top same ∙ held-top m (h .live run) in
+      (same, sym (pause-same s current cache false unchanged (r .core) (m .core) (a .level-is) top-is) ∙ x .1)
 
-  pub step-done : Stepped s current cache m r
+  pub step-done : Stepped s current cache unchanged m r
   unfolding managerOf
   step-done =
       record {

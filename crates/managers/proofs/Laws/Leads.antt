@@ -15,7 +15,7 @@ use Rattle.managers.specs.Steps.{InternalSteps, Leads, internal, last}
 -- each script step counts itself
 more-steps : (c : Counts) (e : effect.Effect) → oneMore (grown c e) .steps ≡ c .steps + 1
 more-steps c effect.Nothing = refl
-more-steps c (effect.Write o k v) = refl
+more-steps c (effect.Write ws) = refl
 more-steps c (effect.Fork u message) = refl
 
 pub step-counted : (p : Program) (read : ℕ → ℕ → Value) (m : Manager) → stepped p read m .manager .steps ≡ m .steps + 1
@@ -84,7 +84,7 @@ Alike m n = (n .level ≡ m .level) × (n .first ≡ m .first)
 
 grown-alike : (c : Counts) (e : effect.Effect) → (oneMore (grown c e) .level ≡ c .level) × (oneMore (grown c e) .first ≡ c .first)
 grown-alike c effect.Nothing = (refl, refl)
-grown-alike c (effect.Write o k v) = (refl, refl)
+grown-alike c (effect.Write ws) = (refl, refl)
 grown-alike c (effect.Fork u message) = (refl, refl)
 
 step-alike : (p : Program) (read : ℕ → ℕ → Value) (m : Manager) → Alike m (stepped p read m .manager)

@@ -7,6 +7,7 @@ use native.Mathlib.Omega.{arith}
 use borrow.Author.Tests.{eq-eqb, ne-eqb}
 use lib.ListN.{length, getD, set}
 use lib.Seq.{getD-set-same, getD-set-other}
+use Rattle.lattice.proofs.Laws.Range.{not-both}
 use Rattle.session.specs.Program.{Program, programOf}
 use Rattle.session.specs.declared.Value.{Value}
 use Rattle.session.specs.declared.Value.the-variants.{Nil}
@@ -26,7 +27,7 @@ use Rattle.operations.specs.Core.{bare, standing, comesTo, settledOf, isOver, i
 use Rattle.operations.specs.Moves.{causing, endingAs, Operable, Operated, Pushed, Popped}
 use Rattle.operations.specs.declared.Core.{Core}
 use Rattle.operations.specs.declared.Effect.{Effect}
-use Rattle.operations.specs.declared.Effect.the-variants.{Nothing, End, Write, Read, Fork, Call, Pop}
+use Rattle.operations.specs.declared.Effect.the-variants.{Nothing, End, Write, Read, Change, Fork, Call, Pop}
 use Rattle.managers.specs.Steps.{Leads}
 use Rattle.managers.proofs.Laws.Leads.{leads-step}
 
@@ -62,6 +63,7 @@ comes-level p c gs Nothing = let e = concluded-counts p (standing c gs) in (ap (
 comes-level p c gs End = (refl, refl)
 comes-level p c gs (Write object field value) = let e = concluded-counts p (standing c gs) in (ap (λ x. x .level) e, ap (λ x. x .first) e)
 comes-level p c gs (Read object field) = (refl, refl)
+comes-level p c gs Change = (refl, refl)
 comes-level p c gs (Fork level object name parameter) = let e = concluded-counts p (standing c gs) in (ap (λ x. x .level) e, ap (λ x. x .first) e)
 comes-level p c gs (Call object way parameter) =
     let e = concluded-counts p (bare c (frameFor object (scriptIn (slotOn way)) (nameIn (slotOn way)) (intoOf (answerOn way)) (returnsOf (answerOn way)) parameter ∷ frameOf (c .top) ∷ gs)) in
@@ -120,14 +122,21 @@ end-comes s c (g ∷ gs) h r e =
     both true = refl
     both false = refl
 
--- a READ is asked for: nothing has changed
-asking-comes : (p : Program) (c : Core) (gs : List defined.Frame) (o k : ℕ) → comesTo p (causing c (Read o k)) gs ≡ record { manager = standing c gs; effect = effect.Nothing }
+-- a step waits: nothing has changed
+asking-comes : (p : Program) (c : Core) (gs : List defined.Frame) (e : Effect) → isAsking e ≡ true → comesTo p (causing c e) gs ≡ record { manager = standing c gs; effect = effect.Nothing }
 unfolding comesTo
-asking-comes p c gs o k = refl
+asking-comes p c gs Nothing a = absurd (not-both false a refl)
+asking-comes p c gs End a = absurd (not-both false a refl)
+asking-comes p c gs (Write object field value) a = absurd (not-both false a refl)
+asking-comes p c gs (Read object field) a = refl
+asking-comes p c gs Change a = refl
+asking-comes p c gs (Fork level object name parameter) a = absurd (not-both false a refl)
+asking-comes p c gs (Call object way parameter) a = absurd (not-both false a refl)
+asking-comes p c gs (Pop reply) a = absurd (not-both false a refl)
 
 -- an operation leads on
-pub turn-leads : (s masks current cache : List ℕ) (all : Bool) (c r : Core) → Operable s masks current cache c → Operated s current cache all c r → (read : ℕ → ℕ → Value) → Agrees s current cache all (c .level) read → (gs : List defined.Frame) → suc (length gs) ≡ c .height → (m : defined.Manager) → Leads (programOf s) read m (comesTo (programOf s) c gs) → Leads (programOf s) read m (comesTo (programOf s) r gs)
-turn-leads s masks current cache all c r able o read see gs h m l =
+pub turn-leads : (s masks current cache : List ℕ) (all unchanged : Bool) (c r : Core) → Operable s masks current cache c → Operated s current cache all unchanged c r → (read : ℕ → ℕ → Value) → Agrees s current cache all unchanged (c .level) read → (gs : List defined.Frame) → suc (length gs) ≡ c .height → (m : defined.Manager) → Leads (programOf s) read m (comesTo (programOf s) c gs) → Leads (programOf s) read m (comesTo (programOf s) r gs)
+turn-leads s masks current cache all unchanged c r able o read see gs h m l =
     let p = programOf s in
     let over : isOver (c .effect) ≡ false = rw (able .internal) refl in
     let run = able .sits .runs over in
@@ -142,7 +151,7 @@ turn-leads s masks current cache all c r able o read see gs h m l =
             | holds q ↦
                 let asked = o .asks q in
                 let same : comesTo p r gs ≡ comesTo p c gs =
-                ap (λ x. comesTo p x gs) (asked .1 .1 .0) ∙ asking-comes p c gs (asked .0) (asked .1 .0) ∙ sym stands ∙ sym here in
+                ap (λ x. comesTo p x gs) (asked .0) ∙ asking-comes p c gs (r .effect) q ∙ sym stands ∙ sym here in
                 subst (Leads p read m) (sym same) l
             | fails q ↦
                 subst (Leads p read m) (sym (o .steps e q .is read see gs h))

@@ -5,11 +5,12 @@ use mathlib.Core.Path.{_≡_, refl, sym, _∙_, ap, subst}
 use mathlib.Core.Bool.{Bool, true, false, cond}
 use mathlib.Core.List.{List, [], _∷_}
 use native.Mathlib.Omega.{arith}
-use borrow.Author.Tests.{lt-ltb, le-ltb}
+use borrow.Author.Tests.{lt-ltb, le-ltb, le-leb, lt-leb}
 use lib.ListN.{length}
 use Rattle.lattice.proofs.Laws.Range.{not-both}
 use Rattle.session.specs.Limits.{names, fields, registers}
 use Rattle.session.specs.Parts.{levelCount, objectCount}
+use Rattle.session.specs.Meaning.{Numbered}
 use Rattle.session.specs.Program.{Program}
 use Rattle.session.specs.declared.Value.{Value}
 use Rattle.session.specs.declared.Value.the-variants.{Nil}
@@ -17,17 +18,18 @@ use Rattle.session.specs.declared.Message.{Message}
 use Rattle.scripts.specs.Limits.{maxFrames, maxWrites, maxForks}
 use Rattle.scripts.specs.Value.{isNilOr0}
 use Rattle.scripts.specs.Ending.{isRunning}
+use Rattle.scripts.specs.Effect.{Written}
 use Rattle.scripts.specs.Effect as effect
 use Rattle.scripts.specs.State as defined
 use Rattle.scripts.specs.Frame.{frameFor, register, withRegister, atStep}
-use Rattle.scripts.specs.Manager.{withTop, popped, called, forked, concluded}
+use Rattle.scripts.specs.Manager.{withTop, popped, charged, called, forked, concluded}
 use Rattle.scripts.specs.declared.Ending.{Ending}
 use Rattle.scripts.specs.declared.Ending.the-variants.{OutOfWrites, Finished}
 use Rattle.frames.specs.Frames.{intoOf, returnsOf, answerOf, answers, wayOf, slotOn, answerOn, frameOf, slotOf, scriptIn, nameIn, Same, Becomes, Method}
 use Rattle.frames.specs.declared.Frame.{Frame}
 use Rattle.frames.proofs.Laws.Frames.{answer-few, way-slot, way-answer, slot-script, slot-name, answer-into, answer-returns, register-next, becomes-placed}
-use Rattle.operations.specs.Core.{bare, standing, stackOf, comesTo, isOver, isAsking, Tall, Present, Sits}
-use Rattle.operations.specs.Moves.{Able, Moves, Makes, passed, pastOf, nextTop, causing, endedAs, finishedAs, ownWritten, counting}
+use Rattle.operations.specs.Core.{bare, standing, stackOf, effectOf, comesTo, isOver, isAsking, Tall, Present, Sits}
+use Rattle.operations.specs.Moves.{Able, Moves, Makes, passed, pastOf, nextTop, causing, endedAs, finishedAs, ownField, counting}
 use Rattle.operations.specs.declared.Core.{Core}
 use Rattle.operations.specs.declared.Effect.{Effect}
 use Rattle.operations.specs.declared.Effect.the-variants.{Nothing, Write, Fork, Call, Pop}
@@ -83,7 +85,7 @@ module _ (c r : Core) (a b : ℕ) where
   moves-stayed test m = subst (Moves c r) (ap (λ t. cond t (atStep (pastOf c) b) (pastOf c)) (sym test)) m
 
 -- a core with other counts of writes and forks, and another effect
-abbrev effecting : Core → ℕ → ℕ → Effect → Core
+abbrev pub effecting : Core → ℕ → ℕ → Effect → Core
 effecting c w k x =
     record {
       level = c .level;
@@ -99,7 +101,7 @@ effecting c w k x =
     }
 
 -- such a core one script step on, with another top: it goes on
-abbrev going : Core → Frame → ℕ → ℕ → Effect → Core
+abbrev pub going : Core → Frame → ℕ → ℕ → Effect → Core
 going c f w k x = effecting (nextTop c f) w k x
 
 -- or the step has ended it, with so many frames, and a reply
@@ -150,7 +152,7 @@ sits-over s c f h e v able same near low ends sits =
       tall = tt;
     }
 
-makes-going : (P : List ℕ → Type 0) (c r : Core) (f : Frame) (w k : ℕ) (x : Effect) (d : defined.Manager → defined.Stepped) → Able c → r ≡ going c f w k x → Same (c .top) f → f .next ≤ f .count → isOver x ≡ false → isAsking x ≡ false → ((s : List ℕ) → Sits s c → (w ≤ maxWrites) × ((k ≤ maxForks) × Tall x (c .height))) → ((s : List ℕ) → P s → Present s x) → ((p : Program) (gs : List defined.Frame) → suc (length gs) ≡ c .height → comesTo p (going c f w k x) gs ≡ counting p (d (standing c gs))) → Makes P c r d
+pub makes-going : (P : List ℕ → Type 0) (c r : Core) (f : Frame) (w k : ℕ) (x : Effect) (d : defined.Manager → defined.Stepped) → Able c → r ≡ going c f w k x → Same (c .top) f → f .next ≤ f .count → isOver x ≡ false → isAsking x ≡ false → ((s : List ℕ) → Sits s c → (w ≤ maxWrites) × ((k ≤ maxForks) × Tall x (c .height))) → ((s : List ℕ) → P s → Present s x) → ((p : Program) (gs : List defined.Frame) → suc (length gs) ≡ c .height → comesTo p (going c f w k x) gs ≡ counting p (d (standing c gs))) → Makes P c r d
 makes-going P c r f w k x d able e same near lasts asks within present is =
     record {
       is = λ p gs tall. ap (λ y. comesTo p y gs) e ∙ is p gs tall;
@@ -193,10 +195,10 @@ makes-moved P c r f d able m e =
     ∙ rw (e gs tall, able .runs))
 
 -- a ninth frame, or a sixteenth fork, is not made: the sender gets NIL
-pub makes-full : (c r : Core) (o w b a : ℕ) (returns : Bool) → Able c → maxFrames ≤ c .height → Moves c r (withRegister (pastOf c) a Nil) → Makes (λ s. (o < objectCount s) × (w ≤ objectCount s)) c r (λ m. called m (passed m) a (frameFor o w b a returns (register (passed m) a)))
+pub makes-full : (c r : Core) (o w b a : ℕ) (returns : Bool) → Able c → maxFrames ≤ c .height → Moves c r (withRegister (pastOf c) a Nil) → Makes (λ s. Numbered s o × (w ≤ objectCount s)) c r (λ m. called m (passed m) a (frameFor o w b a returns (register (passed m) a)))
 unfolding called
 makes-full c r o w b a returns able h m =
-    makes-moved (λ s. (o < objectCount s) × (w ≤ objectCount s)) c r (withRegister (pastOf c) a Nil) _ able m (λ gs tall. rw (le-ltb (suc (length gs)) maxFrames (omega (arith, tall, h))))
+    makes-moved (λ s. Numbered s o × (w ≤ objectCount s)) c r (withRegister (pastOf c) a Nil) _ able m (λ gs tall. rw (le-ltb (suc (length gs)) maxFrames (omega (arith, tall, h))))
 
 pub makes-unforked : (P : List ℕ → Type 0) (c r : Core) (a u : ℕ) (message : defined.Manager → Message) → Able c → maxForks ≤ c .forks → Moves c r (withRegister (pastOf c) a Nil) → Makes P c r (λ m. forked m (passed m) a u (message m))
 unfolding forked
@@ -204,14 +206,14 @@ makes-unforked P c r a u message able h m =
     makes-moved P c r (withRegister (pastOf c) a Nil) _ able m (λ gs tall. rw (le-ltb (c .forks) maxForks h))
 
 -- a frame is to be made above the top, which has passed its step
-pub makes-call : (c n r : Core) (o w b a : ℕ) (returns : Bool) (slot answer way : ℕ) (v : Value) → Able c → Moves c n (pastOf c) → c .height < maxFrames → v ≡ register (frameOf (c .top)) a → a < registers → b < names → slot ≡ slotOf w b → answer ≡ answerOf a returns → way ≡ wayOf slot answer → r ≡ causing n (Call o way v) → Makes (λ s. (o < objectCount s) × (w ≤ objectCount s)) c r (λ m. called m (passed m) a (frameFor o w b a returns (register (passed m) a)))
+pub makes-call : (c n r : Core) (o w b a : ℕ) (returns : Bool) (slot answer way : ℕ) (v : Value) → Able c → Moves c n (pastOf c) → c .height < maxFrames → v ≡ register (frameOf (c .top)) a → a < registers → b < names → slot ≡ slotOf w b → answer ≡ answerOf a returns → way ≡ wayOf slot answer → r ≡ causing n (Call o way v) → Makes (λ s. Numbered s o × (w ≤ objectCount s)) c r (λ m. called m (passed m) a (frameFor o w b a returns (register (passed m) a)))
 unfolding comesTo called
 makes-call c n r o w b a returns slot answer way v able m low ev small named is says on e =
     let f = n .top in
     let few : answer < answers = rw says (answer-few a returns small) in
     let slot-on : slotOn way ≡ slot = rw on (way-slot slot answer few) in
     let answer-on : answerOn way ≡ answer = rw on (way-answer slot answer few) in
-    makes-going (λ s. (o < objectCount s) × (w ≤ objectCount s)) c r f (c .writes) (c .forks) (Call o way v) _ able
+    makes-going (λ s. Numbered s o × (w ≤ objectCount s)) c r f (c .writes) (c .forks) (Call o way v) _ able
     (e ∙ ap (λ y. causing y (Call o way v)) (m .core-is)) (m .top-is .same) (m .near) refl refl
     (λ s sits. (sits .wrote, (sits .forked, low)))
     (λ s h. (h .0, rw (slot-on, is, slot-script w b named) (h .1)))
@@ -235,8 +237,8 @@ makes-fork c n r o b a u v able m few ev e =
     ∙ rw (ev, lt-ltb (c .forks) maxForks few, able .runs, grows))
 
 -- a field gets a value
-pub makes-write : (c n r : Core) (a k : ℕ) (v : Value) → Able c → Moves c n (pastOf c) → c .writes < maxWrites → v ≡ register (frameOf (c .top)) a → r ≡ effecting n (n .writes + 1) (n .forks) (Write (c .top .object) k v) → Makes (λ s. (c .top .object < objectCount s) × (k < fields)) c r (λ m. ownWritten m k (register (passed m) a))
-unfolding comesTo
+pub makes-write : (c n r : Core) (a k : ℕ) (v : Value) → Able c → Moves c n (pastOf c) → c .writes < maxWrites → v ≡ register (frameOf (c .top)) a → r ≡ effecting n (n .writes + 1) (n .forks) (Write (c .top .object) k v) → Makes (λ s. Numbered s (c .top .object) × (k < fields)) c r (λ m. charged m (passed m) (passed m) (ownField (passed m) k (register (passed m) a)))
+unfolding comesTo charged
 makes-write c n r a k v able m few ev e =
     let f = n .top in
     let x = Write (c .top .object) k v in
@@ -245,19 +247,19 @@ makes-write c n r a k v able m few ev e =
     (λ s sits. (omega (arith, few), (sits .forked, tt)))
     (λ s h. h)
     (λ p gs tall.
-    ap (λ g. record { manager = concluded p (bare (going c f (c .writes + 1) (c .forks) x) (g ∷ gs)); effect = effect.Write (c .top .object) k v }) (m .top-is .frame)
-    ∙ rw (ev, lt-ltb (c .writes) maxWrites few, able .runs))
+    ap (λ g. record { manager = concluded p (bare (going c f (c .writes + 1) (c .forks) x) (g ∷ gs)); effect = effectOf x }) (m .top-is .frame)
+    ∙ rw (ev, le-leb (c .writes + 1) maxWrites (omega (arith, few)), able .runs))
 
--- a seventeenth write ends the manager, and nothing pops
-pub makes-spent : (P : List ℕ → Type 0) (c n r : Core) (k : ℕ) (v : defined.Manager → Value) → Able c → Moves c n (pastOf c) → maxWrites ≤ c .writes → r ≡ endedAs n (n .height) OutOfWrites (n .reply) → Makes P c r (λ m. ownWritten m k (v m))
-unfolding comesTo
-makes-spent P c n r k v able m full e =
+-- what would pass the sixteenth write ends the manager, and nothing pops
+pub makes-spent : (P : List ℕ → Type 0) (c n r : Core) (g : defined.Manager → defined.Frame) (ws : defined.Manager → List Written) → Able c → Moves c n (pastOf c) → ((m : defined.Manager) → maxWrites < c .writes + length (ws m)) → r ≡ endedAs n (n .height) OutOfWrites (n .reply) → Makes P c r (λ m. charged m (passed m) (g m) (ws m))
+unfolding comesTo charged
+makes-spent P c n r g ws able m full e =
     let f = n .top in
     makes-over P c r f (c .height) OutOfWrites (c .reply) _ able
     (e ∙ ap (λ y. endedAs y (y .height) OutOfWrites (y .reply)) (m .core-is)) (m .top-is .same) (m .near) (omega arith) (λ _. refl) refl
     (λ p gs tall.
     ap (λ g. record { manager = bare (over c f (c .height) OutOfWrites (c .reply)) (stackOf (c .height) g gs); effect = effect.Nothing }) (m .top-is .frame)
-    ∙ rw (← tall, le-ltb (c .writes) maxWrites full))
+    ∙ rw (← tall, lt-leb (c .writes + length (ws (standing c gs))) maxWrites (full (standing c gs))))
 
 -- the first frame pops with a reply, which ends the manager
 pub makes-finished : (P : List ℕ → Type 0) (c n r : Core) (a : ℕ) (v : Value) → Able c → Moves c n (pastOf c) → c .height ≡ 1 → v ≡ register (frameOf (c .top)) a → r ≡ finishedAs n v → Makes P c r (λ m. record { manager = popped (withTop m (passed m)) (register (passed m) a); effect = effect.Nothing })

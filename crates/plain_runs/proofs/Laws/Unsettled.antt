@@ -1,25 +1,18 @@
 -- The manager of a level makes script steps that concern nobody else; where one ends it, its history is kept late. Assumes nothing.
 use Prim.Native.Nat.{ℕ, zero, suc, _≤_, _<_}
 use mathlib.Core.Path.{_≡_, refl, sym, _∙_, ap, subst}
-use mathlib.Core.Bool.{true, false}
+use mathlib.Core.Bool.{true}
 use mathlib.Core.List.{List}
 use native.Mathlib.Decide.{ℕ-discrete}
 use native.Mathlib.Omega.{arith}
-use borrow.Author.Tests.{eq-eqb, eqb-true}
-use lib.Dec.{eqb}
 use lib.ListN.{length, getD}
-use Rattle.lattice.proofs.Laws.Range.{not-both}
-use Rattle.session.specs.Limits.{maxLevels, fields}
-use Rattle.session.specs.Parts.{levelCount, objectCount}
-use Rattle.session.specs.Meaning.{levelOf}
+use Rattle.session.specs.Limits.{maxLevels}
+use Rattle.session.specs.Parts.{levelCount}
 use Rattle.session.specs.Program.{Program, programOf}
 use Rattle.session.specs.Questions.{verdictOf}
 use Rattle.session.specs.declared.Verdict.the-variants.{Accepted}
 use Rattle.session.specs.declared.Value.{Value}
-use Rattle.session.proofs.Laws.Lists.{holds, fails, truth}
 use Rattle.session.proofs.Laws.Contents.{level-limit, object-limit}
-use Rattle.scripts.specs.Existence.{existence}
-use Rattle.scripts.specs.Valid.{Leveled}
 use Rattle.scripts.specs.Ending.{isRunning}
 use Rattle.scripts.specs.Manager.{stepped}
 use Rattle.scripts.specs.State.{Manager, Stepped}
@@ -34,19 +27,19 @@ use Rattle.theorems.proofs.Laws.Lists.{modify-at, modify-other}
 use Rattle.theorems.proofs.Laws.Order.Accepted.{sound}
 use Rattle.theorems.proofs.Laws.Code.Reached.{ReachedState, present}
 use Rattle.theorems.proofs.Laws.Code.Direct.{step-advance}
-use Rattle.words.specs.Fields.{fieldAt, knownAt}
-use Rattle.words.specs.Reads.{shownIn, isAvailable, Agrees}
-use Rattle.managers.specs.Steps.{InternalSteps}
+use Rattle.managers.specs.Manager.{managerOf}
+use Rattle.managers.specs.Steps.{InternalSteps, Leads, internal, last}
+use Rattle.managers.specs.declared.Manager as code
 use Rattle.tallies.specs.Places.{busyPlace}
 use Rattle.level_managers.specs.Representation.{Words, Runs, LevelRepresents, RunInvariant, placed}
 use Rattle.tallies.specs.Permits.{managed}
 use Rattle.level_managers.specs.Steps.{Busy, Parts, EffectReady, EffectDone, Settled}
-use Rattle.plain_runs.specs.Running.{Draining, KnownIsRead}
-use Rattle.level_managers.proofs.Laws.Reads.{found-in}
+use Rattle.level_managers.specs.Script.{RunsAt}
+use Rattle.plain_runs.specs.Running.{Draining}
 use Rattle.level_managers.proofs.Laws.Made.{partsOf, settled-on}
 use Rattle.level_managers.proofs.Laws.Ready.{represents-runs, effect-ready}
 use Rattle.level_managers.proofs.Laws.Settle.{placed-own}
-use Rattle.level_managers.proofs.Laws.Step.{invariant-live, objects-there, invariant-advance}
+use Rattle.level_managers.proofs.Laws.Step.{invariant-live, invariant-advance}
 use Rattle.plain_runs.proofs.Laws.Level.{drain-on, drain-on-state, drain-allowed}
 
 -- the level is being run, but that the history of m, if m has ended, is not kept yet
@@ -199,25 +192,17 @@ module _ (s : List ℕ) (a : verdictOf s ≡ Accepted) (l : ℕ) (h : l < levelC
       let (x, e) = represents-runs (levelCount s) w l m (levelAt (g .state) l) represents (λ z. omega (arith, z, one)) in
       (x, record { drain = g; runs = e; reads = λ o k. refl })
 
-  -- at its level it reads what the words of the fields say
-  own-read : (w : Words) (m : Manager) (x : Fork) (read : ℕ → ℕ → Value) → Running w m x read → (o k : ℕ) → o < objectCount s → k < fields → levelOf s o ≡ l → read o k ≡ fieldAt (w .current) o k
-  unfolding readAt programOf
-  own-read w m x read g o k ho hk own =
-      sym (g .reads o k) ∙ rw (eq-eqb (levelOf s o) l own) (sym (g .drain .invariant (λ _. m) .represents .field o k ho hk))
+  -- where steps have led with nothing done outside, it runs on
+  pub running-leads : (w : Words) (x : Fork) (read : ℕ → ℕ → Value) (m b : Manager) → Running w m x read → Leads p read m (record { manager = b; effect = effect.Nothing }) → isRunning (b .ending) ≡ true → Running w b x read
+  running-leads w x read m b g (internal k q e) run = running-internal w x read k m b g q run
+  running-leads w x read m b g (last k n q on is) run = running-on w n x read (running-internal w x read k m n g q on) b is run
 
-  -- and at other levels what is kept of its reads
-  pub running-agrees : {masks : List ℕ} → Leveled s masks → (w : Words) (m : Manager) (x : Fork) (read : ℕ → ℕ → Value) → Running w m x read → (cache : List ℕ) → KnownIsRead s w l cache → Agrees s (w .current) cache false l read
-  running-agrees lent w m x read g cache known-read =
-      record { there = λ o h. sym (g .reads o existence) ∙ objects-there s a (g .drain .state) (live w m x read g) l x o h; shown = shown }
-    where
-      shown : (o k : ℕ) → o < objectCount s → k < fields → isAvailable s cache false l o k ≡ true → read o k ≡ shownIn s (w .current) cache false l o k
-      shown o k ho hk e = elim (truth (eqb (levelOf s o) l)) [
-        | holds q ↦ own-read w m x read g o k ho hk (eqb-true (levelOf s o) l q) ∙ rw q refl
-        | fails q ↦
-            let apart : levelOf s o ≡ l → ⊥ = λ z. not-both (eqb (levelOf s o) l) (eq-eqb (levelOf s o) l z) q in
-            let known : knownAt cache o k ≡ true = rw q at e in
-            sym (g .reads o k)
-            ∙ found-in lent (running-busy w m x read g (λ _. m)) o k ho apart
-            ∙ sym (known-read o k ho hk apart known)
-            ∙ rw q refl
-      ]
+  -- one of the code's runs there
+  abbrev pub runs-at : {w : Words} (m : code.Manager) {x : Fork} {read : ℕ → ℕ → Value} → Running w (managerOf m) x read → RunsAt s w l m
+  runs-at {w} m {x} {read} g =
+      record {
+        running = placed l (managerOf m) (λ _. managerOf m);
+        state = g .drain .state;
+        fork = x;
+        busy = running-busy w (managerOf m) x read g (λ _. managerOf m);
+      }

@@ -1,13 +1,14 @@
 -- What is shown of one object, one level and the reply: placed, and its length. Assumes nothing.
 use Prim.Native.Nat.{ℕ, zero, suc, _+_, _*_, _≤_, _<_}
 use mathlib.Core.Path.{_≡_, refl, sym, _∙_, ap}
-use mathlib.Core.Bool.{true, false}
+use mathlib.Core.Bool.{true, false, _&&_}
 use mathlib.Core.List.{List, [], _∷_, map}
 use native.Mathlib.Nat.{mul-suc}
 use native.Mathlib.Omega.{arith}
 use lib.ListN.{length, getD, length-append}
 use Rattle.lattice.specs.Order.{Dominance}
 use Rattle.lattice.specs.Table.{dominates}
+use Rattle.lattice.proofs.Laws.Range.{and-both, and-fails-left, and-fails-right}
 use Rattle.session.specs.Limits.{recordBytes}
 use Rattle.session.specs.Lists.{tab, joined}
 use Rattle.session.specs.Parts.{masksOf}
@@ -16,6 +17,7 @@ use Rattle.session.specs.Program.{Program, programOf}
 use Rattle.session.specs.declared.Value.{Value}
 use Rattle.session.specs.declared.Value.the-variants.{Nil}
 use Rattle.session.proofs.Laws.Lists.{holds, fails, truth}
+use Rattle.scripts.specs.Existence.{existence, isThere}
 use Rattle.words.specs.Fields.{valueOf}
 use Rattle.model.specs.Limits.{maxManagers}
 use Rattle.model.specs.History.{History}
@@ -27,21 +29,25 @@ use Rattle.records.specs.Writing.{shownObject, shownLevel, shownReply, P
 use Rattle.records.proofs.Laws.Histories.{map-tab, historyAt, histories-tab}
 use Rattle.records.proofs.Laws.Placed.{placed-none}
 
--- an object: its record where the clearance dominates its level, and else nothing
+-- an object: its record where it is there and the clearance dominates its level, and else nothing
 module _ (s masks : List ℕ) (field : ℕ → ℕ → Value) (c o level at next : ℕ) (b b' : List ℕ) (m : masks ≡ masksOf s) (l : level ≡ levelOf s o) where
-  pub object-shown : (made : List ℕ) → dominates masks c level ≡ true → made ≡ objectRecord o level (field o) → Placed made at b b' next
+  pub object-shown : (made : List ℕ) → isThere (field o existence) ≡ true → dominates masks c level ≡ true → made ≡ objectRecord o level (field o) → Placed made at b b' next
       → Placed (shownObject (programOf s) field c o) at b b' next
   unfolding shownObject programOf
-  object-shown made d e p =
+  object-shown made t d e p =
       let d' : dominates (masksOf s) c (levelOf s o) ≡ true = rw (m, l) at d in
       let e' : made ≡ objectRecord o (levelOf s o) (field o) = rw l at e in
-      rw (d', sym e') p
+      rw (and-both (dominates (masksOf s) c (levelOf s o)) (isThere (field o existence)) d' t, sym e') p
 
   pub object-hidden : dominates masks c level ≡ false → at ≤ length b → Placed (shownObject (programOf s) field c o) at b b at
   unfolding shownObject programOf
   object-hidden d h =
       let d' : dominates (masksOf s) c (levelOf s o) ≡ false = rw (m, l) at d in
-      rw d' (placed-none at b h)
+      rw (and-fails-left (dominates (masksOf s) c (levelOf s o)) (isThere (field o existence)) d') (placed-none at b h)
+
+pub object-absent : (p : Program) (field : ℕ → ℕ → Value) (c o at : ℕ) (b : List ℕ) → isThere (field o existence) ≡ false → at ≤ length b → Placed (shownObject p field c o) at b b at
+unfolding shownObject
+object-absent p field c o at b t h = rw (and-fails-right (p .dom c (p .level o)) (isThere (field o existence)) t) (placed-none at b h)
 
 -- a level and the reply
 module _ (dom : Dominance) (ended : ℕ → List History) (c l at next : ℕ) (b b' : List ℕ) where
@@ -81,10 +87,14 @@ unfolding historiesAt historyOfRow rowsAt rowAt tab
 reply-first ws l zero h = absurd (h refl)
 reply-first ws l (suc n) h = refl
 
+-- what is shown of the objects from a number on
+abbrev pub shownFrom : Program → (ℕ → ℕ → Value) → ℕ → ℕ → ℕ → List ℕ
+shownFrom p field c first i = shownObject p field c (first + i)
+
 -- how long each is
 pub object-length : (p : Program) (field : ℕ → ℕ → Value) (c o : ℕ) → length (shownObject p field c o) ≤ recordBytes
 unfolding shownObject objectRecord
-object-length p field c o = elim (truth (p .dom c (p .level o))) [
+object-length p field c o = elim (truth (p .dom c (p .level o) && isThere (field o existence))) [
   | holds e ↦ rw e (omega arith)
   | fails e ↦ rw e (omega arith)
 ]
@@ -114,3 +124,7 @@ unfolding tab joined
 groups-length k zero g h = omega arith
 groups-length k (suc n) g h =
     omega (arith, length-append (g zero) (joined (tab n (λ i. g (suc i)))), h zero (omega arith), mul-suc k n, groups-length k n (λ i. g (suc i)) (λ i l. h (suc i) (omega arith)))
+
+-- what is shown of n objects
+pub range-length : (p : Program) (field : ℕ → ℕ → Value) (c first n : ℕ) → length (joined (tab n (shownFrom p field c first))) ≤ recordBytes * n
+range-length p field c first n = groups-length recordBytes n (shownFrom p field c first) (λ i l. object-length p field c (first + i))

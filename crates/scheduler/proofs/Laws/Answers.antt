@@ -5,14 +5,15 @@ use mathlib.Core.Bool.{Bool}
 use mathlib.Core.List.{List}
 use native.Mathlib.Omega.{arith}
 use borrow.Author.Tests.{leb-true}
-use lib.ListN.{length, replicate, length-replicate}
-use Rattle.session.specs.Parts.{levelCount, objectCount}
+use lib.ListN.{length, getD, replicate, length-replicate, getD-replicate}
+use Rattle.session.specs.Parts.{levelCount}
 use Rattle.session.specs.Meaning.{levelOf, rootObject, rootOf}
 use Rattle.session.specs.Program.{programOf}
 use Rattle.session.specs.Questions.{verdictOf}
 use Rattle.session.specs.declared.Verdict.the-variants.{Accepted}
-use Rattle.session.proofs.Laws.Accepted.{level-present, root-present}
+use Rattle.session.proofs.Laws.Accepted.{level-present}
 use Rattle.session.proofs.Laws.Contents.{level-limit, object-limit, masks-length}
+use Rattle.session.proofs.Laws.Numbers.{number-few}
 use Rattle.scripts.specs.Valid.{Leveled}
 use Rattle.scripts.specs.State.{Manager}
 use Rattle.model.specs.Limits.{workNumbers, resultBytes}
@@ -42,12 +43,6 @@ module _ (s : List ℕ) (a : verdictOf s ≡ Accepted) where
   root-level : levelOf s (rootObject s) < levelCount s
   root-level = level-present s a (rootObject s)
 
-  levels-are : programOf s .levels ≡ levelCount s
-  levels-are = unfold programOf in refl
-
-  objects-are : programOf s .objects ≡ objectCount s
-  objects-are = unfold programOf in refl
-
   module _ (w : Words) (ms : ℕ → Manager) (st : State) (t : Represents s w ms st) where
     -- the words from which the records are written are there
     pub write-ready : (masks : List ℕ) (level : ℕ) (buffer : List ℕ) → Leveled s masks → level ≡ levelOf s (rootObject s) → resultBytes ≤ length buffer → Ready s masks (w .current) (w .ended) (w .tallies) level buffer
@@ -67,9 +62,9 @@ module _ (s : List ℕ) (a : verdictOf s ≡ Accepted) where
     -- and they make the bytes of the state's result
     same-bytes : (c : ℕ) → bytesIn s (resultIn (w .current) (w .ended) (w .tallies)) c (levelOf s (rootObject s)) ≡ bytesIn s (resultOf (programOf s) st) c (levelOf s (rootObject s))
     same-bytes c =
-        bytes-depend (programOf s) (resultIn (w .current) (w .ended) (w .tallies)) (resultOf (programOf s) st) c (levelOf s (rootObject s)) (rw levels-are root-level)
-        (λ o k h j. t .field o k (rw (sym objects-are) h) j)
-        (λ l h _. same-ended l (rw (sym levels-are) h))
+        bytes-depend s (resultIn (w .current) (w .ended) (w .tallies)) (resultOf (programOf s) st) c (levelOf s (rootObject s)) root-level
+        (λ o k h j. t .field o k (number-few s a o h) j)
+        (λ l h _. same-ended l h)
 
   module _ (ls : List ℕ) (c : ℕ) (work work1 work' buffer buffer' : List ℕ) (same : SameRest work work1) (zero : work' ≡ cleared work1) where
     abbrev q : Request
@@ -134,9 +129,12 @@ module _ (s : List ℕ) (c : ℕ) (work buffer : List ℕ) where
   unfolding plain
   answered-plain number place count work' buffer' x = x
 
--- so many zeros are so long
+-- so many zeros are so long, and are zeros
 pub zeros-long : (n : ℕ) → n ≤ length {A = ℕ} (replicate n 0)
 zeros-long n = rw (length-replicate {A = ℕ} n 0) (omega arith)
+
+pub zeros-are : (n i : ℕ) → i < n → getD {A = ℕ} (replicate n 0) i 0 ≡ 0
+zeros-are n i h = getD-replicate n i 0 0 h
 
 -- a list that finished, by the end that the code has of it
 pub finished-by : (s ls : List ℕ) (w : Words) (o : code.RunEnd) → o ≡ runEnd.Finished → Ends s ls w o → Ends s ls w runEnd.Finished

@@ -1,21 +1,23 @@
 -- The words of a run once its session is read in: nothing has started, ended or been written, and the root's fork waits. Assumes nothing.
-use Prim.Native.Nat.{ℕ, _+_, _<_}
+use Prim.Native.Nat.{ℕ, _+_, _≤_, _<_}
 use mathlib.Core.Path.{_≡_, refl, sym, _∙_, ap, ap₂}
 use mathlib.Core.List.{List, [], _++_}
+use native.Mathlib.Decide.{decLt}
 use native.Mathlib.Omega.{arith}
 use lib.ListN.{length, getD, set, drop, replicate, length-replicate, getD-replicate}
-use Rattle.session.specs.Limits.{maxLevels, maxMethods, fields}
+use Rattle.session.specs.Limits.{maxLevels, maxMethods, maxNumbers}
 use Rattle.session.specs.Lists.{risingFrom}
 use Rattle.session.specs.Parts.{levelCount, objectCount}
-use Rattle.session.specs.Meaning.{levelOf, rootObject, rootOf}
+use Rattle.session.specs.Meaning.{Numbered, levelOf, rootObject, rootOf}
 use Rattle.session.specs.Questions.{verdictOf}
 use Rattle.session.specs.Program.{programOf}
 use Rattle.contents.specs.Reading.{indexOf}
 use Rattle.session.specs.declared.Message.{Message}
 use Rattle.session.specs.declared.Verdict.the-variants.{Accepted}
 use Rattle.session.proofs.Laws.Accepted.{level-present, root-present}
-use Rattle.scripts.specs.Existence.{initially}
-use Rattle.scripts.proofs.Laws.Existence.{first-field}
+use Rattle.session.proofs.Laws.Numbers.{number-own}
+use Rattle.scripts.specs.Existence.{existence, initially}
+use Rattle.scripts.proofs.Laws.Existence.{first-none}
 use Rattle.session.proofs.Laws.Contents.{level-limit}
 use Rattle.contents.proofs.Laws.Methods.{index-made}
 use Rattle.scripts.specs.State.{Manager}
@@ -26,7 +28,8 @@ use Rattle.model.specs.Schedule.{initialState, readIn}
 use Rattle.theorems.proofs.Laws.Order.Accepted.{sound}
 use Rattle.theorems.proofs.Laws.Deep.Root.{each-level}
 use Rattle.theorems.proofs.Laws.Code.Progress.{leads-none}
-use Rattle.words.specs.Fields.{fieldAt, Filled}
+use Rattle.words.specs.Limits.{objectValues, fieldWords}
+use Rattle.words.specs.Fields.{valueOf, fieldPlace, fieldAt, Filled}
 use Rattle.records.specs.Histories.{InOrder}
 use Rattle.records.proofs.Laws.Histories.{histories-none}
 use Rattle.queues.specs.Queue.{forkOfRow, RootRow, Room, Arrived}
@@ -52,8 +55,8 @@ new-limited = record { managers = omega arith; versions = omega arith }
 
 module _ (s : List ℕ) (a : verdictOf s ≡ Accepted) where
   -- the root's object is present, and so is its level
-  pub root-there : (m : Message) → m ≡ rootOf s → m .object < objectCount s
-  root-there m e = rw e (root-present s a)
+  pub root-there : (m : Message) → m ≡ rootOf s → Numbered s (m .object)
+  root-there m e = rw e (number-own s (rootObject s) (root-present s a))
 
   root-level : (m : Message) (level : ℕ) → m ≡ rootOf s → level ≡ levelOf s (m .object) → level ≡ levelOf s (rootObject s)
   root-level m level e i = i ∙ ap (λ m. levelOf s (m .object)) e
@@ -81,7 +84,7 @@ module _ (s : List ℕ) (a : verdictOf s ≡ Accepted) where
       each-level (programOf s) (sound s a) (unfold programOf in level-limit s a) (rootOf s) (λ v. v .activity ≡ idle) refl refl
 
   -- words that no run has used, but for the fields
-  module _ (w : Words) (roomy : Roomy w) (counts : w .tallies ≡ startTallies) (fresh : List ℕ) (filled : Filled s fresh (w .current)) where
+  module _ (w : Words) (roomy : Roomy w) (counts : w .tallies ≡ startTallies) (fresh : List ℕ) (zeros : (i : ℕ) → i < fieldWords → getD fresh i 0 ≡ 0) (filled : Filled s fresh (w .current)) where
     -- what is counted is what is counted first
     at-first : {n : ℕ} (place : ℕ) → getD startTallies place 0 ≡ n → getD (w .tallies) place 0 ≡ n
     at-first place e = ap (λ t. getD t place 0) counts ∙ e
@@ -108,13 +111,26 @@ module _ (s : List ℕ) (a : verdictOf s ≡ Accepted) where
           version-count = at-first (versionsPlace l) (first-versions l h);
           versions = log-none (w .work) (logStart l);
           activity = busy-first l h;
+          unchanged-own = λ _. tt;
+          unchanged-any = λ _. tt;
         }
 
-    field-none : (o k : ℕ) → o < objectCount s → k < fields → fieldAt (w .current) o k ≡ newest (initially (programOf s) o k) o k (levelAt none (programOf s .level o) .versions)
+    -- the words behind the session's objects, which were 0, say NIL, as no other object has a value at first
+    first-value : (o k : ℕ) → o < maxNumbers → k < objectValues → fieldAt (w .current) o k ≡ initially (programOf s) o k
+    unfolding fieldAt
+    first-value o k h j = elim (decLt o (objectCount s)) [
+      | yes own ↦ unfold fieldAt in filled .fields-are o k own j
+      | no other ↦
+          let zero : (i : ℕ) → fieldPlace (objectCount s) 0 ≤ i → i < fieldWords → getD (w .current) i 0 ≡ 0 = λ i b l. filled .outside .above i b ∙ zeros i l in
+          ap₂ valueOf (zero (fieldPlace o k) (omega (arith, other)) (omega (arith, h, j))) (zero (fieldPlace o k + 1) (omega (arith, other)) (omega (arith, h, j)))
+          ∙ sym (first-none s o k (omega (arith, other)))
+    ]
+
+    field-none : (o k : ℕ) → o < maxNumbers → k ≤ existence → fieldAt (w .current) o k ≡ newest (initially (programOf s) o k) o k (levelAt none (programOf s .level o) .versions)
     unfolding newest programOf
     field-none o k h j =
-        filled .fields-are o k h j
-        ∙ sym (ap (λ v. newest (initially (programOf s) o k) o k (v .versions)) (none-at (levelOf s o) (level-present s a o)) ∙ first-field (programOf s) o k j)
+        first-value o k h (omega (arith, j))
+        ∙ sym (ap (λ v. newest (initially (programOf s) o k) o k (v .versions)) (none-at (levelOf s o) (level-present s a o)))
 
     -- they say that nothing has happened
     represents-none : (ms : ℕ → Manager) → Represents s w ms none
@@ -183,5 +199,5 @@ module _ (s : List ℕ) (a : verdictOf s ≡ Accepted) where
                 queue = f .forks-room;
                 work = hw;
               })
-              (f .counts) current filled level (root-level m level e i) row queue' (rw (sym e) root) count came;
+              (f .counts) current (f .fields-none) filled level (root-level m level e i) row queue' (rw (sym e) root) count came;
         }

@@ -1,7 +1,9 @@
 -- `scheduler::run_accepted` meets its contract. Assumes nothing.
 use mathlib.Core.Path.{refl}
+use Rattle.words.specs.Limits.{fieldWords}
+use Rattle.queues.specs.Queue.{queueWords}
 use Rattle.scheduler.specs.Runs.{listOf}
-use Rattle.scheduler.proofs.Laws.Answers.{zeros-long, finished-by, show-ready, list-refused, list-finished}
+use Rattle.scheduler.proofs.Laws.Answers.{zeros-long, zeros-are, finished-by, show-ready, list-refused, list-finished}
 use borrow.Author.Needs.{needs}
 use Rattle.scheduler.proofs.run_accepted.Statement.{statement}
 use Rattle.scheduler.proofs.run_accepted.Tie as tie
@@ -22,7 +24,9 @@ slice-aggregate-read-in-4 : tie.Need-slice-aggregate-read-in-4
 slice-aggregate-read-in-4 c = search needs
 
 read-in-requires : tie.Need-read-in-requires
-read-in-requires c κs = search needs
+read-in-requires c κs =
+    let f = c .before .before .before .before in
+    (f .before .before .before .before .before .before .pre .leveled, record { methods = refl; fields-room = zeros-long fieldWords; fields-none = zeros-are fieldWords; counts = f .first .ensures; forks-room = zeros-long queueWords })
 
 slice-aggregate-make-steps : tie.Need-slice-aggregate-make-steps
 slice-aggregate-make-steps c = search needs

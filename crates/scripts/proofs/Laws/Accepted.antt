@@ -6,32 +6,34 @@ use mathlib.Core.List.{List}
 use native.Mathlib.Decide.{decLt}
 use native.Mathlib.Omega.{arith}
 use borrow.Author.Tests.{leb-true, ltb-true}
-use lib.Dec.{eqb, ltb}
+use lib.Dec.{ltb}
 use lib.ListN.{length, getD, List·getD-eq-default}
 use Rattle.lattice.proofs.Laws.Range.{not-both, and-left, and-right}
 use Rattle.session.specs.Limits.{maxMethod, names, fields}
-use Rattle.session.specs.Parts.{objectCount}
+use Rattle.session.specs.Parts.{levelCount, objectCount}
 use Rattle.session.specs.Questions.{operandsFit, verdictOf}
-use Rattle.session.specs.Meaning.{levelOf, methodOf, stepAt}
+use Rattle.session.specs.Meaning.{Numbered, levelOf, methodOf, stepAt}
 use Rattle.session.specs.Program.{Program, programOf}
 use Rattle.session.specs.declared.Value.{Value}
 use Rattle.session.specs.declared.Message.{Message}
 use Rattle.session.specs.declared.Step.{Step}
-use Rattle.session.specs.declared.Step.the-variants.{End, Set, Add, Jump, Read, Write, Send, Quit}
+use Rattle.session.specs.declared.Step.the-variants.{End, Set, Add, Jump, Read, Write, Send, Quit, Create, Withdraw}
 use Rattle.session.specs.declared.Verdict.the-variants.{Accepted}
 use Rattle.session.proofs.Laws.Lists.{holds, fails, truth}
 use Rattle.session.proofs.Laws.Accepted.{levels-join, level-present, method-short, step-fits}
+use Rattle.session.proofs.Laws.Numbers.{level-made, made-numbered}
 use Rattle.filter.specs.Filter.{fateOf}
 use Rattle.filter.specs.declared.Fate.{Fate}
 use Rattle.filter.specs.declared.Fate.the-variants as fate
-use Rattle.scripts.specs.Existence.{scriptSeen}
-use Rattle.scripts.specs.Limits.{maxWrites, maxForks}
+use Rattle.scripts.specs.Existence.{existence, scriptSeen, usedOf, withdrawn}
+use Rattle.scripts.specs.Limits.{maxForks}
 use Rattle.scripts.specs.Frame.{register, withRegister, atStep}
-use Rattle.scripts.specs.Manager.{isEnd, scriptStep, nextStep, written, called, forked, sent, operated}
-use Rattle.scripts.specs.Valid.{Aimed, scriptMethod, Known}
+use Rattle.scripts.specs.Manager.{isEnd, scriptStep, nextStep, written, created, called, forked, sent, operated}
+use Rattle.scripts.specs.Valid.{Aimed, scriptMethod, Known, Each}
 use Rattle.scripts.specs.State.{Frame, Manager}
 use Rattle.scripts.specs.Effect.{Effect}
 use Rattle.scripts.specs.Effect as effect
+use Rattle.scripts.proofs.Laws.Charged.{written-way, created-way}
 use Rattle.scripts.proofs.Laws.Effects.{Readable, Legible, Fielded, Sound}
 use Rattle.scripts.proofs.Laws.Stack.{runs-any, Preserves}
 
@@ -43,8 +45,8 @@ known-register s f (suc zero) v h = record { present = h .present; scripted = h 
 known-register s f (suc (suc zero)) v h = record { present = h .present; scripted = h .scripted; named = h .named; near = h .near }
 known-register s f (suc (suc (suc k))) v h = record { present = h .present; scripted = h .scripted; named = h .named; near = h .near }
 
--- steps whose operands fit send to present objects
-pub fits-aimed : (s : List ℕ) (count : ℕ) (i : Step) → operandsFit (objectCount s) count i ≡ true → Aimed s i
+-- steps whose operands fit send to objects that have numbers
+pub fits-aimed : (s : List ℕ) (count : ℕ) (i : Step) → operandsFit (levelCount s) (objectCount s) count i ≡ true → Aimed s i
 unfolding operandsFit
 fits-aimed s count End q = tt
 fits-aimed s count (Set a n) q = tt
@@ -52,32 +54,38 @@ fits-aimed s count (Add a b) q = tt
 fits-aimed s count (Jump a b) q = tt
 fits-aimed s count (Read a b) q = tt
 fits-aimed s count (Write a b) q = tt
-fits-aimed s count (Send a b c) q = ltb-true c (objectCount s) (search (and-left, and-right, q))
+fits-aimed s count (Send a b c) q = search (and-left, and-right, q)
 fits-aimed s count (Quit a) q = tt
+fits-aimed s count (Create a) q = tt
+fits-aimed s count Withdraw q = tt
 
 -- and write fields
-fits-fielded : (o count : ℕ) (i : Step) → operandsFit o count i ≡ true → Fielded i
+fits-fielded : (levels o count : ℕ) (i : Step) → operandsFit levels o count i ≡ true → Fielded i
 unfolding operandsFit
-fits-fielded o count End q = tt
-fits-fielded o count (Set a n) q = tt
-fits-fielded o count (Add a b) q = tt
-fits-fielded o count (Jump a b) q = tt
-fits-fielded o count (Read a b) q = tt
-fits-fielded o count (Write a b) q = ltb-true b fields (search (and-left, and-right, q))
-fits-fielded o count (Send a b c) q = tt
-fits-fielded o count (Quit a) q = tt
+fits-fielded levels o count End q = tt
+fits-fielded levels o count (Set a n) q = tt
+fits-fielded levels o count (Add a b) q = tt
+fits-fielded levels o count (Jump a b) q = tt
+fits-fielded levels o count (Read a b) q = tt
+fits-fielded levels o count (Write a b) q = ltb-true b fields (search (and-left, and-right, q))
+fits-fielded levels o count (Send a b c) q = tt
+fits-fielded levels o count (Quit a) q = tt
+fits-fielded levels o count (Create a) q = tt
+fits-fielded levels o count Withdraw q = tt
 
 -- none of them is the end
-fits-not-end : (o count : ℕ) (i : Step) → operandsFit o count i ≡ true → isEnd i ≡ false
+fits-not-end : (levels o count : ℕ) (i : Step) → operandsFit levels o count i ≡ true → isEnd i ≡ false
 unfolding operandsFit
-fits-not-end o count End q = absurd (not-both false q refl)
-fits-not-end o count (Set a n) q = refl
-fits-not-end o count (Add a b) q = refl
-fits-not-end o count (Jump a b) q = refl
-fits-not-end o count (Read a b) q = refl
-fits-not-end o count (Write a b) q = refl
-fits-not-end o count (Send a b c) q = refl
-fits-not-end o count (Quit a) q = refl
+fits-not-end levels o count End q = absurd (not-both false q refl)
+fits-not-end levels o count (Set a n) q = refl
+fits-not-end levels o count (Add a b) q = refl
+fits-not-end levels o count (Jump a b) q = refl
+fits-not-end levels o count (Read a b) q = refl
+fits-not-end levels o count (Write a b) q = refl
+fits-not-end levels o count (Send a b c) q = refl
+fits-not-end levels o count (Quit a) q = refl
+fits-not-end levels o count (Create a) q = refl
+fits-not-end levels o count Withdraw q = refl
 
 -- a script that is read has the methods of a present object, or none
 readable-low : (p : Program) (l w : ℕ) → Readable p l w → w ≤ p .objects
@@ -89,7 +97,7 @@ unfolding programOf
 legible-low s read g o = readable-low (programOf s) (levelOf s o) (scriptSeen read o) (g o)
 
 -- and they keep frames known
-fits-preserves : (s : List ℕ) (p : Program) (read : ℕ → ℕ → Value) (m : Manager) (f : Frame) (count : ℕ) (i : Step) → ((o : ℕ) → scriptSeen read o ≤ objectCount s) → Known s f → count ≤ maxMethod → operandsFit (objectCount s) count i ≡ true → Preserves (Known s) p read m f i
+fits-preserves : (s : List ℕ) (p : Program) (read : ℕ → ℕ → Value) (m : Manager) (f : Frame) (count : ℕ) (i : Step) → ((o : ℕ) → scriptSeen read o ≤ objectCount s) → Known s f → count ≤ maxMethod → operandsFit (levelCount s) (objectCount s) count i ≡ true → Preserves (Known s) p read m f i
 unfolding operandsFit
 fits-preserves s p read m f count End t h low q = tt
 fits-preserves s p read m f count (Set a n) t h low q = tt
@@ -101,68 +109,75 @@ fits-preserves s p read m f count (Read a b) t h low q = tt
 fits-preserves s p read m f count (Write a b) t h low q = tt
 fits-preserves s p read m f count (Send a b c) t h low q =
     runs-any (fateOf (p .levels) (p .dom) (m .level) (p .level (f .object)) (p .level c)) (λ r v. record {
-      present = ltb-true c (objectCount s) (search (and-left, and-right, q));
+      present = search (and-left, and-right, q);
       scripted = t c;
       named = ltb-true b names (search (and-left, and-right, q));
       near = omega arith;
     })
 fits-preserves s p read m f count (Quit a) t h low q = tt
+fits-preserves s p read m f count (Create a) t h low q = tt
+fits-preserves s p read m f count Withdraw t h low q = tt
 
--- a field that is written is one of a present object, and a message that is forked is to a present object, by a name at most 15
+-- what is written is a field, or the existence, of an object that has a number, and a message that is forked is to an object that has one,
+-- by a name at most 15
 abbrev pub EffectPresent : List ℕ → Effect → Type 0
 EffectPresent s effect.Nothing = Unit
-EffectPresent s (effect.Write object k v) = (object < objectCount s) × (k < fields)
-EffectPresent s (effect.Fork u message) = (message .object < objectCount s) × (message .name < names)
+EffectPresent s (effect.Write ws) = Each (λ w. Numbered s (w .object) × (w .field ≤ existence)) ws
+EffectPresent s (effect.Fork u message) = Numbered s (message .object) × (message .name < names)
 
-written-present : (s : List ℕ) (p : Program) (m : Manager) (f : Frame) (k : ℕ) (v : Value) → f .object < objectCount s → k < fields → EffectPresent s (written p m f k v .effect)
-unfolding written
-written-present s p m f k v h q = elim (truth (eqb (p .level (f .object)) (m .level))) [
-  | fails e ↦ rw e tt
-  | holds e ↦ elim (truth (ltb (m .writes) maxWrites)) [
-    | holds w ↦ rw (e, w) (h, q)
-    | fails w ↦ rw (e, w) tt
-  ]
-]
+written-present : (s : List ℕ) (p : Program) (read : ℕ → ℕ → Value) (m : Manager) (f : Frame) (k : ℕ) (v : Value) → Numbered s (f .object) → k ≤ existence → EffectPresent s (written p read m f k v .effect)
+written-present s p read m f k v h q =
+    written-way (λ d. EffectPresent s (d .effect)) p read m f k v (λ l t c. ((h, q), tt)) tt tt
 
-forked-present : (s : List ℕ) (m : Manager) (f : Frame) (a u : ℕ) (message : Message) → message .object < objectCount s → message .name < names → EffectPresent s (forked m f a u message .effect)
+created-present : (s : List ℕ) (p : Program) (read : ℕ → ℕ → Value) (m : Manager) (f : Frame) (a : ℕ) → m .level < levelCount s → EffectPresent s (created p read m f a .effect)
+created-present s p read m f a h =
+    created-way (λ d. EffectPresent s (d .effect)) p read m f a
+    (λ l t u c.
+    let o = made-numbered s (m .level) (usedOf read (m .level)) h u in
+    ((o, omega arith), ((o, omega arith), ((o, omega arith), ((o, omega arith), tt)))))
+    tt tt
+
+forked-present : (s : List ℕ) (m : Manager) (f : Frame) (a u : ℕ) (message : Message) → Numbered s (message .object) → message .name < names → EffectPresent s (forked m f a u message .effect)
 unfolding forked
 forked-present s m f a u message h q = elim (truth (ltb (m .forks) maxForks)) [
   | holds e ↦ rw e (h, q)
   | fails e ↦ rw e tt
 ]
 
-sent-present : (s : List ℕ) (read : ℕ → ℕ → Value) (m : Manager) (f : Frame) (a b c : ℕ) (t : Fate) → c < objectCount s → b < names → EffectPresent s (sent read m f a b c t .effect)
+sent-present : (s : List ℕ) (read : ℕ → ℕ → Value) (m : Manager) (f : Frame) (a b c : ℕ) (t : Fate) → Numbered s c → b < names → EffectPresent s (sent read m f a b c t .effect)
 unfolding sent called
 sent-present s read m f a b c fate.Call h q = tt
 sent-present s read m f a b c fate.Discard h q = tt
 sent-present s read m f a b c fate.Block h q = tt
 sent-present s read m f a b c (fate.Fork u) h q = forked-present s m f a u _ h q
 
-fits-present : (s : List ℕ) (p : Program) (read : ℕ → ℕ → Value) (m : Manager) (f : Frame) (count : ℕ) (i : Step) → f .object < objectCount s → operandsFit (objectCount s) count i ≡ true → EffectPresent s (operated p read m f i .effect)
+fits-present : (s : List ℕ) (p : Program) (read : ℕ → ℕ → Value) (m : Manager) (f : Frame) (count : ℕ) (i : Step) → Numbered s (f .object) → m .level < levelCount s → operandsFit (levelCount s) (objectCount s) count i ≡ true → EffectPresent s (operated p read m f i .effect)
 unfolding operandsFit operated
-fits-present s p read m f count End h q = tt
-fits-present s p read m f count (Set a n) h q = tt
-fits-present s p read m f count (Add a b) h q = tt
-fits-present s p read m f count (Jump a b) h q = tt
-fits-present s p read m f count (Read a b) h q = tt
-fits-present s p read m f count (Write a b) h q =
-    written-present s p m f b (register f a) h (ltb-true b fields (search (and-left, and-right, q)))
-fits-present s p read m f count (Send a b c) h q =
-    sent-present s read m f a b c _ (ltb-true c (objectCount s) (search (and-left, and-right, q))) (ltb-true b names (search (and-left, and-right, q)))
-fits-present s p read m f count (Quit a) h q = tt
+fits-present s p read m f count End h g q = tt
+fits-present s p read m f count (Set a n) h g q = tt
+fits-present s p read m f count (Add a b) h g q = tt
+fits-present s p read m f count (Jump a b) h g q = tt
+fits-present s p read m f count (Read a b) h g q = tt
+fits-present s p read m f count (Write a b) h g q =
+    written-present s p read m f b (register f a) h (omega (arith, ltb-true b fields (search (and-left, and-right, q))))
+fits-present s p read m f count (Send a b c) h g q =
+    sent-present s read m f a b c _ (search (and-left, and-right, q)) (ltb-true b names (search (and-left, and-right, q)))
+fits-present s p read m f count (Quit a) h g q = tt
+fits-present s p read m f count (Create a) h g q = created-present s p read m f a g
+fits-present s p read m f count Withdraw h g q = written-present s p read m f existence withdrawn h (omega arith)
 
 module _ (s : List ℕ) (a : verdictOf s ≡ Accepted) where
   -- a step writes a field
   step-fielded : (o name j : ℕ) → Fielded (stepAt s o name j)
   step-fielded o name j = elim (decLt j (length (methodOf s o name))) [
-    | yes h ↦ fits-fielded (objectCount s) (length (methodOf s o name)) _ (step-fits s a o name j h)
+    | yes h ↦ fits-fielded (levelCount s) (objectCount s) (length (methodOf s o name)) _ (step-fits s a o name j h)
     | no h ↦ subst Fielded (sym (List·getD-eq-default (methodOf s o name) End (omega (arith, h)))) tt
   ]
 
   -- the program of an accepted session is sound
   pub program-sound : Sound (programOf s)
   unfolding programOf
-  program-sound = record { lattice = levels-join s a; placed = level-present s a; fielded = step-fielded }
+  program-sound = record { lattice = levels-join s a; placed = level-present s a; fielded = step-fielded; owned = level-made s a }
 
   -- a script's steps are those of its method, at most 16, and their operands fit
   pub script-is : (w name j : ℕ) → scriptStep (programOf s) w name j ≡ getD (scriptMethod s w name) j End
@@ -174,7 +189,7 @@ module _ (s : List ℕ) (a : verdictOf s ≡ Accepted) where
   script-short zero name = omega arith
   script-short (suc w) name = method-short s a w name
 
-  script-fits : (w name j : ℕ) → j < length (scriptMethod s w name) → operandsFit (objectCount s) (length (scriptMethod s w name)) (getD (scriptMethod s w name) j End) ≡ true
+  script-fits : (w name j : ℕ) → j < length (scriptMethod s w name) → operandsFit (levelCount s) (objectCount s) (length (scriptMethod s w name)) (getD (scriptMethod s w name) j End) ≡ true
   script-fits zero name j h = absurd (omega (arith, h))
   script-fits (suc w) name j h = step-fits s a w name j h
 
@@ -190,20 +205,20 @@ module _ (s : List ℕ) (a : verdictOf s ≡ Accepted) where
   ]
 
   -- its operands fit
-  inside-fits : (f : Frame) → f .next < length (scriptMethod s (f .script) (f .name)) → operandsFit (objectCount s) (length (scriptMethod s (f .script) (f .name))) (nextStep (programOf s) f) ≡ true
+  inside-fits : (f : Frame) → f .next < length (scriptMethod s (f .script) (f .name)) → operandsFit (levelCount s) (objectCount s) (length (scriptMethod s (f .script) (f .name))) (nextStep (programOf s) f) ≡ true
   inside-fits f h = rw (script-is (f .script) (f .name) (f .next)) (script-fits (f .script) (f .name) (f .next) h)
 
-  pub next-fits : (f : Frame) → isEnd (nextStep (programOf s) f) ≡ false → operandsFit (objectCount s) (length (scriptMethod s (f .script) (f .name))) (nextStep (programOf s) f) ≡ true
+  pub next-fits : (f : Frame) → isEnd (nextStep (programOf s) f) ≡ false → operandsFit (levelCount s) (objectCount s) (length (scriptMethod s (f .script) (f .name))) (nextStep (programOf s) f) ≡ true
   next-fits f e = inside-fits f (in-method f e)
 
   -- inside its method no step is the end, and outside every one is
   pub inside-not-end : (f : Frame) → f .next < length (scriptMethod s (f .script) (f .name)) → isEnd (nextStep (programOf s) f) ≡ false
-  inside-not-end f h = fits-not-end _ _ _ (inside-fits f h)
+  inside-not-end f h = fits-not-end _ _ _ _ (inside-fits f h)
 
   pub outside-end : (f : Frame) → length (scriptMethod s (f .script) (f .name)) ≤ f .next → isEnd (nextStep (programOf s) f) ≡ true
   outside-end f h = ap isEnd (behind f h)
 
-  -- it sends to a present object
+  -- it sends to an object that has a number
   pub next-aimed : (f : Frame) → Aimed s (nextStep (programOf s) f)
   next-aimed f = elim (decLt (f .next) (length (scriptMethod s (f .script) (f .name)))) [
     | yes h ↦ fits-aimed s (length (scriptMethod s (f .script) (f .name))) _ (inside-fits f h)
@@ -231,12 +246,12 @@ module _ (s : List ℕ) (a : verdictOf s ≡ Accepted) where
     | no l ↦ subst (Preserves (Known s) (programOf s) read m (atStep f (f .next + 1))) (sym (behind f (omega (arith, l)))) tt
   ]
 
-  -- what it does outside concerns present objects only
-  pub next-present : (read : ℕ → ℕ → Value) (m : Manager) (f : Frame) → Known s f → EffectPresent s (operated (programOf s) read m (atStep f (f .next + 1)) (nextStep (programOf s) f) .effect)
+  -- what it does outside concerns objects that have numbers only
+  pub next-present : (read : ℕ → ℕ → Value) (m : Manager) (f : Frame) → m .level < levelCount s → Known s f → EffectPresent s (operated (programOf s) read m (atStep f (f .next + 1)) (nextStep (programOf s) f) .effect)
   unfolding operated
-  next-present read m f h = elim (decLt (f .next) (length (scriptMethod s (f .script) (f .name)))) [
+  next-present read m f g h = elim (decLt (f .next) (length (scriptMethod s (f .script) (f .name)))) [
     | yes l ↦
-        fits-present s (programOf s) read m (atStep f (f .next + 1)) (length (scriptMethod s (f .script) (f .name))) _ (h .present)
+        fits-present s (programOf s) read m (atStep f (f .next + 1)) (length (scriptMethod s (f .script) (f .name))) _ (h .present) g
         (inside-fits f l)
     | no l ↦
         subst (λ i. EffectPresent s (operated (programOf s) read m (atStep f (f .next + 1)) i .effect)) (sym (behind f (omega (arith, l)))) tt

@@ -2,24 +2,26 @@
 use Prim.Native.Nat.{ℕ, _+_}
 use mathlib.Core.Path.{_≡_, refl, _∙_, ap}
 use mathlib.Core.List.{List, [], _∷_}
-use lib.Dec.{eqb, ltb}
+use lib.Dec.{ltb}
 use lib.ListN.{length}
 use Rattle.session.specs.Program.{Program}
 use Rattle.session.specs.declared.Value.{Value}
 use Rattle.session.specs.declared.Value.the-variants.{Nil}
 use Rattle.session.specs.declared.Message.{Message}
 use Rattle.session.specs.declared.Step.{Step}
-use Rattle.session.specs.declared.Step.the-variants.{End, Set, Add, Jump, Read, Write, Send, Quit}
+use Rattle.session.specs.declared.Step.the-variants.{End, Set, Add, Jump, Read, Write, Send, Quit, Create, Withdraw}
 use Rattle.session.proofs.Laws.Lists.{holds, fails, truth}
 use Rattle.filter.specs.declared.Fate.{Fate}
 use Rattle.filter.specs.declared.Fate.the-variants as fate
-use Rattle.scripts.specs.Limits.{maxFrames, maxWrites, maxForks}
+use Rattle.scripts.specs.Limits.{maxFrames, maxForks}
+use Rattle.scripts.specs.Existence.{existence, withdrawn}
 use Rattle.scripts.specs.Ending.{isRunning}
 use Rattle.scripts.specs.Frame.{withRegister, atStep}
-use Rattle.scripts.specs.Manager.{top, belowOf, nextStep, isEnd, poppedTo, popped, settled, settledFrom, concluded, started, written, called, forked, sent, operated, stepped}
+use Rattle.scripts.specs.Manager.{top, belowOf, nextStep, isEnd, poppedTo, popped, settled, settledFrom, concluded, started, written, created, called, forked, sent, operated, stepped}
 use Rattle.scripts.specs.State.{Frame, Manager, Stepped}
 use Rattle.scripts.specs.Effect.{Effect}
 use Rattle.scripts.specs.Effect as effect
+use Rattle.scripts.proofs.Laws.Charged.{written-way, created-way}
 
 -- a manager without its stack and reply
 pub record Counts : Type 0 where
@@ -77,8 +79,8 @@ started-counts p read level stamp message = concluded-counts p _
 -- the counts after an operation, by its effect
 abbrev pub grown : Counts → Effect → Counts
 grown c effect.Nothing = c
-grown c (effect.Write object k v) =
-    record { level = c .level; first = c .first; stamp = c .stamp; steps = c .steps; writes = c .writes + 1; forks = c .forks }
+grown c (effect.Write ws) =
+    record { level = c .level; first = c .first; stamp = c .stamp; steps = c .steps; writes = c .writes + length ws; forks = c .forks }
 grown c (effect.Fork u message) =
     record { level = c .level; first = c .first; stamp = c .stamp + 1; steps = c .steps; writes = c .writes; forks = c .forks + 1 }
 
@@ -86,15 +88,11 @@ grown c (effect.Fork u message) =
 abbrev CountsFollow : Manager → Stepped → Type 0
 CountsFollow m d = counts (d .manager) ≡ grown (counts m) (d .effect)
 
-written-counts : (p : Program) (m : Manager) (f : Frame) (k : ℕ) (v : Value) → CountsFollow m (written p m f k v)
-unfolding written
-written-counts p m f k v = elim (truth (eqb (p .level (f .object)) (m .level))) [
-  | fails e ↦ rw e refl
-  | holds e ↦ elim (truth (ltb (m .writes) maxWrites)) [
-    | holds q ↦ rw (e, q) refl
-    | fails q ↦ rw (e, q) refl
-  ]
-]
+written-counts : (p : Program) (read : ℕ → ℕ → Value) (m : Manager) (f : Frame) (k : ℕ) (v : Value) → CountsFollow m (written p read m f k v)
+written-counts p read m f k v = written-way (CountsFollow m) p read m f k v (λ l t c. refl) refl refl
+
+created-counts : (p : Program) (read : ℕ → ℕ → Value) (m : Manager) (f : Frame) (a : ℕ) → CountsFollow m (created p read m f a)
+created-counts p read m f a = created-way (CountsFollow m) p read m f a (λ l t u c. refl) refl refl
 
 called-counts : (m : Manager) (f : Frame) (a : ℕ) (callee : Frame) → CountsFollow m (called m f a callee)
 unfolding called
@@ -124,9 +122,11 @@ operated-counts p read m f (Set a n) = refl
 operated-counts p read m f (Add a b) = refl
 operated-counts p read m f (Jump a b) = refl
 operated-counts p read m f (Read a b) = refl
-operated-counts p read m f (Write a b) = written-counts p m f b _
+operated-counts p read m f (Write a b) = written-counts p read m f b _
 operated-counts p read m f (Send a b c) = sent-counts read m f a b c _
 operated-counts p read m f (Quit a) = popped-counts _ _
+operated-counts p read m f (Create a) = created-counts p read m f a
+operated-counts p read m f Withdraw = written-counts p read m f existence withdrawn
 
 -- one script step more
 abbrev pub oneMore : Counts → Counts

@@ -6,7 +6,7 @@ use mathlib.Core.Bool.{true}
 use mathlib.Core.List.{List}
 use lib.ListN.{length}
 use Rattle.lattice.specs.Table.{dominates, isOrdered}
-use Rattle.session.specs.Parts.{levelCount, objectCount, masksOf}
+use Rattle.session.specs.Parts.{levelCount, masksOf}
 use Rattle.session.specs.Meaning.{levelOf}
 use Rattle.session.specs.Program.{programOf}
 use Rattle.session.specs.declared.Value.{Value}
@@ -35,8 +35,8 @@ module _ (s masks : List ℕ) (lent : Leveled s masks) where
   lent-fate l x y = rw (lent-length, lent .masks-are)
 
   -- a fork goes to a present level
-  pub fork-present : (l x c u : ℕ) → l < levelCount s → c < objectCount s → fateOf (length masks) (dominates masks) l x (levelOf s c) ≡ Fork u → u < levelCount s
-  fork-present l x c u hl hc e =
+  pub fork-present : (l x c u : ℕ) → l < levelCount s → fateOf (length masks) (dominates masks) l x (levelOf s c) ≡ Fork u → u < levelCount s
+  fork-present l x c u hl e =
       let n = levelCount s in
       let dom = dominates (masksOf s) in
       let t : fateOf n dom l x (levelOf s c) ≡ Fork u = sym (lent-fate l x (levelOf s c)) ∙ e in

@@ -5,26 +5,27 @@ use mathlib.Core.Bool.{Bool, true, false}
 use mathlib.Core.List.{List, [], _∷_}
 use native.Mathlib.Omega.{arith}
 use borrow.Author.Tests.{ltb-true}
-use lib.Dec.{eqb, ltb}
+use lib.Dec.{ltb}
 use lib.ListN.{length}
 use Rattle.session.specs.Program.{Program}
 use Rattle.session.specs.declared.Value.{Value}
 use Rattle.session.specs.declared.Value.the-variants.{Nil}
 use Rattle.session.specs.declared.Message.{Message}
 use Rattle.session.specs.declared.Step.{Step}
-use Rattle.session.specs.declared.Step.the-variants.{End, Set, Add, Jump, Read, Write, Send, Quit}
+use Rattle.session.specs.declared.Step.the-variants.{End, Set, Add, Jump, Read, Write, Send, Quit, Create, Withdraw}
 use Rattle.session.proofs.Laws.Lists.{holds, fails, truth}
 use Rattle.filter.specs.Filter.{fateOf}
 use Rattle.filter.specs.declared.Fate.{Fate}
 use Rattle.filter.specs.declared.Fate.the-variants as fate
-use Rattle.scripts.specs.Existence.{scriptSeen}
-use Rattle.scripts.specs.Limits.{maxFrames, maxWrites, maxForks}
+use Rattle.scripts.specs.Existence.{existence, scriptSeen, withdrawn}
+use Rattle.scripts.specs.Limits.{maxFrames, maxForks}
 use Rattle.scripts.specs.Value.{isNilOr0}
 use Rattle.scripts.specs.Frame.{frameFor, register, withRegister, atStep}
 use Rattle.scripts.specs.Ending.{isRunning}
-use Rattle.scripts.specs.Manager.{topOf, belowOf, top, withTop, isEnd, nextStep, poppedTo, popped, settled, settledFrom, concluded, written, called, forked, sent, operated, stepped}
+use Rattle.scripts.specs.Manager.{topOf, belowOf, top, withTop, isEnd, nextStep, poppedTo, popped, settled, settledFrom, concluded, written, created, called, forked, sent, operated, stepped}
 use Rattle.scripts.specs.Valid.{Each, Stack}
 use Rattle.scripts.specs.State.{Frame, Manager}
+use Rattle.scripts.proofs.Laws.Charged.{written-way, created-way}
 
 -- the stack of a manager
 abbrev pub Stacked : (Frame → Type 0) → Manager → Type 0
@@ -55,6 +56,8 @@ Preserves P p read m f (Write a b) = Unit
 Preserves P p read m f (Send a b c) =
     Runs (fateOf (p .levels) (p .dom) (m .level) (p .level (f .object)) (p .level c)) ((r : Bool) (v : Value) → P (frameFor c (scriptSeen read c) b a r v))
 Preserves P p read m f (Quit a) = Unit
+Preserves P p read m f (Create a) = Unit
+Preserves P p read m f Withdraw = Unit
 
 below-length : (fs : List Frame) → length (belowOf fs) ≡ length fs - 1
 below-length [] = refl
@@ -114,17 +117,16 @@ module _ (P : Frame → Type 0) (kept : (f : Frame) (k : ℕ) (v : Value) → P 
       from (f ∷ fs) t = settled-stack p m f fs t
 
   -- an operation keeps the stack
-  written-stack : (p : Program) (m : Manager) (f : Frame) (k : ℕ) (v : Value) → Stacked P m → P f → Stacked P (written p m f k v .manager)
-  unfolding written
-  written-stack p m f k v s b =
+  written-stack : (p : Program) (read : ℕ → ℕ → Value) (m : Manager) (f : Frame) (k : ℕ) (v : Value) → Stacked P m → P f → Stacked P (written p read m f k v .manager)
+  written-stack p read m f k v s b =
       let t = replaced-stack P m f s b in
-      elim (truth (eqb (p .level (f .object)) (m .level))) [
-        | fails e ↦ rw e t
-        | holds e ↦ elim (truth (ltb (m .writes) maxWrites)) [
-          | holds q ↦ rw (e, q) t
-          | fails q ↦ rw (e, q) t
-        ]
-      ]
+      written-way (λ d. Stacked P (d .manager)) p read m f k v (λ l h c. t) t t
+
+  created-stack : (p : Program) (read : ℕ → ℕ → Value) (m : Manager) (f : Frame) (a : ℕ) → Stacked P m → P f → Stacked P (created p read m f a .manager)
+  created-stack p read m f a s b =
+      created-way (λ d. Stacked P (d .manager)) p read m f a
+      (λ l h u c. replaced-stack P m _ s (kept f a _ b))
+      (replaced-stack P m f s b) (replaced-stack P m _ s (kept f a Nil b))
 
   called-stack : (m : Manager) (f : Frame) (a : ℕ) (callee : Frame) → Stacked P m → P f → P callee → Stacked P (called m f a callee .manager)
   unfolding called
@@ -161,9 +163,11 @@ module _ (P : Frame → Type 0) (kept : (f : Frame) (k : ℕ) (v : Value) → P 
     | fails e ↦ rw e (replaced-stack P m f s (b refl))
   ]
   operated-stack p read m f (Read a c) s b x = replaced-stack P m _ s (kept f a _ (b refl))
-  operated-stack p read m f (Write a c) s b x = written-stack p m f c (register f a) s (b refl)
+  operated-stack p read m f (Write a c) s b x = written-stack p read m f c (register f a) s (b refl)
   operated-stack p read m f (Send a n c) s b x = sent-stack read m f a n c _ s (b refl) x
   operated-stack p read m f (Quit a) s b x = popped-stack (withTop m f) _ (replaced-stack P m f s (b refl))
+  operated-stack p read m f (Create a) s b x = created-stack p read m f a s (b refl)
+  operated-stack p read m f Withdraw s b x = written-stack p read m f existence withdrawn s (b refl)
 
   -- a script step keeps the stack
   pub stepped-stack : (p : Program) (read : ℕ → ℕ → Value) (m : Manager) → Stacked P (operated p read m (atStep (top m) (top m .next + 1)) (nextStep p (top m)) .manager) → Stacked P (stepped p read m .manager)

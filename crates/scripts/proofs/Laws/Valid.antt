@@ -36,7 +36,7 @@ record Limited (level first steps : ℕ) (c : Counts) : Type 0 where
 grown-limited : (p : Program) (m : Manager) (x : Effect) → Fits p m x → m .writes ≤ maxWrites → m .forks ≤ maxForks → m .stamp ≡ m .first + m .forks → Limited (m .level) (m .first) (m .steps + 1) (oneMore (grown (counts m) x))
 grown-limited p m effect.Nothing f w k e =
     record { level-is = refl; first-is = refl; steps-are = refl; wrote = w; forked = k; stamped = e }
-grown-limited p m (effect.Write object field v) f w k e =
+grown-limited p m (effect.Write ws) f w k e =
     record { level-is = refl; first-is = refl; steps-are = refl; wrote = omega (arith, f .1); forked = k; stamped = e }
 grown-limited p m (effect.Fork u message) f w k e =
     record { level-is = refl; first-is = refl; steps-are = refl; wrote = w; forked = omega (arith, f .1 .1); stamped = omega (arith, e) }
@@ -95,4 +95,4 @@ module _ (s : List ℕ) (a : verdictOf s ≡ Accepted) where
   -- and does nothing outside that concerns an object that is not there
   pub stepped-present : (read : ℕ → ℕ → Value) (m : Manager) → Valid s m → isRunning (m .ending) ≡ true → EffectPresent s (stepped (programOf s) read m .effect)
   unfolding stepped
-  stepped-present read m v r = next-present s a read m (top m) (top-each (Known s) m (v .stack) (v .live r))
+  stepped-present read m v r = next-present s a read m (top m) (v .placed) (top-each (Known s) m (v .stack) (v .live r))

@@ -1,37 +1,38 @@
 -- A manager's frames are of objects that its level dominates, it takes nothing of any other object, and a message is forked at a level
 -- that dominates its object. Assumes nothing.
 use Prim.Native.Nat.{ℕ, zero, suc, _+_, _<_}
-use mathlib.Core.Path.{_≡_, refl, ap}
+use mathlib.Core.Path.{_≡_, refl, _∙_, ap}
 use mathlib.Core.Bool.{Bool, true}
 use mathlib.Core.List.{List, [], _∷_}
 use native.Mathlib.Omega.{arith}
-use lib.Dec.{eqb, ltb}
+use lib.Dec.{ltb}
 use lib.ListN.{length}
-use Rattle.session.specs.Limits.{fields}
+use Rattle.session.specs.Meaning.{madeNumber}
 use Rattle.session.specs.Program.{Program, seenBy}
 use Rattle.session.specs.declared.Value.{Value}
 use Rattle.session.specs.declared.Value.the-variants.{Nil}
 use Rattle.session.specs.declared.Message.{Message}
 use Rattle.session.specs.declared.Step.{Step}
-use Rattle.session.specs.declared.Step.the-variants.{End, Set, Add, Jump, Read, Write, Send, Quit}
+use Rattle.session.specs.declared.Step.the-variants.{End, Set, Add, Jump, Read, Write, Send, Quit, Create, Withdraw}
 use Rattle.session.proofs.Laws.Lists.{holds, fails, truth}
 use Rattle.filter.specs.Filter.{fateOf}
 use Rattle.filter.specs.declared.Fate.{Fate}
 use Rattle.filter.specs.declared.Fate.the-variants as fate
 use Rattle.filter.proofs.Laws.Fate.{Covers, fate-covers}
-use Rattle.scripts.specs.Existence.{existence, scriptSeen}
-use Rattle.scripts.specs.Limits.{maxWrites, maxForks}
+use Rattle.scripts.specs.Existence.{existence, scriptSeen, withdrawn}
+use Rattle.scripts.specs.Limits.{maxForks}
 use Rattle.scripts.specs.Value.{numberIn}
 use Rattle.scripts.specs.Frame.{frameFor, withRegister, atStep}
 use Rattle.scripts.specs.Ending.{isRunning}
-use Rattle.scripts.specs.Manager.{top, isEnd, scriptStep, nextStep, settled, settledFrom, concluded, started, written, called, forked, sent, operated, stepped}
+use Rattle.scripts.specs.Manager.{top, isEnd, scriptStep, nextStep, settled, settledFrom, concluded, started, written, created, called, forked, sent, operated, stepped}
 use Rattle.scripts.specs.Valid.{Each, Stack}
 use Rattle.scripts.specs.State.{Frame, Manager}
 use Rattle.scripts.specs.Effect.{Effect}
 use Rattle.scripts.specs.Effect as effect
+use Rattle.scripts.proofs.Laws.Charged.{written-way, created-way}
 use Rattle.scripts.proofs.Laws.Effects.{Readable, Legible, Fielded, Sound}
 use Rattle.scripts.proofs.Laws.Endings.{concluded-live, running-live}
-use Rattle.scripts.proofs.Laws.Reads.{sent-reads}
+use Rattle.scripts.proofs.Laws.Reads.{sent-reads, written-reads, created-reads}
 use Rattle.scripts.proofs.Laws.Stack.{Stacked, Runs, Preserves, top-each, first-stack, concluded-stack, operated-stack, stepped-stack}
 
 -- level l dominates the object of a frame, and may read its script
@@ -92,6 +93,8 @@ module _ (p : Program) (so : Sound p) (read : ℕ → ℕ → Value) (g : Legibl
       runs-below l f a n c (fateOf (p .levels) (p .dom) (m .level) (p .level (f .object)) (p .level c)) h b
       (rw q (fate-covers (p .levels) (p .dom) (so .lattice) l (p .level (f .object)) (p .level c) h (so .placed c)))
   preserves-below l m f (Quit a) h q b = tt
+  preserves-below l m f (Create a) h q b = tt
+  preserves-below l m f Withdraw h q b = tt
 
   -- the stack after the operation of a script step
   done-stack : (l : ℕ) (m : Manager) → l < p .levels → m .level ≡ l → isRunning (m .ending) ≡ true → Within p l m → Stacked (Below p l) (operated p read m (atStep (top m) (top m .next + 1)) (nextStep p (top m)) .manager)
@@ -149,19 +152,23 @@ runs-seen p l f c (fate.Fork u) so h d x e = tt
 
 -- an operation takes of the program only levels
 operated-seen : (p : Program) (read read' : ℕ → ℕ → Value) (l : ℕ) (m : Manager) (f : Frame) (i : Step) → Sound p → l < p .levels → m .level ≡ l → Below p l f → ((o k : ℕ) → p .dom l (p .level o) ≡ true → read o k ≡ read' o k) → operated (seenBy l p) read m f i ≡ operated p read' m f i
-unfolding operated written seenBy
+unfolding operated written created seenBy
 operated-seen p read read' l m f End so h q b e = refl
 operated-seen p read read' l m f (Set a n) so h q b e = refl
 operated-seen p read read' l m f (Add a c) so h q b e = refl
 operated-seen p read read' l m f (Jump a c) so h q b e = refl
-operated-seen p read read' l m f (Read a c) so h q b e = rw (e (f .object) c (b .0))
-operated-seen p read read' l m f (Write a c) so h q b e = refl
+operated-seen p read read' l m f (Read a c) so h q b e = rw (e (f .object) c (b .0), e (f .object) existence (b .0))
+operated-seen p read read' l m f (Write a c) so h q b e = written-reads p read read' m f c _ (e (f .object) existence (b .0))
 operated-seen p read read' l m f (Send a n c) so h q b e =
     sent-reads read read' m f a n c (fateOf (p .levels) (p .dom) (m .level) (p .level (f .object)) (p .level c))
     (runs-seen p l f c (fateOf (p .levels) (p .dom) (m .level) (p .level (f .object)) (p .level c)) so h b
     (rw q (fate-covers (p .levels) (p .dom) (so .lattice) l (p .level (f .object)) (p .level c) h (so .placed c)))
     (e c existence))
 operated-seen p read read' l m f (Quit a) so h q b e = refl
+operated-seen p read read' l m f (Create a) so h q b e =
+    created-reads p read read' m f a (e (f .object) existence (b .0))
+    (rw q (λ i u. e (madeNumber l i) existence (rw (so .owned l i h u) (so .lattice .order .itself l h))))
+operated-seen p read read' l m f Withdraw so h q b e = written-reads p read read' m f existence withdrawn (e (f .object) existence (b .0))
 
 -- nor does a script step, where the reads of the dominated objects agree
 pub stepped-seen : (p : Program) (read read' : ℕ → ℕ → Value) (l : ℕ) (m : Manager) → Sound p → Legible p read' → l < p .levels → m .level ≡ l → isRunning (m .ending) ≡ true → Within p l m → ((o k : ℕ) → p .dom l (p .level o) ≡ true → read o k ≡ read' o k) → stepped (seenBy l p) read m ≡ stepped p read' m
@@ -181,18 +188,14 @@ stepped-seen p read read' l m so legible h q r w same =
 -- a message is forked at a level that dominates its object
 abbrev pub Reaches : Program → Effect → Type 0
 Reaches p effect.Nothing = Unit
-Reaches p (effect.Write object k v) = Unit
+Reaches p (effect.Write ws) = Unit
 Reaches p (effect.Fork u message) = p .dom u (p .level (message .object)) ≡ true
 
-written-reaches : (p : Program) (m : Manager) (f : Frame) (k : ℕ) (v : Value) → Reaches p (written p m f k v .effect)
-unfolding written
-written-reaches p m f k v = elim (truth (eqb (p .level (f .object)) (m .level))) [
-  | fails e ↦ rw e tt
-  | holds e ↦ elim (truth (ltb (m .writes) maxWrites)) [
-    | holds q ↦ rw (e, q) tt
-    | fails q ↦ rw (e, q) tt
-  ]
-]
+written-reaches : (p : Program) (read : ℕ → ℕ → Value) (m : Manager) (f : Frame) (k : ℕ) (v : Value) → Reaches p (written p read m f k v .effect)
+written-reaches p read m f k v = written-way (λ d. Reaches p (d .effect)) p read m f k v (λ l t c. tt) tt tt
+
+created-reaches : (p : Program) (read : ℕ → ℕ → Value) (m : Manager) (f : Frame) (a : ℕ) → Reaches p (created p read m f a .effect)
+created-reaches p read m f a = created-way (λ d. Reaches p (d .effect)) p read m f a (λ l t u c. tt) tt tt
 
 forked-reaches : (p : Program) (m : Manager) (f : Frame) (a u : ℕ) (message : Message) → p .dom u (p .level (message .object)) ≡ true → Reaches p (forked m f a u message .effect)
 unfolding forked
@@ -215,10 +218,12 @@ operated-reaches p read m f (Set a n) so h = tt
 operated-reaches p read m f (Add a c) so h = tt
 operated-reaches p read m f (Jump a c) so h = tt
 operated-reaches p read m f (Read a c) so h = tt
-operated-reaches p read m f (Write a c) so h = written-reaches p m f c _
+operated-reaches p read m f (Write a c) so h = written-reaches p read m f c _
 operated-reaches p read m f (Send a n c) so h =
     sent-reaches p read m f a n c _ (fate-covers (p .levels) (p .dom) (so .lattice) (m .level) (p .level (f .object)) (p .level c) h (so .placed c))
 operated-reaches p read m f (Quit a) so h = tt
+operated-reaches p read m f (Create a) so h = created-reaches p read m f a
+operated-reaches p read m f Withdraw so h = written-reaches p read m f existence withdrawn
 
 pub stepped-reaches : (p : Program) (read : ℕ → ℕ → Value) (m : Manager) → Sound p → m .level < p .levels → Reaches p (stepped p read m .effect)
 unfolding stepped
@@ -232,18 +237,20 @@ Lawful p l k v = k ≡ existence → Readable p l (numberIn v)
 -- and so does what a script step writes
 abbrev pub Lawfully : Program → ℕ → Effect → Type 0
 Lawfully p l effect.Nothing = Unit
-Lawfully p l (effect.Write object k v) = Lawful p l k v
+Lawfully p l (effect.Write ws) = Each (λ w. Lawful p l (w .field) (w .value)) ws
 Lawfully p l (effect.Fork u message) = Unit
 
-written-lawful : (p : Program) (l : ℕ) (m : Manager) (f : Frame) (k : ℕ) (v : Value) → Lawful p l k v → Lawfully p l (written p m f k v .effect)
-unfolding written
-written-lawful p l m f k v w = elim (truth (eqb (p .level (f .object)) (m .level))) [
-  | fails e ↦ rw e tt
-  | holds e ↦ elim (truth (ltb (m .writes) maxWrites)) [
-    | holds q ↦ rw (e, q) w
-    | fails q ↦ rw (e, q) tt
-  ]
-]
+written-lawful : (p : Program) (l : ℕ) (read : ℕ → ℕ → Value) (m : Manager) (f : Frame) (k : ℕ) (v : Value) → Lawful p l k v → Lawfully p l (written p read m f k v .effect)
+written-lawful p l read m f k v w = written-way (λ d. Lawfully p l (d .effect)) p read m f k v (λ _ t c. (w, tt)) tt tt
+
+-- the script of an object that is made is that of the frame's own object, which lies at the level
+created-lawful : (p : Program) (l : ℕ) (read : ℕ → ℕ → Value) (m : Manager) (f : Frame) (a : ℕ) → Legible p read → m .level ≡ l → Lawfully p l (created p read m f a .effect)
+created-lawful p l read m f a g q =
+    created-way (λ d. Lawfully p l (d .effect)) p read m f a
+    (λ e t u c.
+    let r : Readable p l (scriptSeen read (f .object)) = rw (e ∙ q) at (g (f .object)) in
+    ((λ _. r), ((λ z. absurd (omega (arith, z))), ((λ z. absurd (omega (arith, z))), ((λ z. absurd (omega (arith, z))), tt)))))
+    tt tt
 
 sent-lawful : (p : Program) (l : ℕ) (read : ℕ → ℕ → Value) (m : Manager) (f : Frame) (a b c : ℕ) (t : Fate) → Lawfully p l (sent read m f a b c t .effect)
 unfolding sent called forked
@@ -255,59 +262,25 @@ sent-lawful p l read m f a b c (fate.Fork u) = elim (truth (ltb (m .forks) maxFo
   | fails e ↦ rw e tt
 ]
 
-operated-lawful : (p : Program) (l : ℕ) (read : ℕ → ℕ → Value) (m : Manager) (f : Frame) (i : Step) → Fielded i → Lawfully p l (operated p read m f i .effect)
+operated-lawful : (p : Program) (l : ℕ) (read : ℕ → ℕ → Value) (m : Manager) (f : Frame) (i : Step) → Legible p read → m .level ≡ l → Fielded i → Lawfully p l (operated p read m f i .effect)
 unfolding operated
-operated-lawful p l read m f End w = tt
-operated-lawful p l read m f (Set a n) w = tt
-operated-lawful p l read m f (Add a c) w = tt
-operated-lawful p l read m f (Jump a c) w = tt
-operated-lawful p l read m f (Read a c) w = tt
-operated-lawful p l read m f (Write a c) w = written-lawful p l m f c _ (λ e. absurd (omega (arith, w, e)))
-operated-lawful p l read m f (Send a n c) w = sent-lawful p l read m f a n c _
-operated-lawful p l read m f (Quit a) w = tt
+operated-lawful p l read m f End g q w = tt
+operated-lawful p l read m f (Set a n) g q w = tt
+operated-lawful p l read m f (Add a c) g q w = tt
+operated-lawful p l read m f (Jump a c) g q w = tt
+operated-lawful p l read m f (Read a c) g q w = tt
+operated-lawful p l read m f (Write a c) g q w = written-lawful p l read m f c _ (λ e. absurd (omega (arith, w, e)))
+operated-lawful p l read m f (Send a n c) g q w = sent-lawful p l read m f a n c _
+operated-lawful p l read m f (Quit a) g q w = tt
+operated-lawful p l read m f (Create a) g q w = created-lawful p l read m f a g q
+operated-lawful p l read m f Withdraw g q w = written-lawful p l read m f existence withdrawn (λ e. tt)
 
-next-fielded : (p : Program) → Sound p → (w name j : ℕ) → Fielded (scriptStep p w name j)
+-- a script's WRITEs write fields alone
+pub next-fielded : (p : Program) → Sound p → (w name j : ℕ) → Fielded (scriptStep p w name j)
 next-fielded p so zero name j = tt
 next-fielded p so (suc w) name j = so .fielded w name j
 
-pub stepped-lawful : (p : Program) (l : ℕ) (read : ℕ → ℕ → Value) (m : Manager) → Sound p → Lawfully p l (stepped p read m .effect)
+pub stepped-lawful : (p : Program) (l : ℕ) (read : ℕ → ℕ → Value) (m : Manager) → Sound p → Legible p read → m .level ≡ l → Lawfully p l (stepped p read m .effect)
 unfolding stepped
-stepped-lawful p l read m so =
-    operated-lawful p l read m (atStep (top m) (top m .next + 1)) (nextStep p (top m)) (next-fielded p so (top m .script) (top m .name) (top m .next))
-
--- what a script step writes is a field
-abbrev pub WritesFields : Effect → Type 0
-WritesFields effect.Nothing = Unit
-WritesFields (effect.Write object k v) = k < fields
-WritesFields (effect.Fork u message) = Unit
-
-operated-fields : (p : Program) (read : ℕ → ℕ → Value) (m : Manager) (f : Frame) (i : Step) → Fielded i → WritesFields (operated p read m f i .effect)
-unfolding operated
-operated-fields p read m f End w = tt
-operated-fields p read m f (Set a n) w = tt
-operated-fields p read m f (Add a c) w = tt
-operated-fields p read m f (Jump a c) w = tt
-operated-fields p read m f (Read a c) w = tt
-operated-fields p read m f (Write a c) w = unfold written in elim (truth (eqb (p .level (f .object)) (m .level))) [
-  | fails e ↦ rw e tt
-  | holds e ↦ elim (truth (ltb (m .writes) maxWrites)) [
-    | holds q ↦ rw (e, q) w
-    | fails q ↦ rw (e, q) tt
-  ]
-]
-operated-fields p read m f (Send a n c) w = sent-fields read m f a n c _
-  where
-    sent-fields : (read : ℕ → ℕ → Value) (m : Manager) (f : Frame) (a b c : ℕ) (t : Fate) → WritesFields (sent read m f a b c t .effect)
-    sent-fields read m f a b c fate.Call = unfold sent called in tt
-    sent-fields read m f a b c fate.Discard = unfold sent called in tt
-    sent-fields read m f a b c fate.Block = unfold sent in tt
-    sent-fields read m f a b c (fate.Fork u) = unfold sent forked in elim (truth (ltb (m .forks) maxForks)) [
-      | holds e ↦ rw e tt
-      | fails e ↦ rw e tt
-    ]
-operated-fields p read m f (Quit a) w = tt
-
-pub stepped-fields : (p : Program) (read : ℕ → ℕ → Value) (m : Manager) → Sound p → WritesFields (stepped p read m .effect)
-unfolding stepped
-stepped-fields p read m so =
-    operated-fields p read m (atStep (top m) (top m .next + 1)) (nextStep p (top m)) (next-fielded p so (top m .script) (top m .name) (top m .next))
+stepped-lawful p l read m so g q =
+    operated-lawful p l read m (atStep (top m) (top m .next + 1)) (nextStep p (top m)) g q (next-fielded p so (top m .script) (top m .name) (top m .next))

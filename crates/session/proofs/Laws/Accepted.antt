@@ -69,21 +69,21 @@ module _ (s : List ℕ) (a : verdictOf s ≡ Accepted) where
 
   -- each step of a method is valid as one of the method's steps
   step-of-method : (k j : ℕ) → j < length (methodRecords s k) →
-      (scriptValid (objectCount s) (stepRecords s) (getD (methodRecords s k) j []) ≡ true) × (keyOf (getD (methodRecords s k) j []) ≡ k)
+      (scriptValid (levelCount s) (objectCount s) (stepRecords s) (getD (methodRecords s k) j []) ≡ true) × (keyOf (getD (methodRecords s k) j []) ≡ k)
   unfolding methodRecords
   step-of-method k j h = (
-    every-each (scriptValid (objectCount s) (stepRecords s)) [] (methodRecords s k)
-        (every-select (λ rec. eqb (keyOf rec) k) (scriptValid (objectCount s) (stepRecords s)) (stepRecords s) (steps-valid s (accepted s a))) j h,
+    every-each (scriptValid (levelCount s) (objectCount s) (stepRecords s)) [] (methodRecords s k)
+        (every-select (λ rec. eqb (keyOf rec) k) (scriptValid (levelCount s) (objectCount s) (stepRecords s)) (stepRecords s) (steps-valid s (accepted s a))) j h,
     eqb-true (keyOf (getD (methodRecords s k) j [])) k
         (every-each (λ rec. eqb (keyOf rec) k) [] (methodRecords s k) (select-passes (λ rec. eqb (keyOf rec) k) (stepRecords s)) j h),
   )
 
   script-of-method : (k j : ℕ) → j < length (methodRecords s k) →
-      (leb (length (methodRecords s k)) maxMethod && stepValid (objectCount s) (length (methodRecords s k)) (getD (methodRecords s k) j [])) ≡ true
+      (leb (length (methodRecords s k)) maxMethod && stepValid (levelCount s) (objectCount s) (length (methodRecords s k)) (getD (methodRecords s k) j [])) ≡ true
   unfolding scriptValid methodRecords
   script-of-method k j h =
       let (v, e) = step-of-method k j h in
-      ap (λ n. leb (length (ofMethod n (stepRecords s))) maxMethod && stepValid (objectCount s) (length (ofMethod n (stepRecords s))) (getD (methodRecords s k) j [])) (sym e) ∙ v
+      ap (λ n. leb (length (ofMethod n (stepRecords s))) maxMethod && stepValid (levelCount s) (objectCount s) (length (ofMethod n (stepRecords s))) (getD (methodRecords s k) j [])) (sym e) ∙ v
 
   -- a method with steps has a name of one byte
   pub method-named : (o m : ℕ) → 0 < length (methodOf s o m) → m < 256
@@ -102,7 +102,7 @@ module _ (s : List ℕ) (a : verdictOf s ≡ Accepted) where
   ]
 
   -- the operands of each step fit its method and the objects
-  pub step-fits : (o m j : ℕ) → j < length (methodOf s o m) → operandsFit (objectCount s) (length (methodOf s o m)) (stepAt s o m j) ≡ true
+  pub step-fits : (o m j : ℕ) → j < length (methodOf s o m) → operandsFit (levelCount s) (objectCount s) (length (methodOf s o m)) (stepAt s o m j) ≡ true
   unfolding stepValid stepOf
   step-fits o m j h =
       let k = key o m in
@@ -113,7 +113,7 @@ module _ (s : List ℕ) (a : verdictOf s ≡ Accepted) where
       let e : stepAt s o m j ≡ stepOf rec =
       ap (λ l. getD l j End) (method-is s (accepted s a) o m small) ∙ List·getD-map stepOf (methodRecords s k) j [] in
       rw (e, n)
-      (and-left (operandsFit (objectCount s) (length (methodRecords s k)) (stepOf rec)) (zeroAt (unusedBytes (stepOf rec)) rec)
+      (and-left (operandsFit (levelCount s) (objectCount s) (length (methodRecords s k)) (stepOf rec)) (zeroAt (unusedBytes (stepOf rec)) rec)
       (search (and-left, and-right, v)))
 
   -- and only present objects have steps, under names at most 15

@@ -73,11 +73,11 @@ module _ (s : List ℕ) where
   unfolding methodRecords
   method-kinds k = every-select (λ rec. eqb (keyOf rec) k) (λ rec. eqb (kindOf rec) 3) (stepRecords s) (kinds 3)
 
-  pub steps-valid : AllYes s → every (scriptValid (objectCount s) (stepRecords s)) (stepRecords s) ≡ true
+  pub steps-valid : AllYes s → every (scriptValid (levelCount s) (objectCount s) (stepRecords s)) (stepRecords s) ≡ true
   unfolding scriptsValid
-  steps-valid y = and-right (risingFrom keyOf 0 (stepRecords s)) (methodsValid (objectCount s) (stepRecords s)) (y .seven)
+  steps-valid y = and-right (risingFrom keyOf 0 (stepRecords s)) (methodsValid (levelCount s) (objectCount s) (stepRecords s)) (y .seven)
 
-  pub step-name : (rec : Record) → scriptValid (objectCount s) (stepRecords s) rec ≡ true → ltb (nameOf rec) 16 ≡ true
+  pub step-name : (rec : Record) → scriptValid (levelCount s) (objectCount s) (stepRecords s) rec ≡ true → ltb (nameOf rec) 16 ≡ true
   unfolding scriptValid stepValid
   step-name rec e = search (and-left, and-right)
 
@@ -86,14 +86,14 @@ module _ (s : List ℕ) where
   unfolding methodOf methodRecords
   method-is y o m h =
       ap (map stepOf) (select-same (λ rec. eqb (objectOf rec) o && eqb (nameOf rec) m) (λ rec. eqb (keyOf rec) (key o m))
-      (scriptValid (objectCount s) (stepRecords s))
+      (scriptValid (levelCount s) (objectCount s) (stepRecords s))
       (λ rec v. pair-key o m (objectOf rec) (nameOf rec) h (ltb-true (nameOf rec) 16 (step-name rec v))) (stepRecords s) (steps-valid y))
 
   pub method-none : AllYes s → (o m : ℕ) → 256 ≤ m → methodOf s o m ≡ []
   unfolding methodOf
   method-none y o m h =
       ap (map stepOf) (select-none (λ rec. eqb (objectOf rec) o && eqb (nameOf rec) m) (stepRecords s)
-      (every-then (scriptValid (objectCount s) (stepRecords s)) (λ rec. not (eqb (objectOf rec) o && eqb (nameOf rec) m))
+      (every-then (scriptValid (levelCount s) (objectCount s) (stepRecords s)) (λ rec. not (eqb (objectOf rec) o && eqb (nameOf rec) m))
       (λ rec v.
       let l : nameOf rec < 16 = ltb-true (nameOf rec) 16 (step-name rec v) in
       ap not (and-fails-right (eqb (objectOf rec) o) _ (ne-eqb (nameOf rec) m (omega arith)))) (stepRecords s) (steps-valid y)))
@@ -101,17 +101,17 @@ module _ (s : List ℕ) where
   pub method-object : AllYes s → (o m : ℕ) → m < 256 → every (λ rec. eqb (numberOf rec) o) (methodRecords s (key o m)) ≡ true
   unfolding methodRecords
   method-object y o m h =
-      every-then (λ rec. eqb (keyOf rec) (key o m) && scriptValid (objectCount s) (stepRecords s) rec) (λ rec. eqb (numberOf rec) o) same (methodRecords s (key o m))
-      (every-both (λ rec. eqb (keyOf rec) (key o m)) (scriptValid (objectCount s) (stepRecords s)) (methodRecords s (key o m))
+      every-then (λ rec. eqb (keyOf rec) (key o m) && scriptValid (levelCount s) (objectCount s) (stepRecords s) rec) (λ rec. eqb (numberOf rec) o) same (methodRecords s (key o m))
+      (every-both (λ rec. eqb (keyOf rec) (key o m)) (scriptValid (levelCount s) (objectCount s) (stepRecords s)) (methodRecords s (key o m))
       (select-passes (λ rec. eqb (keyOf rec) (key o m)) (stepRecords s))
-      (every-select (λ rec. eqb (keyOf rec) (key o m)) (scriptValid (objectCount s) (stepRecords s)) (stepRecords s) (steps-valid y)))
+      (every-select (λ rec. eqb (keyOf rec) (key o m)) (scriptValid (levelCount s) (objectCount s) (stepRecords s)) (stepRecords s) (steps-valid y)))
     where
-      same : (rec : Record) → (eqb (keyOf rec) (key o m) && scriptValid (objectCount s) (stepRecords s) rec) ≡ true → eqb (numberOf rec) o ≡ true
+      same : (rec : Record) → (eqb (keyOf rec) (key o m) && scriptValid (levelCount s) (objectCount s) (stepRecords s) rec) ≡ true → eqb (numberOf rec) o ≡ true
       same rec e =
-          let l : nameOf rec < 16 = ltb-true (nameOf rec) 16 (step-name rec (and-right (eqb (keyOf rec) (key o m)) (scriptValid (objectCount s) (stepRecords s) rec) e)) in
+          let l : nameOf rec < 16 = ltb-true (nameOf rec) 16 (step-name rec (and-right (eqb (keyOf rec) (key o m)) (scriptValid (levelCount s) (objectCount s) (stepRecords s) rec) e)) in
           eq-eqb (numberOf rec) o
           (key-object (numberOf rec) (nameOf rec) o m (omega arith) h
-          (eqb-true (keyOf rec) (key o m) (and-left (eqb (keyOf rec) (key o m)) (scriptValid (objectCount s) (stepRecords s) rec) e)))
+          (eqb-true (keyOf rec) (key o m) (and-left (eqb (keyOf rec) (key o m)) (scriptValid (levelCount s) (objectCount s) (stepRecords s) rec) e)))
 
 -- the level of an object of the session is in its record
 pub own-level : (s : List ℕ) (o : ℕ) → o < objectCount s → levelOf s o ≡ levelByte (getD (objectRecords s) o [])

@@ -137,27 +137,27 @@ module _ (s : List ℕ) (c : ℕ) (y : AllYes s) where
       (every-then (objectValid (levelCount s)) (λ rec. objectValid (levelCount s) (blanked s c rec)) (object-blanked (levelCount s)) (objectRecords s) (y .six))
 
   -- 7. a step stays with all the steps of its method
-  script-stays : (rec : Record) → eqb (kindOf rec) 3 ≡ true → stays s c rec ≡ true → scriptValid (objectCount s) (stepRecords s) rec ≡ true → scriptValid (objectCount (emptied c s)) (stepRecords (emptied c s)) rec ≡ true
+  script-stays : (rec : Record) → eqb (kindOf rec) 3 ≡ true → stays s c rec ≡ true → scriptValid (levelCount s) (objectCount s) (stepRecords s) rec ≡ true → scriptValid (levelCount (emptied c s)) (objectCount (emptied c s)) (stepRecords (emptied c s)) rec ≡ true
   unfolding scriptValid methodRecords
   script-stays rec k t v =
       let l : nameOf rec < 16 = ltb-true (nameOf rec) 16 (step-name s rec v) in
-      rw (emptied-method-seen s c y (numberOf rec) (nameOf rec) (omega arith) (seen-stays s c rec k t), emptied-count s c) v
+      rw (emptied-method-seen s c y (numberOf rec) (nameOf rec) (omega arith) (seen-stays s c rec k t), emptied-level-count s c, emptied-count s c) v
 
   question7-emptied : question7 (emptied c s) ≡ true
   unfolding scriptsValid
   question7-emptied =
       let steps = stepRecords s in
       let kept = select (stays s c) steps in
-      let test = scriptValid (objectCount (emptied c s)) (stepRecords (emptied c s)) in
+      let test = scriptValid (levelCount (emptied c s)) (objectCount (emptied c s)) (stepRecords (emptied c s)) in
       and-both (risingFrom keyOf 0 (stepRecords (emptied c s))) (every test (stepRecords (emptied c s)))
       (rw (emptied-steps s c) (rising-select keyOf (stays s c) 0 steps (search (and-left, y .seven))))
       (ap (every test) (emptied-steps s c)
-      ∙ every-then (λ rec. eqb (kindOf rec) 3 && stays s c rec && scriptValid (objectCount s) steps rec) test
+      ∙ every-then (λ rec. eqb (kindOf rec) 3 && stays s c rec && scriptValid (levelCount s) (objectCount s) steps rec) test
       (λ rec e. script-stays rec (search (and-left, and-right)) (search (and-left, and-right)) (search (and-left, and-right))) kept
-      (every-both (λ rec. eqb (kindOf rec) 3 && stays s c rec) (scriptValid (objectCount s) steps) kept
+      (every-both (λ rec. eqb (kindOf rec) 3 && stays s c rec) (scriptValid (levelCount s) (objectCount s) steps) kept
       (every-both (λ rec. eqb (kindOf rec) 3) (stays s c) kept
       (every-select (stays s c) (λ rec. eqb (kindOf rec) 3) steps (kinds s 3)) (select-passes (stays s c) steps))
-      (every-select (stays s c) (scriptValid (objectCount s) steps) steps (steps-valid s y))))
+      (every-select (stays s c) (scriptValid (levelCount s) (objectCount s) steps) steps (steps-valid s y))))
 
   -- 8. the root message is the same
   question8-emptied : question8 (emptied c s) ≡ true

@@ -69,10 +69,10 @@ module _ {s : List ℕ} (q : question2 s ≡ true) {levels objects steps : ℕ} 
   unfolding question6
   question6-is = rw (n .levels-are, n .objects-are) (sym (every-objects s (kinds-rise s q) (objectValid (levelCount s))))
 
-  pub question7-is : scriptsValid objects (recordsFrom s (levels + objects) (levels + objects + steps - (levels + objects))) ≡ question7 s
+  pub question7-is : scriptsValid levels objects (recordsFrom s (levels + objects) (levels + objects + steps - (levels + objects))) ≡ question7 s
   question7-is =
       let z : levels + objects + steps - (levels + objects) ≡ steps = omega arith in
-      rw (z, n .levels-are, n .objects-are, n .steps-are) (ap (scriptsValid (objectCount s)) (sym (steps-from s (kinds-rise s q))))
+      rw (z, n .levels-are, n .objects-are, n .steps-are) (ap (scriptsValid (levelCount s) (objectCount s)) (sym (steps-from s (kinds-rise s q))))
 
   pub question8-is : rootValid objects (recordAt s (levels + objects + steps)) ≡ question8 s
   question8-is = rw (n .levels-are, n .objects-are, n .steps-are) (ap (rootValid (objectCount s)) (sym (root-is s q)))

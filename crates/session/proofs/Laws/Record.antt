@@ -13,7 +13,7 @@ use Rattle.session.specs.Record.{Record, recordAt, recordCount, recordsO
 use Rattle.session.specs.Checking.{recordsFrom}
 use Rattle.session.specs.declared.Value.the-variants.{Nil, Number}
 use Rattle.session.proofs.Laws.Lists.{length-tab, getD-tab}
-use Rattle.session.specs.declared.Step.the-variants.{End, Set, Add, Jump, Read, Write, Send, Quit}
+use Rattle.session.specs.declared.Step.the-variants.{End, Set, Add, Jump, Read, Write, Send, Quit, Create, Withdraw}
 
 -- byte k of record r stands at 16 r + k
 pub byte-is : (s : List ℕ) (r k : ℕ) → k < recordBytes → byteOf (recordAt s r) k ≡ getD s (16 * r + k) 0
@@ -58,19 +58,21 @@ module _ (rec : Record) where
   pub parameter-nil : (byteOf rec 3 ≡ 1 → ⊥) → Nil ≡ parameterOf rec
   parameter-nil h = rw (ne-eqb (byteOf rec 3) 1 h)
 
--- a number that is none of 1 to 7
+-- a number that is none of 1 to 9
 pub no-operation : (x : ℕ)
-    → (x ≡ 1 → ⊥) → (x ≡ 2 → ⊥) → (x ≡ 3 → ⊥) → (x ≡ 4 → ⊥) → (x ≡ 5 → ⊥) → (x ≡ 6 → ⊥) → (x ≡ 7 → ⊥)
-    → (x ≡ 0) ⊎ (7 < x)
-no-operation zero n1 n2 n3 n4 n5 n6 n7 = inl refl
-no-operation (suc zero) n1 n2 n3 n4 n5 n6 n7 = absurd (n1 refl)
-no-operation (suc (suc zero)) n1 n2 n3 n4 n5 n6 n7 = absurd (n2 refl)
-no-operation (suc (suc (suc zero))) n1 n2 n3 n4 n5 n6 n7 = absurd (n3 refl)
-no-operation (suc (suc (suc (suc zero)))) n1 n2 n3 n4 n5 n6 n7 = absurd (n4 refl)
-no-operation (suc (suc (suc (suc (suc zero))))) n1 n2 n3 n4 n5 n6 n7 = absurd (n5 refl)
-no-operation (suc (suc (suc (suc (suc (suc zero)))))) n1 n2 n3 n4 n5 n6 n7 = absurd (n6 refl)
-no-operation (suc (suc (suc (suc (suc (suc (suc zero))))))) n1 n2 n3 n4 n5 n6 n7 = absurd (n7 refl)
-no-operation (suc (suc (suc (suc (suc (suc (suc (suc x)))))))) n1 n2 n3 n4 n5 n6 n7 = inr (omega arith)
+    → (x ≡ 1 → ⊥) → (x ≡ 2 → ⊥) → (x ≡ 3 → ⊥) → (x ≡ 4 → ⊥) → (x ≡ 5 → ⊥) → (x ≡ 6 → ⊥) → (x ≡ 7 → ⊥) → (x ≡ 8 → ⊥) → (x ≡ 9 → ⊥)
+    → (x ≡ 0) ⊎ (9 < x)
+no-operation zero n1 n2 n3 n4 n5 n6 n7 n8 n9 = inl refl
+no-operation (suc zero) n1 n2 n3 n4 n5 n6 n7 n8 n9 = absurd (n1 refl)
+no-operation (suc (suc zero)) n1 n2 n3 n4 n5 n6 n7 n8 n9 = absurd (n2 refl)
+no-operation (suc (suc (suc zero))) n1 n2 n3 n4 n5 n6 n7 n8 n9 = absurd (n3 refl)
+no-operation (suc (suc (suc (suc zero)))) n1 n2 n3 n4 n5 n6 n7 n8 n9 = absurd (n4 refl)
+no-operation (suc (suc (suc (suc (suc zero))))) n1 n2 n3 n4 n5 n6 n7 n8 n9 = absurd (n5 refl)
+no-operation (suc (suc (suc (suc (suc (suc zero)))))) n1 n2 n3 n4 n5 n6 n7 n8 n9 = absurd (n6 refl)
+no-operation (suc (suc (suc (suc (suc (suc (suc zero))))))) n1 n2 n3 n4 n5 n6 n7 n8 n9 = absurd (n7 refl)
+no-operation (suc (suc (suc (suc (suc (suc (suc (suc zero)))))))) n1 n2 n3 n4 n5 n6 n7 n8 n9 = absurd (n8 refl)
+no-operation (suc (suc (suc (suc (suc (suc (suc (suc (suc zero))))))))) n1 n2 n3 n4 n5 n6 n7 n8 n9 = absurd (n9 refl)
+no-operation (suc (suc (suc (suc (suc (suc (suc (suc (suc (suc x)))))))))) n1 n2 n3 n4 n5 n6 n7 n8 n9 = inr (omega arith)
 
 -- the step that is made of an operation byte and the operands read
 module _ (rec : Record) where
@@ -102,7 +104,15 @@ module _ (rec : Record) where
   unfolding stepOf
   step-quit a o e0 = rw (o, e0)
 
-  pub step-end : (byteOf rec 3 ≡ 0) ⊎ (7 < byteOf rec 3) → End ≡ stepOf rec
+  pub step-create : (a : ℕ) → byteOf rec 3 ≡ 8 → a ≡ byteOf rec 4 → Create a ≡ stepOf rec
+  unfolding stepOf
+  step-create a o e0 = rw (o, e0)
+
+  pub step-withdraw : byteOf rec 3 ≡ 9 → Withdraw ≡ stepOf rec
+  unfolding stepOf
+  step-withdraw o = rw o
+
+  pub step-end : (byteOf rec 3 ≡ 0) ⊎ (9 < byteOf rec 3) → End ≡ stepOf rec
   unfolding stepOf
   step-end (inl e) = rw e
   step-end (inr h) = sym (List·getD-eq-default (operations rec) End h)

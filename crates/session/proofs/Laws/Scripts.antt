@@ -91,9 +91,9 @@ module _ (steps : List Record) (rising : risingFrom keyOf 0 steps ≡ true) (p q
       ap (λ k. length (ofMethod k steps)) (run .same i h l)
       ∙ run-length keyOf [] 0 steps rising (keyOf (getD steps p [])) p q (run .some) (run .within) (run .below) (run .same) (run .above)
 
-  pub run-valid : (objects i : ℕ) → p ≤ i → i < q → scriptValid objects steps (getD steps i []) ≡ (leb (q - p) maxMethod && stepValid objects (q - p) (getD steps i []))
+  pub run-valid : (levels objects i : ℕ) → p ≤ i → i < q → scriptValid levels objects steps (getD steps i []) ≡ (leb (q - p) maxMethod && stepValid levels objects (q - p) (getD steps i []))
   unfolding scriptValid
-  run-valid objects i h l = rw (run-count i h l)
+  run-valid levels objects i h l = rw (run-count i h l)
 
   -- the next method starts at q
   pub run-next : q < length steps → (i : ℕ) → i < q → keyOf (getD steps i []) < keyOf (getD steps q [])
@@ -129,27 +129,27 @@ method-run s a e at h l rising lo =
 
 -- a walk from record a to e, method by method: keys never fall up to `at`, and where they never fall at all the steps before `at`
 -- are whole methods, and valid
-pub record Methods (s : List ℕ) (objects a e at : ℕ) : Type 0 where
+pub record Methods (s : List ℕ) (levels objects a e at : ℕ) : Type 0 where
   pub low : a ≤ at
   pub high : at ≤ e
   pub next : (r : ℕ) → a ≤ r → r < at → suc r < e → keyAt s r ≤ keyAt s (suc r)
   pub valid : risingFrom keyOf 0 (recordsFrom s a (e - a)) ≡ true
-      → (i : ℕ) → i < at - a → scriptValid objects (recordsFrom s a (e - a)) (getD (recordsFrom s a (e - a)) i []) ≡ true
+      → (i : ℕ) → i < at - a → scriptValid levels objects (recordsFrom s a (e - a)) (getD (recordsFrom s a (e - a)) i []) ≡ true
   pub start : risingFrom keyOf 0 (recordsFrom s a (e - a)) ≡ true
       → at < e → (i : ℕ) → i < at - a → keyOf (getD (recordsFrom s a (e - a)) i []) < keyOf (getD (recordsFrom s a (e - a)) (at - a) [])
 
 -- the halves of the test
-module _ (objects : ℕ) (steps : List Record) (t : scriptsValid objects steps ≡ true) where
+module _ (levels objects : ℕ) (steps : List Record) (t : scriptsValid levels objects steps ≡ true) where
   scripts-rise : risingFrom keyOf 0 steps ≡ true
   unfolding scriptsValid
-  scripts-rise = and-left (risingFrom keyOf 0 steps) (methodsValid objects steps) t
+  scripts-rise = and-left (risingFrom keyOf 0 steps) (methodsValid levels objects steps) t
 
-  scripts-pass : methodsValid objects steps ≡ true
+  scripts-pass : methodsValid levels objects steps ≡ true
   unfolding scriptsValid
-  scripts-pass = and-right (risingFrom keyOf 0 steps) (methodsValid objects steps) t
+  scripts-pass = and-right (risingFrom keyOf 0 steps) (methodsValid levels objects steps) t
 
-module _ (s : List ℕ) (objects a e : ℕ) where
-  pub methods-none : a ≤ e → Methods s objects a e a
+module _ (s : List ℕ) (levels objects a e : ℕ) where
+  pub methods-none : a ≤ e → Methods s levels objects a e a
   methods-none h =
       record {
         low = omega arith;
@@ -159,7 +159,7 @@ module _ (s : List ℕ) (objects a e : ℕ) where
         start = λ t l i g. absurd (omega arith);
       }
 
-  pub methods-all : (at : ℕ) → Methods s objects a e at → e ≤ at → scriptsValid objects (recordsFrom s a (e - a)) ≡ true
+  pub methods-all : (at : ℕ) → Methods s levels objects a e at → e ≤ at → scriptsValid levels objects (recordsFrom s a (e - a)) ≡ true
   unfolding scriptsValid
   methods-all at m h =
       let n = e - a in
@@ -169,10 +169,10 @@ module _ (s : List ℕ) (objects a e : ℕ) where
       let z : a + suc i ≡ suc (a + i) = omega arith in
       rw (from-at s a n i (omega arith), from-at s a n (suc i) l, z) (m .next (a + i) (omega arith) (omega arith) (omega arith)) in
       and-both (risingFrom keyOf 0 (recordsFrom s a n)) _ rising
-      (every-all (scriptValid objects (recordsFrom s a n)) [] (recordsFrom s a n)
+      (every-all (scriptValid levels objects (recordsFrom s a n)) [] (recordsFrom s a n)
       (λ i g. m .valid rising i (omega (arith, m .high, from-length s a n))))
 
-  module _ (at : ℕ) (m : Methods s objects a e at) (h : at < e) where
+  module _ (at : ℕ) (m : Methods s levels objects a e at) (h : at < e) where
     after : at < methodEnd s at e
     after = end-after s at e h
 
@@ -184,47 +184,47 @@ module _ (s : List ℕ) (objects a e : ℕ) where
 
     -- what the test of a step of this method comes to
     test : risingFrom keyOf 0 (recordsFrom s a (e - a)) ≡ true → (j : ℕ) → j < methodEnd s at e - at →
-        scriptValid objects (recordsFrom s a (e - a)) (recordAt s (at + j))
-        ≡ (leb (methodEnd s at e - at) maxMethod && stepValid objects (methodEnd s at e - at) (recordAt s (at + j)))
+        scriptValid levels objects (recordsFrom s a (e - a)) (recordAt s (at + j))
+        ≡ (leb (methodEnd s at e - at) maxMethod && stepValid levels objects (methodEnd s at e - at) (recordAt s (at + j)))
     test rising j g =
         let z : (methodEnd s at e - a) - (at - a) ≡ methodEnd s at e - at = omega (arith, m .low, after) in
         let there : getD (recordsFrom s a (e - a)) (at + j - a) [] ≡ recordAt s (at + j) = from-is s a e (at + j) (omega (arith, m .low)) (omega (arith, within)) in
-        rw (there, z) at (run-valid (recordsFrom s a (e - a)) rising (at - a) (methodEnd s at e - a) (run rising) objects (at + j - a) (omega (arith, m .low)) (omega (arith, m .low, after)))
+        rw (there, z) at (run-valid (recordsFrom s a (e - a)) rising (at - a) (methodEnd s at e - a) (run rising) levels objects (at + j - a) (omega (arith, m .low)) (omega (arith, m .low, after)))
 
-    passes : scriptsValid objects (recordsFrom s a (e - a)) ≡ true → (j : ℕ) → j < methodEnd s at e - at
-        → (leb (methodEnd s at e - at) maxMethod && stepValid objects (methodEnd s at e - at) (recordAt s (at + j))) ≡ true
+    passes : scriptsValid levels objects (recordsFrom s a (e - a)) ≡ true → (j : ℕ) → j < methodEnd s at e - at
+        → (leb (methodEnd s at e - at) maxMethod && stepValid levels objects (methodEnd s at e - at) (recordAt s (at + j))) ≡ true
     passes t j g =
         let there : getD (recordsFrom s a (e - a)) (at + j - a) [] ≡ recordAt s (at + j) = from-is s a e (at + j) (omega (arith, m .low)) (omega (arith, within)) in
         let in-range : at + j - a < length (recordsFrom s a (e - a)) = omega (arith, from-length s a (e - a), m .low, within) in
-        rw (there, test (scripts-rise objects _ t) j g) at (every-each (scriptValid objects (recordsFrom s a (e - a))) [] (recordsFrom s a (e - a)) (scripts-pass objects _ t) (at + j - a) in-range)
+        rw (there, test (scripts-rise levels objects _ t) j g) at (every-each (scriptValid levels objects (recordsFrom s a (e - a))) [] (recordsFrom s a (e - a)) (scripts-pass levels objects _ t) (at + j - a) in-range)
 
     -- a method of more than 16 steps, one with a step that is not valid, and one before a fall fail the test
-    pub methods-long : maxMethod < methodEnd s at e - at → scriptsValid objects (recordsFrom s a (e - a)) ≡ false
+    pub methods-long : maxMethod < methodEnd s at e - at → scriptsValid levels objects (recordsFrom s a (e - a)) ≡ false
     methods-long g =
-        refuted (scriptsValid objects (recordsFrom s a (e - a))) λ t.
+        refuted (scriptsValid levels objects (recordsFrom s a (e - a))) λ t.
         let few : methodEnd s at e - at ≤ maxMethod =
         leb-true (methodEnd s at e - at) maxMethod (and-left _ _ (passes t 0 (omega (arith, after)))) in
         omega arith
 
-    pub methods-wrong : all (methodEnd s at e - at) (λ j. stepValid objects (methodEnd s at e - at) (recordAt s (at + j))) ≡ false
-        → scriptsValid objects (recordsFrom s a (e - a)) ≡ false
+    pub methods-wrong : all (methodEnd s at e - at) (λ j. stepValid levels objects (methodEnd s at e - at) (recordAt s (at + j))) ≡ false
+        → scriptsValid levels objects (recordsFrom s a (e - a)) ≡ false
     methods-wrong g =
         let n = methodEnd s at e - at in
-        refuted (scriptsValid objects (recordsFrom s a (e - a))) λ t.
-        not-both (all n (λ j. stepValid objects n (recordAt s (at + j))))
-        (all-every n _ λ j l. and-right (leb n maxMethod) (stepValid objects n (recordAt s (at + j))) (passes t j l))
+        refuted (scriptsValid levels objects (recordsFrom s a (e - a))) λ t.
+        not-both (all n (λ j. stepValid levels objects n (recordAt s (at + j))))
+        (all-every n _ λ j l. and-right (leb n maxMethod) (stepValid levels objects n (recordAt s (at + j))) (passes t j l))
         g
 
     pub methods-falls : (ltb (methodEnd s at e) e && ltb (keyAt s (methodEnd s at e)) (keyAt s at)) ≡ true
-        → scriptsValid objects (recordsFrom s a (e - a)) ≡ false
+        → scriptsValid levels objects (recordsFrom s a (e - a)) ≡ false
     methods-falls g =
         let next = methodEnd s at e in
         let in-range : next < e = ltb-true next e (and-left (ltb next e) _ g) in
         let here : getD (recordsFrom s a (e - a)) (at - a) [] ≡ recordAt s at = from-is s a e at (m .low) h in
         let there : getD (recordsFrom s a (e - a)) (next - a) [] ≡ recordAt s next = from-is s a e next (omega (arith, m .low, after)) in-range in
-        refuted (scriptsValid objects (recordsFrom s a (e - a))) λ t.
+        refuted (scriptsValid levels objects (recordsFrom s a (e - a))) λ t.
         let above : keyAt s at < keyAt s next =
-        rw (here, there) at (run (scripts-rise objects _ t) .above (omega (arith, from-length s a (e - a), m .low, after))) in
+        rw (here, there) at (run (scripts-rise levels objects _ t) .above (omega (arith, from-length s a (e - a), m .low, after))) in
         omega (arith, ltb-true (keyAt s next) (keyAt s at) (and-right (ltb next e) _ g))
 
     -- where the next method is no fall there is none in this one
@@ -240,9 +240,9 @@ module _ (s : List ℕ) (objects a e : ℕ) where
     ]
 
     -- otherwise the walk goes on behind the method
-    pub methods-more : methodEnd s at e - at ≤ maxMethod → all (methodEnd s at e - at) (λ j. stepValid objects (methodEnd s at e - at) (recordAt s (at + j))) ≡ true
+    pub methods-more : methodEnd s at e - at ≤ maxMethod → all (methodEnd s at e - at) (λ j. stepValid levels objects (methodEnd s at e - at) (recordAt s (at + j))) ≡ true
         → (ltb (methodEnd s at e) e && ltb (keyAt s (methodEnd s at e)) (keyAt s at)) ≡ false
-        → Methods s objects a e (methodEnd s at e)
+        → Methods s levels objects a e (methodEnd s at e)
     methods-more g t f =
         let n = methodEnd s at e - at in
         record {
@@ -261,7 +261,7 @@ module _ (s : List ℕ) (objects a e : ℕ) where
                 from-at s a (e - a) i (omega (arith, within, m .low)) ∙ ap (recordAt s) j in
                 rw there (test rising (a + i - at) lt
                 ∙ and-both (leb n maxMethod) _ (le-leb n maxMethod g)
-                (all-each n (λ j. stepValid objects n (recordAt s (at + j))) t (a + i - at) lt))
+                (all-each n (λ j. stepValid levels objects n (recordAt s (at + j))) t (a + i - at) lt))
           ];
           start = λ rising l i k. run-next (recordsFrom s a (e - a)) rising (at - a) (methodEnd s at e - a) (run rising) (omega (arith, from-length s a (e - a), m .low, after)) i k;
         }

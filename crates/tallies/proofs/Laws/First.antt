@@ -10,11 +10,11 @@ use lib.ListN.{getD, set, replicate}
 use Rattle.lattice.specs.Range.{all}
 use Rattle.lattice.proofs.Laws.Range.{all-each}
 use Rattle.session.specs.Limits.{maxLevels}
-use Rattle.tallies.specs.Places.{nextPlace, waitingPlace, versionsPlace, busyPlace, startTallies}
+use Rattle.tallies.specs.Places.{nextPlace, waitingPlace, versionsPlace, busyPlace, changesPlace, startTallies, unchangedAt, unchanged}
 
 -- what is counted, with the first write stamps of n levels
 abbrev pub firstStamps : ℕ → List ℕ
-firstStamps n = replicate maxLevels 0 ++ replicate n 1 ++ replicate (4 * maxLevels - n) 0
+firstStamps n = replicate maxLevels 0 ++ replicate n 1 ++ replicate (5 * maxLevels + 1 - n) 0
 
 pub stamps-more : (n : ℕ) → n < maxLevels → set (firstStamps n) (nextPlace n) 1 ≡ firstStamps (n + 1)
 stamps-more zero h = refl
@@ -45,3 +45,13 @@ first-versions = at-first versionsPlace 0 (unfold all in refl)
 
 pub first-busy : (l : ℕ) → l < maxLevels → getD startTallies (busyPlace l) 0 ≡ 0
 first-busy = at-first busyPlace 0 (unfold all in refl)
+
+pub first-changes : (l : ℕ) → l < maxLevels → getD startTallies (changesPlace l) 0 ≡ 0
+first-changes = at-first changesPlace 0 (unfold all in refl)
+
+-- no existence was written
+pub first-unchanged-at : (l : ℕ) → l < maxLevels → unchangedAt startTallies l ≡ true
+first-unchanged-at l h = rw (first-changes l h) refl
+
+pub first-unchanged : unchanged startTallies ≡ true
+first-unchanged = refl

@@ -2,7 +2,7 @@
 use Prim.Native.Nat.{ℕ, zero, suc, _≤_}
 use mathlib.Core.Path.{_≡_, refl, ap}
 use mathlib.Core.Bool.{Bool, true}
-use mathlib.Core.List.{List, [], _∷_, map}
+use mathlib.Core.List.{List, [], _∷_, _++_, map}
 use native.Mathlib.Omega.{arith}
 use borrow.Author.Tests.{ltb-true, ltb-false}
 use lib.Dec.{ltb}
@@ -10,6 +10,7 @@ use lib.ListN.{take}
 use Rattle.lattice.proofs.Laws.Range.{and-left, and-right, and-both}
 use Rattle.session.specs.Lists.{every}
 use Rattle.session.proofs.Laws.Lists.{holds, fails, truth}
+use Rattle.scripts.specs.Valid as valid
 use Rattle.model.specs.Lists.{inserted}
 
 -- P holds of each element
@@ -27,6 +28,22 @@ module _ {A : Type 0} where
   unfolding Each
   each-map P Q f [] e = tt
   each-map P Q f (x ∷ xs) e = (f x (e .0), each-map P Q f xs (e .1))
+
+  pub each-any : (P : A → Type 0) → ((x : A) → P x) → (xs : List A) → Each P xs
+  unfolding Each
+  each-any P f [] = tt
+  each-any P f (x ∷ xs) = (f x, each-any P f xs)
+
+  -- as `scripts` says it of what a step writes
+  pub each-seen : (P : A → Type 0) (xs : List A) → valid.Each P xs → Each P xs
+  unfolding Each
+  each-seen P [] e = tt
+  each-seen P (x ∷ xs) e = (e .0, each-seen P xs (e .1))
+
+  pub each-append : (P : A → Type 0) (xs ys : List A) → Each P xs → Each P ys → Each P (xs ++ ys)
+  unfolding Each
+  each-append P [] ys e g = g
+  each-append P (x ∷ xs) ys e g = (e .0, each-append P xs ys (e .1) g)
 
   -- two facts of each element
   pub each-both : (P Q R : A → Type 0) → ((x : A) → P x → Q x → R x) → (xs : List A) → Each P xs → Each Q xs → Each R xs
@@ -71,6 +88,12 @@ module _ {A : Type 0} where
       | holds h ↦ rw h (e, w)
       | fails h ↦ rw h (each-inserted (R y) x (s x y (e .0)) ys (w .0), pairwise-inserted R s x ys (e .1) (w .1))
     ]
+
+-- what is made of each element
+pub each-made : {A B : Type 0} (f : A → B) (P : B → Type 0) (xs : List A) → Each (λ x. P (f x)) xs → Each P (map f xs)
+unfolding Each
+each-made f P [] e = tt
+each-made f P (x ∷ xs) e = (e .0, each-made f P xs (e .1))
 
 -- a list that rises still does when an element is put in
 pub rising-inserted : {A : Type 0} (key : A → ℕ) (x : A) (ys : List A) → Pairwise (λ a b. key a ≤ key b) ys → Pairwise (λ a b. key a ≤ key b) (inserted key x ys)

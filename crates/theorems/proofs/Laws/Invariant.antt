@@ -1,4 +1,5 @@
--- What every state that a run reaches has: fork stamps form a forest, levels keep their limits, write stamps never fall.
+-- What every state that a run reaches has: fork stamps form a forest, levels keep their limits, write stamps never fall, numbers
+-- are handed out upward.
 pub mod Stamps
 pub mod Rank
 pub mod Tree
@@ -15,3 +16,5 @@ pub mod Contained
 pub mod State
 pub mod Versions
 pub mod Ways
+pub mod Handed
+pub mod AnySteps

@@ -81,6 +81,13 @@ module _ {A : Type 0} where
   modify-other d (suc i) zero f (x ∷ xs) n = refl
   modify-other d (suc i) (suc j) f (x ∷ xs) n = modify-other d i j f xs (λ e. n (ap suc e))
 
+  -- the element that stands there put in its place
+  pub modify-itself : (d : A) (i : ℕ) (xs : List A) → modify i (λ _. getD xs i d) xs ≡ xs
+  unfolding modify
+  modify-itself d i [] = refl
+  modify-itself d zero (x ∷ xs) = refl
+  modify-itself d (suc i) (x ∷ xs) = ap (λ l. x ∷ l) (modify-itself d i xs)
+
   -- changes at two places commute, and two at one place are one
   pub modify-comm : (i j : ℕ) (f g : A → A) (xs : List A) → (i ≡ j → ⊥) → modify i f (modify j g xs) ≡ modify j g (modify i f xs)
   unfolding modify

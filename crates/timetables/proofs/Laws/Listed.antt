@@ -1,15 +1,15 @@
 -- A run by a timetable, step by step. Assumes nothing.
 use Prim.Native.Nat.{ℕ, suc, _+_, _≤_, _<_, _^_}
 use mathlib.Core.Path.{_≡_, refl, sym, _∙_, ap}
-use mathlib.Core.Bool.{true, false}
+use mathlib.Core.Bool.{Bool, true, false}
 use mathlib.Core.List.{List, _∷_}
 use native.Mathlib.Decide.{ℕ-discrete}
 use native.Mathlib.Omega.{arith}
-use borrow.Author.Tests.{ltb-true, ltb-false}
+use borrow.Author.Tests.{eqb-true, ltb-true, ltb-false}
 use lib.ListN.{length, getD, set, drop, replicate, length-set, length-replicate, getD-replicate}
 use lib.Seq.{drop-cons, drop-length, getD-set-same, getD-set-other}
 use Rattle.lattice.proofs.Laws.Range.{not-both}
-use Rattle.session.specs.Limits.{maxLevels}
+use Rattle.session.specs.Limits.{maxLevels, fields}
 use Rattle.session.specs.Parts.{levelCount, masksOf}
 use Rattle.session.specs.Meaning.{rootOf}
 use Rattle.session.specs.Program.{programOf}
@@ -17,6 +17,7 @@ use Rattle.session.specs.Questions.{verdictOf}
 use Rattle.session.specs.declared.Verdict.the-variants.{Accepted}
 use Rattle.session.proofs.Laws.Contents.{level-limit, masks-length}
 use Rattle.session.proofs.Laws.Lists.{holds, fails, truth}
+use Rattle.scripts.specs.Existence.{existence}
 use Rattle.scripts.specs.Valid.{Leveled}
 use Rattle.scripts.specs.Ending.{isRunning}
 use Rattle.scripts.specs.State.{Manager}
@@ -24,6 +25,7 @@ use Rattle.scripts.specs.declared.Ending.the-variants.{Finished}
 use Rattle.words.specs.Limits.{fieldWords}
 use Rattle.words.specs.Fields.{FieldThere, Forgotten}
 use Rattle.operations.specs.Core.{effectOf, isAsking}
+use Rattle.operations.specs.Moves.{asking}
 use Rattle.operations.specs.declared.Effect.the-variants as act
 use Rattle.managers.specs.Manager.{managerOf}
 use Rattle.managers.specs.Steps.{WellFormed, Advanceable, Stepped}
@@ -35,10 +37,10 @@ use Rattle.theorems.proofs.Laws.Order.Accepted.{sound}
 use Rattle.theorems.proofs.Laws.Order.PlainRun.{read-in-total}
 use Rattle.theorems.proofs.Laws.Invariant.Bounded.{total, step-less}
 use Rattle.theorems.proofs.Laws.Code.Progress.{allowed, run-made, run-stops, run-ends, run-unended}
-use Rattle.tallies.specs.Places.{busyPlace, tallyNumbers}
+use Rattle.tallies.specs.Places.{busyPlace, tallyNumbers, unchanged}
 use Rattle.level_managers.specs.Representation.{Words, RunInvariant, placed}
 use Rattle.tallies.specs.Permits.{numberOfPermit, busyIn, endedOf, permitOf, Askable}
-use Rattle.level_managers.specs.Steps.{Tables, IsBusy, ReadReady, Answered, PerformReady, SettleReady, StepDone, StartReady, Started}
+use Rattle.level_managers.specs.Steps.{Tables, Readable, ReadReady, Answered, PerformReady, SettleReady, CoreSettled, Changing, ChangedBy, StepDone, StartReady, Started}
 use Rattle.level_managers.specs.Ends.{Quiescent, SameRest, Ends}
 use Rattle.timetables.specs.Refusals.{endOf}
 use Rattle.level_managers.specs.declared.RunEnd.{RunEnd}
@@ -47,8 +49,12 @@ use Rattle.tallies.specs.declared.Permit.{Permit}
 use Rattle.tallies.specs.declared.Permit.the-variants.{Given, Absent, Idle, Blocked}
 use Rattle.level_managers.proofs.Laws.Settle.{placed-own, placed-other}
 use Rattle.level_managers.proofs.Laws.Step.{invariant-live, invariant-held}
-use Rattle.level_managers.proofs.Laws.Script.{Blank, blank-zeros, Fresh, ScriptStep, able, step-made, asks-busy, asks-represents, again-able, again-forgets, again-made}
-use Rattle.level_managers.proofs.Laws.Made.{Stepping, MayStep, StepRepresented, Advancing, start-here, start-done, busy-here, done-performs, done-settles, step-represented}
+use Rattle.level_managers.specs.Script.{Blank, ScriptStep, Waits, Unseen}
+use Rattle.level_managers.proofs.Laws.Seen.{blank-zeros, kept-blank, Seeing, forgotten-others}
+use Rattle.level_managers.proofs.Laws.Script.{running, readable, able, step-is}
+use Rattle.level_managers.proofs.Laws.Told.{waits-of, stepped-same, tells, told-there, told-sees, told-others, told-forgets, makes, told-made}
+use Rattle.level_managers.proofs.Laws.Changes.{change-ready, change-runs, change-room, change-represented}
+use Rattle.level_managers.proofs.Laws.Made.{Stepping, MayStep, StepRepresented, Advancing, start-here, start-done, busy-here, done-performs, done-settles, step-represented, held-fits}
 use Rattle.level_managers.proofs.Laws.Asked.{askable, asked-is, ended-is}
 
 -- the managers that an array of the code's holds
@@ -265,9 +271,13 @@ module _ {s masks index ls : List ℕ} {d : code.Manager} {w₀ w : Words} {mana
     (g .loop .steps-made .state, steps-made-may s (y .accepted) (few y (g .loop)) ls i w (heldIn managers d) (g .loop .steps-made) masks (y .masks-are) (long y (g .loop)) (g .more) (g .given) m refl),
   )
 
-  fresh : Fresh s cache m
-  fresh =
-      record { held = g .loop .held level there; blank = g .loop .blank; there = rw (g .loop .cache-long) (omega arith) }
+  -- what the manager may look at: nothing is kept of what managers have read
+  cache-there : fieldWords ≤ length cache
+  cache-there = rw (g .loop .cache-long) (omega arith)
+
+  sees : {u : Bool} → u ≡ unchanged (w .tallies) → Seeing s w level cache u
+  sees e =
+      record { kept = kept-blank s w level cache (g .loop .blank); there = cache-there; flag = λ q. eqb-true _ 0 (sym e ∙ q) }
 
   -- once the words represent the state after it, the next one's turn comes
   again : {w' : Words} {cache' : List ℕ} {r : code.Manager} → StepRepresented s level m w w' cache' r → length cache' ≡ length cache → length (w' .current) ≡ length (w .current) → length (w' .ended) ≡ length (w .ended) → length (w' .tallies) ≡ length (w .tallies) → length (w' .queue) ≡ length (w .queue) → length (w' .work) ≡ length (w .work) → ListLoop s ls d w₀ w' (set managers level r) cache' (i + 1)
@@ -300,10 +310,10 @@ module _ {s masks index ls : List ℕ} {d : code.Manager} {w₀ w : Words} {mana
     none-busy : getD (w .tallies) (busyPlace level) 0 ≡ 0
     none-busy = omega (arith, ltb-false 0 (getD (w .tallies) (busyPlace level) 0) z)
 
-    pub list-starts : StartReady s index (w .ended) (w .tallies) (w .queue) level
+    pub list-starts : StartReady s masks index w level
     list-starts = start-here s masks index w level m (g .read) none-busy may
 
-    pub list-started : {ended' tallies' : List ℕ} {r : code.Manager} → Started s (w .ended) ended' (w .tallies) tallies' (w .queue) level (managerOf r) × WellFormed s r → length ended' ≡ length (w .ended) → length tallies' ≡ length (w .tallies) → ListLoop s ls d w₀ (record { current = w .current; ended = ended'; tallies = tallies'; queue = w .queue; work = w .work }) (set managers level r) cache (i + 1)
+    pub list-started : {ended' tallies' : List ℕ} {r : code.Manager} → Started s w ended' tallies' level (managerOf r) × WellFormed s r → length ended' ≡ length (w .ended) → length tallies' ≡ length (w .tallies) → ListLoop s ls d w₀ (record { current = w .current; ended = ended'; tallies = tallies'; queue = w .queue; work = w .work }) (set managers level r) cache (i + 1)
     list-started {ended'} {tallies'} {r} x c1 c2 =
         again (start-done s masks index w level m (g .read) none-busy cache ended' tallies' r (g .loop .blank) x) refl refl c1 c2 refl refl
 
@@ -313,28 +323,69 @@ module _ {s masks index ls : List ℕ} {d : code.Manager} {w₀ w : Words} {mana
     advancing =
         record { read = g .read; may = may; runs = λ e. omega (arith, e, ltb-true 0 (getD (w .tallies) (busyPlace level) 0) z) }
 
-    pub list-able : Advanceable s masks index (w .current) cache m
-    list-able = able (g .read) (busy-here advancing) fresh
+    held-here : WellFormed s m
+    held-here = g .loop .held level there (running (g .read) (busy-here advancing))
 
-    module _ {n : code.Manager} (x : Stepped s (w .current) cache m n) where
-      pub list-made : isAsking (n .core .effect) ≡ false → ScriptStep s w level cache m n
-      list-made q = step-made (g .read) (busy-here advancing) fresh x q
+    module _ {u : Bool} (flag : u ≡ unchanged (w .tallies)) where
+      pub list-able : Advanceable s masks index (w .current) cache m
+      list-able = able (g .read) (busy-here advancing) (sees flag) held-here
 
-      -- n asks for a field
-      module _ {o k : ℕ} (q : n .core .effect ≡ act.Read o k) where
-        pub list-reads : Leveled s masks × (IsBusy s w level × ReadReady s cache o k)
-        list-reads =
-            (y, (asks-busy (g .read) (busy-here advancing) fresh x q, asks-represents (g .read) (busy-here advancing) fresh x q))
+      module _ {n : code.Manager} (x : Stepped s (w .current) cache u m n) where
+        pub list-made : isAsking (n .core .effect) ≡ false → ScriptStep s w level cache m n
+        list-made q =
+            record { is = step-is (g .read) (busy-here advancing) (sees flag) x q; held = x .held; present = x .present; blank = g .loop .blank }
 
-        module _ {cache' : List ℕ} (represents : Answered s w cache cache' level o k) where
-          pub list-able-represents : Advanceable s masks index (w .current) cache' n
-          list-able-represents = again-able (g .read) (busy-here advancing) fresh x q represents
+        -- n waits for a value
+        module _ {o k : ℕ} (q : n .core .effect ≡ act.Read o k) where
+          waits : Waits s w level cache u n o k
+          waits = waits-of (busy-here advancing) x q
 
-          pub list-forgets : FieldThere cache' o k
-          list-forgets = again-forgets (g .read) (busy-here advancing) fresh x q represents
+          -- for existence
+          pub list-unseen : k ≡ existence → Unseen s w level cache n o
+          list-unseen e =
+              record { unchanged = u; waits = rw (sym e) waits; blank = g .loop .blank; there = cache-there }
 
-          pub list-answered : {cache'' : List ℕ} {r : code.Manager} → Stepped s (w .current) cache' n r → Forgotten cache' cache'' o k → ScriptStep s w level cache'' m r
-          list-answered e forgotten = again-made (g .read) (busy-here advancing) fresh x q represents e forgotten
+          pub list-seen : {cache' : List ℕ} {r : code.Manager} → ScriptStep s w level cache' n r → ScriptStep s w level cache' m r
+          list-seen made = stepped-same (busy-here advancing) x q made
+
+          -- for a field
+          module _ (field : k ≡ existence → ⊥) where
+            pub list-reads : Leveled s masks × (Readable s w level × (ReadReady s cache o k × (k < fields)))
+            list-reads =
+                (y, (readable (g .read) (busy-here advancing), (tells (g .read) waits cache-there, omega (arith, waits .named .field, field))))
+
+            module _ {cache' : List ℕ} (told : Answered s w cache cache' level o k) where
+              told-seeing : Seeing s w level cache' u
+              told-seeing = told-sees (g .read) waits cache-there told u (sees flag .kept) (sees flag .flag)
+
+              pub list-told : Advanceable s masks index (w .current) cache' n
+              list-told = able (g .read) (waits .runs) told-seeing (waits .held)
+
+              pub list-forgets : FieldThere cache' o k
+              list-forgets = told-forgets (g .read) waits cache-there told
+
+              pub list-answered : {cache'' : List ℕ} {r : code.Manager} → Stepped s (w .current) cache' u n r → Forgotten cache' cache'' o k → ScriptStep s w level cache'' m r
+              list-answered e forgotten =
+                  list-seen (told-made (g .read) waits cache-there told e told-seeing (makes (g .read) waits cache-there told e refl field) (forgotten-others forgotten (told-others (g .read) waits cache-there told (g .loop .blank))))
+
+        -- n stands before a CREATE or WITHDRAW
+        module _ (q : n .core .effect ≡ act.Change) where
+          asked-for : isAsking (n .core .effect) ≡ true
+          asked-for = rw q refl
+
+          stands : managerOf n ≡ managerOf m
+          stands = x .asks asked-for .0
+
+          pub list-changes : Changing s masks index (w .current) (w .tallies) (w .work) level n
+          list-changes =
+              change-ready (g .read) (change-runs advancing stands) cache u (x .held) (x .still asked-for .1 ∙ ap asking q)
+
+          module _ {current' tallies' work' : List ℕ} {r : code.Manager} (made : ChangedBy s (w .current) current' (w .tallies) tallies' (w .work) work' level n r) where
+            pub list-settles : SettleReady (w .ended) tallies' (w .queue) level
+            list-settles = change-room advancing stands made
+
+            pub list-changed : {ended'' tallies'' : List ℕ} → CoreSettled (w .ended) ended'' tallies' tallies'' (w .queue) level (r .core) → length current' ≡ length (w .current) → length ended'' ≡ length (w .ended) → length tallies'' ≡ length (w .tallies) → length work' ≡ length (w .work) → ListLoop s ls d w₀ (record { current = current'; ended = ended''; tallies = tallies''; queue = w .queue; work = work' }) (set managers level r) cache (i + 1)
+            list-changed settled c1 c2 c3 c5 = again (change-represented advancing stands made settled (g .loop .blank)) refl c1 c2 c3 refl c5
 
     -- what the step did outside is done
     module _ {cache' : List ℕ} {r : code.Manager} (made : ScriptStep s w level cache' m r) where

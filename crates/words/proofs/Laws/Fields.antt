@@ -7,14 +7,14 @@ use native.Mathlib.Omega.{arith}
 use lib.Dec.{eqb}
 use lib.ListN.{getD, set, length-set}
 use lib.Seq.{getD-set-same, getD-set-other}
-use Rattle.session.specs.Limits.{fields}
 use Rattle.session.specs.Parts.{objectCount}
-use Rattle.session.specs.Meaning.{fieldOf}
+use Rattle.session.specs.Program.{programOf}
 use Rattle.session.specs.declared.Value.{Value}
 use Rattle.session.specs.declared.Value.the-variants.{Nil, Number}
 use Rattle.session.proofs.Laws.Rising.{less, same, more, order}
 use Rattle.scripts.specs.Value.{tag, numberIn}
-use Rattle.words.specs.Limits.{valueWords}
+use Rattle.scripts.specs.Existence.{initially}
+use Rattle.words.specs.Limits.{valueWords, objectValues}
 use Rattle.words.specs.Outside.{Outside}
 use Rattle.words.specs.Fields.{valueOf, fieldPlace, fieldAt, FieldThere, storedIn, Stored, FieldSet, knownTag, Remembered, Forgotten, WordsAre, Filled}
 use Rattle.words.proofs.Laws.Outside.{outside-none, outside-wider, outside-then, outside-set}
@@ -34,9 +34,9 @@ known-tag Nil = refl
 known-tag (Number n) = refl
 
 -- where only the words of one field may have changed, those of another are as they were
-field-apart : (ws ws' : List ℕ) (o k o' k' : ℕ) → k < fields → k' < fields → (o' ≡ o → k' ≡ k → ⊥) → Outside ws ws' (fieldPlace o k) (fieldPlace o k + valueWords)
+field-apart : (ws ws' : List ℕ) (o k o' k' : ℕ) → k < objectValues → k' < objectValues → (o' ≡ o → k' ≡ k → ⊥) → Outside ws ws' (fieldPlace o k) (fieldPlace o k + valueWords)
     → (getD ws' (fieldPlace o' k') 0 ≡ getD ws (fieldPlace o' k') 0) × (getD ws' (fieldPlace o' k' + 1) 0 ≡ getD ws (fieldPlace o' k' + 1) 0)
-field-apart ws ws' o k o' k' h h' apart out = elim (order (fields * o' + k') (fields * o + k)) [
+field-apart ws ws' o k o' k' h h' apart out = elim (order (objectValues * o' + k') (objectValues * o + k)) [
   | less g ↦ (out .below (fieldPlace o' k') (omega arith), out .below (fieldPlace o' k' + 1) (omega arith))
   | same g ↦ absurd (apart (omega arith) (omega arith))
   | more g ↦ (out .above (fieldPlace o' k') (omega arith), out .above (fieldPlace o' k' + 1) (omega arith))
@@ -104,38 +104,38 @@ field-forgotten ws o k h =
 
 -- the words of the first i fields are filled
 pub record Filling (s ws ws' : List ℕ) (i : ℕ) : Type 0 where
-  pub filled : (o k : ℕ) → k < fields → fields * o + k < i → WordsAre ws' o k (fieldOf s o k)
+  pub filled : (o k : ℕ) → k < objectValues → objectValues * o + k < i → WordsAre ws' o k (initially (programOf s) o k)
   pub outside : Outside ws ws' 0 (valueWords * i)
 
 pub fill-none : (s ws : List ℕ) → Filling s ws ws 0
 fill-none s ws = record { filled = λ o k h l. absurd (omega arith); outside = outside-none ws 0 0 }
 
-pub fill-more : (s ws ws' ws'' : List ℕ) (i : ℕ) (v : Value) → Filling s ws ws' i → FieldThere ws' (i / fields) (i % fields) → FieldSet ws' ws'' (i / fields) (i % fields) v
-    → v ≡ fieldOf s (i / fields) (i % fields) → Filling s ws ws'' (i + 1)
+pub fill-more : (s ws ws' ws'' : List ℕ) (i : ℕ) (v : Value) → Filling s ws ws' i → FieldThere ws' (i / objectValues) (i % objectValues) → FieldSet ws' ws'' (i / objectValues) (i % objectValues) v
+    → v ≡ initially (programOf s) (i / objectValues) (i % objectValues) → Filling s ws ws'' (i + 1)
 fill-more s ws ws' ws'' i v f h t e =
     record {
-      filled = λ o k l m. elim (order (fields * o + k) i) [
+      filled = λ o k l m. elim (order (objectValues * o + k) i) [
         | less g ↦
-            let kept = field-apart ws' ws'' (i / fields) (i % fields) o k (h .field) l (λ p q. omega arith) (t .outside) in
+            let kept = field-apart ws' ws'' (i / objectValues) (i % objectValues) o k (h .field) l (λ p q. omega arith) (t .outside) in
             (kept .0 ∙ f .filled o k l g .0, kept .1 ∙ f .filled o k l g .1)
         | same g ↦
-            let p : o ≡ i / fields = omega arith in
-            let q : k ≡ i % fields = omega arith in
+            let p : o ≡ i / objectValues = omega arith in
+            let q : k ≡ i % objectValues = omega arith in
             rw (p, q, t .words)
-            (stored-tag ws' (i / fields) (i % fields) (tag v) (numberIn v) h ∙ ap tag e, stored-number ws' (i / fields) (i % fields) (tag v) (numberIn v) h ∙ ap numberIn e)
+            (stored-tag ws' (i / objectValues) (i % objectValues) (tag v) (numberIn v) h ∙ ap tag e, stored-number ws' (i / objectValues) (i % objectValues) (tag v) (numberIn v) h ∙ ap numberIn e)
         | more g ↦ absurd (omega arith)
       ];
       outside =
           outside-then ws ws' ws'' 0 (valueWords * (i + 1))
           (outside-wider ws ws' 0 (valueWords * i) 0 (valueWords * (i + 1)) (omega arith) (omega arith) (f .outside))
-          (outside-wider ws' ws'' (fieldPlace (i / fields) (i % fields)) (fieldPlace (i / fields) (i % fields) + valueWords) 0 (valueWords * (i + 1)) (omega arith) (omega arith) (t .outside));
+          (outside-wider ws' ws'' (fieldPlace (i / objectValues) (i % objectValues)) (fieldPlace (i / objectValues) (i % objectValues) + valueWords) 0 (valueWords * (i + 1)) (omega arith) (omega arith) (t .outside));
     }
 
-pub fill-all : (s ws ws' : List ℕ) (i : ℕ) → i ≡ fields * objectCount s → Filling s ws ws' i → Filled s ws ws'
+pub fill-all : (s ws ws' : List ℕ) (i : ℕ) → i ≡ objectValues * objectCount s → Filling s ws ws' i → Filled s ws ws'
 unfolding fieldAt
 fill-all s ws ws' i e f =
     record {
       words-are = λ o k h l. f .filled o k l (omega arith);
-      fields-are = λ o k h l. let is = f .filled o k l (omega arith) in ap₂ valueOf (is .0) (is .1) ∙ value-back (fieldOf s o k);
+      fields-are = λ o k h l. let is = f .filled o k l (omega arith) in ap₂ valueOf (is .0) (is .1) ∙ value-back (initially (programOf s) o k);
       outside = outside-wider ws ws' 0 (valueWords * i) 0 (fieldPlace (objectCount s) 0) (omega arith) (omega arith) (f .outside);
     }

@@ -3,14 +3,13 @@
 //! two questions broken together, of which the check puts one first.
 
 mod bounds;
+mod operands;
 
 use super::valid_draft;
 use crate::limits::*;
 use crate::random::Random;
 use crate::record::{Operation, Record};
-use crate::record::{ADD, JUMP, LEVEL, OBJECT, QUIT, READ, ROOT, SEND, SET, STEP, WRITE};
-
-const OPERATIONS: [&str; 7] = ["SET", "ADD", "JUMP", "READ", "WRITE", "SEND", "QUIT"];
+use crate::record::{LEVEL, OBJECT, QUIT, ROOT, STEP};
 
 /// Breaks a rule in the records, if they have a place for it.
 type Break = Box<dyn Fn(&mut Random, &mut Vec<Record>) -> bool>;
@@ -53,10 +52,7 @@ pub fn all() -> Vec<Rule> {
     rules.extend(bounds::rules());
     rules.extend(objects());
     rules.extend(methods());
-    for (operation, name) in (SET..=QUIT).zip(OPERATIONS) {
-        rules.extend(operands(operation, name));
-        rules.extend(unused_bytes(operation, name));
-    }
+    rules.extend(operands::rules());
     rules.extend(root());
     rules
 }
@@ -226,9 +222,14 @@ fn objects() -> Vec<Rule> {
 fn methods() -> Vec<Rule> {
     vec![
         byte(7, "operation 0", is_step_of(QUIT), 3, exactly(0)),
-        byte(7, "operation 8", is_step_of(QUIT), 3, exactly(8)),
+        byte(7, "operation 10", is_step_of(QUIT), 3, exactly(10)),
         Rule::new(7, "step's object", |random, records| {
             let object = count(records, OBJECT) as u8;
+            let step = quit((object, random.byte_below(NAMES)));
+            insert(records, records.len() - 1, step)
+        }),
+        Rule::new(7, "step of a made object", |random, records| {
+            let object = random.pick(&[OBJECTS_MAX, NUMBERS - 1]) as u8;
             let step = quit((object, random.byte_below(NAMES)));
             insert(records, records.len() - 1, step)
         }),
@@ -301,60 +302,17 @@ fn exchange_methods(
     true
 }
 
-/// Question 7 for the operands, each of them one above its limit.
-fn operands(operation: u8, name: &str) -> Vec<Rule> {
-    let rule = |operand: &str, place, limit| {
-        let name = format!("{name}'s {operand}");
-        byte(7, name, is_step_of(operation), place, exactly(limit))
-    };
-    let mut rules = vec![rule("register a", 4, REGISTERS)];
-    match operation {
-        ADD => rules.push(rule("register b", 5, REGISTERS)),
-        READ | WRITE => rules.push(rule("field b", 5, FIELDS)),
-        SEND => {
-            rules.push(rule("name b", 5, NAMES));
-            let object = count_of(OBJECT);
-            rules.push(byte(7, "SEND's object c", is_step_of(SEND), 6, object));
-        }
-        JUMP => rules.push(byte(
-            7,
-            "JUMP's target b",
-            is_step_of(JUMP),
-            5,
-            beyond_method,
-        )),
-        _ => {}
-    }
-    rules
-}
-
-/// One more than the number of steps in a step's method.
-fn beyond_method(_: &mut Random, records: &[Record], step: &Record) -> u8 {
-    let is_of_method = |other: &&Record| other[0] == STEP && key(other) == key(step);
-    records.iter().filter(is_of_method).count() as u8 + 1
-}
-
-/// Question 7 for the unused bytes.
-fn unused_bytes(operation: u8, name: &str) -> Vec<Rule> {
-    let operands = match operation {
-        SET | QUIT => 5..7,
-        SEND => 7..7,
-        _ => 6..7,
-    };
-    let number = if operation == SET { 8..8 } else { 8..12 };
-    let places = operands.chain(7..8).chain(number).chain(12..16);
-    places
-        .map(|place| {
-            let name = format!("{name}'s byte {place}");
-            byte(7, name, is_step_of(operation), place, nonzero)
-        })
-        .collect()
-}
-
 /// Question 8.
 fn root() -> Vec<Rule> {
     let mut rules = vec![
         byte(8, "root's object", is(ROOT), 1, count_of(OBJECT)),
+        byte(
+            8,
+            "root to a made object",
+            is(ROOT),
+            1,
+            exactly(OBJECTS_MAX),
+        ),
         byte(8, "root's name", is(ROOT), 2, exactly(NAMES)),
         byte(8, "root's tag", is(ROOT), 3, exactly(2)),
     ];

@@ -22,12 +22,13 @@ entry z =
     record { current = z .args .current .now; tallies = z .args .tallies .now; queue = z .args .queue .now; work = z .args .work .now }
 
 -- an effect of another tag than a write's or a fork's
-other : (e : Effect) → OneOf (0 ∷ 1 ∷ 3 ∷ 5 ∷ 6 ∷ []) (tagOf declared.the-type e) → effectOf e ≡ effect.Nothing
+other : (e : Effect) → OneOf (0 ∷ 1 ∷ 3 ∷ 5 ∷ 6 ∷ 7 ∷ []) (tagOf declared.the-type e) → effectOf e ≡ effect.Nothing
 other act.Nothing h = refl
 other act.End h = refl
-other (act.Write object field value) h = absurd (miss (0 ∷ 1 ∷ 3 ∷ 5 ∷ 6 ∷ []) 2 tt h)
+other (act.Write object field value) h = absurd (miss (0 ∷ 1 ∷ 3 ∷ 5 ∷ 6 ∷ 7 ∷ []) 2 tt h)
 other (act.Read object field) h = refl
-other (act.Fork level object name parameter) h = absurd (miss (0 ∷ 1 ∷ 3 ∷ 5 ∷ 6 ∷ []) 4 tt h)
+other act.Change h = refl
+other (act.Fork level object name parameter) h = absurd (miss (0 ∷ 1 ∷ 3 ∷ 5 ∷ 6 ∷ 7 ∷ []) 4 tt h)
 other (act.Call object way parameter) h = refl
 other (act.Pop reply) h = refl
 
@@ -82,7 +83,7 @@ returns c =
     let z = at .before .before .before .before .before .before .before .before .before .before .before in
     let known = at .before .before .before .before .before .effect .given in
     let called = at .write in
-    performed-write (entry z) (z .args .level) (z .args .first) (z .args .forks) (effectOf (z .args .effect)) (known .0 .0) (known .0 .1 .0) (known .0 .1 .1 .0) (ap effectOf (known .1)) (called .last .0) (called .last .1 .0) (called .last .1 .1 .0) (called .ensures)
+    performed-write (entry z) (z .args .level) (z .args .first) (z .args .forks) (effectOf (z .args .effect)) (known .0 .0) (known .0 .1 .0) (known .0 .1 .1 .0) (ap effectOf (known .1)) (z .pre) (called .last .0) (called .last .1 .0) (called .last .1 .1 .0) (called .ensures)
 
 same-length-4 : tie.Need-same-length-4
 same-length-4 c = search needs

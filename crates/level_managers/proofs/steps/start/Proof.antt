@@ -3,9 +3,8 @@ use mathlib.Core.Path.{_∙_}
 use native.Mathlib.Omega.{arith}
 use lib.ListN.{length-set}
 use borrow.Author.Needs.{needs}
-use Rattle.session.proofs.Laws.Contents.{object-limit}
 use Rattle.managers.specs.Manager.{managerOf}
-use Rattle.level_managers.proofs.Laws.Made.{start-asks, own-script, begun-settles, begun, settled-of, held-fits}
+use Rattle.level_managers.proofs.Laws.Made.{start-there, start-named, begun-settles, begun, settled-of, held-fits}
 use Rattle.level_managers.proofs.steps.start.Statement.{statement}
 use Rattle.level_managers.proofs.steps.start.Tie as tie
 
@@ -33,52 +32,55 @@ cast-next c = search needs
 cast-start : tie.Need-cast-start
 cast-start c = search needs
 
-add-script : tie.Need-add-script
-add-script c =
-    let z = c .before .before .before .before .before .before .before .before .before in
-    let asks = start-asks (z .args .session .now) (z .args .index .now) (z .args .ended .now) (z .args .tallies .now) (z .args .queue .now) (z .args .level) (c .before .before .message-at .result) (z .pre) (c .before .before .message-at .ensures) in
-    omega (arith, asks .2, object-limit (z .args .session .now) (z .pre .indexed .accepted))
+script-of-requires : tie.Need-script-of-requires
+script-of-requires c κs =
+    let at = c .before .before .before in
+    let z = at .before .before .before .before .before .before .before .before .before .before in
+    (z .pre .tables .leveled, (z .pre .readable, start-named (at .message-at .result) (z .pre) (at .message-at .ensures)))
 
 start-requires : tie.Need-start-requires
 start-requires c κs =
-    let z = c .before .before .before .before .before .before .before .before .before in
-    start-asks (z .args .session .now) (z .args .index .now) (z .args .ended .now) (z .args .tallies .now) (z .args .queue .now) (z .args .level) (c .before .before .message-at .result) (z .pre) (c .before .before .message-at .ensures)
+    let at = c .before .before .before .before in
+    let z = at .before .before .before .before .before .before .before .before .before .before in
+    (z .pre .tables .indexed, start-there (at .message-at .result) (z .pre) (at .message-at .ensures), c .script-of .ensures .1)
 
 add-tallies : tie.Need-add-tallies
-add-tallies c = search needs
+add-tallies c = let z = c .before .before .before .before .before .before .before .before .before .before .before .before .before .before .before .pre .settles in omega (arith, z .there .level)
 
 mul-tallies : tie.Need-mul-tallies
-mul-tallies c = search needs
+mul-tallies c = let z = c .before .before .before .before .before .before .before .before .before .before .before .before .before .before .before .pre .settles in omega (arith, z .there .level)
 
 slice-read-tallies : tie.Need-slice-read-tallies
-slice-read-tallies c = search needs
+slice-read-tallies c = let z = c .before .before .before .before .before .before .before .before .before .before .before .before .before .before .before .before .pre .settles in omega (arith, z .there .level, z .counted)
 
 sub-tallies : tie.Need-sub-tallies
-sub-tallies c = search needs
+sub-tallies c = omega (arith, c .before .before .before .before .before .before .before .before .before .before .before .before .before .before .before .before .pre .waits)
 
 add-tallies-2 : tie.Need-add-tallies-2
-add-tallies-2 c = search needs
+add-tallies-2 c = let z = c .before .before .before .before .before .before .before .before .before .before .before .before .before .before .before .before .pre .settles in omega (arith, z .there .level)
 
 mul-tallies-2 : tie.Need-mul-tallies-2
-mul-tallies-2 c = search needs
+mul-tallies-2 c = let z = c .before .before .before .before .before .before .before .before .before .before .before .before .before .before .before .before .pre .settles in omega (arith, z .there .level)
 
 slice-write-tallies : tie.Need-slice-write-tallies
-slice-write-tallies c = search needs
+slice-write-tallies c = let z = c .before .before .before .before .before .before .before .before .before .before .before .before .before .before .before .before .pre .settles in omega (arith, z .there .level, z .counted)
 
 add-tallies-3 : tie.Need-add-tallies-3
-add-tallies-3 c = search needs
+add-tallies-3 c = let z = c .before .before .before .before .before .before .before .before .before .before .before .before .before .before .before .before .pre .settles in omega (arith, z .there .level)
 
 mul-tallies-3 : tie.Need-mul-tallies-3
-mul-tallies-3 c = search needs
+mul-tallies-3 c = let z = c .before .before .before .before .before .before .before .before .before .before .before .before .before .before .before .before .pre .settles in omega (arith, z .there .level)
 
 slice-write-tallies-2 : tie.Need-slice-write-tallies-2
-slice-write-tallies-2 c = simp length-set (omega arith)
+slice-write-tallies-2 c =
+    let z = c .before .before .before .before .before .before .before .before .before .before .before .before .before .before .before .before .pre .settles in
+    simp length-set (omega (arith, z .there .level, z .counted))
 
 settle-requires : tie.Need-settle-requires
 settle-requires c κs =
-    let at = c .before .before .before .before .before .before .before in
-    let z = at .before .before .before .before .before .before .before in
-    (begun-settles (z .args .session .now) (z .args .index .now) (z .args .ended .now) (z .args .tallies .now) (z .args .queue .now) (z .args .level) (at .message-at .result) (z .pre) (at .message-at .ensures), held-fits (c .before .before .before .before .start .ensures .1))
+    let at = c .before .before .before .before .before .before .before .before .before in
+    let z = at .before .before .before .before .before .before .before .before .before .before in
+    (begun-settles (at .message-at .result) (z .pre) (at .message-at .ensures), held-fits (c .before .before .before .before .start .ensures .1))
 
 same-length : tie.Need-same-length
 same-length c = search needs
@@ -90,9 +92,10 @@ returns : tie.Need-returns
 returns c =
     let called = c .before .before .before .before .settle in
     let made = c .before .before .before .before .before .before .before .before .before .start in
-    let at = c .before .before .before .before .before .before .before .before .before .before .before .before in
-    let z = at .before .before .before .before .before .before .before in (
-      begun (z .args .session .now) (z .args .index .now) (z .args .ended .now) (z .args .tallies .now) (z .args .queue .now) (z .args .level) (at .message-at .result) (z .pre) (at .message-at .ensures) (called .last .0) (called .last .1 .0) (managerOf (made .result)) (λ read there. made .ensures .0 read (own-script (z .args .session .now) (z .args .index .now) (z .args .ended .now) (z .args .tallies .now) (z .args .queue .now) (z .args .level) (at .message-at .result) (z .pre) (at .message-at .ensures) read there)) (settled-of (made .result) (called .ensures)),
+    let seen = c .before .before .before .before .before .before .before .before .before .before .script-of in
+    let at = c .before .before .before .before .before .before .before .before .before .before .before .before .before .before in
+    let z = at .before .before .before .before .before .before .before .before .before .before in (
+      begun (at .message-at .result) (z .pre) (at .message-at .ensures) (seen .result) (called .last .0) (called .last .1 .0) (managerOf (made .result)) (seen .ensures .0) (made .ensures .0) (settled-of (made .result) (called .ensures)),
       made .ensures .1,
     )
 
@@ -107,7 +110,7 @@ start-spec =
     mul-next
     slice-read-next
     cast-next
-    add-script
+    script-of-requires
     cast-start
     start-requires
     add-tallies

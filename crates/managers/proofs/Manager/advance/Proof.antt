@@ -20,7 +20,7 @@ use Rattle.operations.specs.Core.{isOver, isDone, Tall, Present}
 use Rattle.operations.specs.Moves.{causing, Operable, Operated}
 use Rattle.operations.specs.declared.Core.{Core}
 use Rattle.operations.specs.declared.Effect.{Effect}
-use Rattle.operations.specs.declared.Effect.the-variants.{Nothing, End, Write, Read, Fork, Call, Pop}
+use Rattle.operations.specs.declared.Effect.the-variants.{Nothing, End, Write, Read, Change, Fork, Call, Pop}
 use Rattle.operations.proofs.Effect as effect
 use Rattle.managers.proofs.Laws.Advance.{Turning, turnsLeft, unfinished-internal, turning-start, turning-operable, turning-made, turning-less, turning-pushed, pushed-less, turning-popped, popped-less}
 use Rattle.managers.proofs.Laws.Closing.{Lowering, lowering-start, lowering-two, lowering-waits, lowering-on, lowering-less}
@@ -29,17 +29,17 @@ use Rattle.managers.proofs.Manager.advance.Statement.{statement}
 use Rattle.managers.proofs.Manager.advance.Tie as tie
 
 abbrev Inv-loop : tie.InvT-loop
-Inv-loop session masks index current cache all limit core₀ waiting₀ core waiting =
-    Turning session masks index current cache all limit core₀ waiting₀ core waiting × (isDone (core .effect) ≡ true)
+Inv-loop session masks index current cache all unchanged limit core₀ waiting₀ core waiting =
+    Turning session masks index current cache all unchanged limit core₀ waiting₀ core waiting × (isDone (core .effect) ≡ true)
 
 abbrev μ-loop : tie.MeasureT-loop
-μ-loop session masks index current cache all limit core₀ waiting₀ core waiting = turnsLeft core
+μ-loop session masks index current cache all unchanged limit core₀ waiting₀ core waiting = turnsLeft core
 
 abbrev Inv-loop2 : tie.InvT-loop2
-Inv-loop2 session masks index current cache all limit core₀ waiting core = Lowering session index waiting core₀ core
+Inv-loop2 session masks index current cache all unchanged limit core₀ waiting core = Lowering session index waiting core₀ core
 
 abbrev μ-loop2 : tie.MeasureT-loop2
-μ-loop2 session masks index current cache all limit core₀ waiting core = core .height
+μ-loop2 session masks index current cache all unchanged limit core₀ waiting core = core .height
 
 -- the arguments, from the head of the first loop
 abbrev start : tie.At-loop Inv-loop μ-loop Inv-loop2 μ-loop2 → tie.Start Inv-loop μ-loop Inv-loop2 μ-loop2
@@ -57,7 +57,7 @@ loop-holds : tie.Need-loop-holds Inv-loop μ-loop Inv-loop2 μ-loop2
 loop-holds c =
     let s = c .before .before .before .before .before .before .before in
     let is = c .before .causing .ensures in
-    (turning-start _ _ _ _ _ _ _ _ _ (self-able _ _ _ _ _ _ _ is (s .pre .0)) (omega (arith, s .pre .1 .0, ap (λ z. z .steps) is), s .pre .1 .1) (ap (λ z. z .effect) is), ap (λ z. isDone (z .effect)) is)
+    (turning-start _ _ _ _ _ _ _ _ _ _ (self-able _ _ _ _ _ _ _ is (s .pre .0)) (omega (arith, s .pre .1 .0, ap (λ z. z .steps) is), s .pre .1 .1) (ap (λ z. z .effect) is), ap (λ z. isDone (z .effect)) is)
 
 may-advance-requires : tie.Need-may-advance-requires Inv-loop μ-loop Inv-loop2 μ-loop2
 may-advance-requires c κs = search needs
@@ -78,7 +78,7 @@ operate-requires : tie.Need-operate-requires Inv-loop μ-loop Inv-loop2 μ-loop2
 operate-requires c κs =
     let at = c .before .before .before in
     let is = c .causing2 .ensures ∙ calm (at .before .before .loop .core) (go at .0) in
-    (subst (Operable _ _ _ _) (sym is) (turning-operable _ _ _ _ _ _ _ _ _ _ _ (at .before .before .loop .inv .0) (go at .0) (go at .1)), c .before .next-step .ensures ∙ ap (λ z. nextStep (programOf (start (at .before .before) .args .session .now)) (frameOf (z .top))) (sym is))
+    (subst (Operable _ _ _ _) (sym is) (turning-operable _ _ _ _ _ _ _ _ _ _ _ _ (at .before .before .loop .inv .0) (go at .0) (go at .1)), c .before .next-step .ensures ∙ ap (λ z. nextStep (programOf (start (at .before .before) .args .session .now)) (frameOf (z .top))) (sym is))
 
 enum-known-effect : tie.Need-enum-known-effect Inv-loop μ-loop Inv-loop2 μ-loop2
 enum-known-effect c = search needs
@@ -90,20 +90,20 @@ cast-at c = search needs
 -- script steps led from the manager to a core above frames
 abbrev Now : tie.At-loop Inv-loop μ-loop Inv-loop2 μ-loop2 → Core → List Waiting → Type 0
 Now l c ws =
-    Turning (start l .args .session .now) (start l .args .masks .now) (start l .args .index .now) (start l .args .current .now) (start l .args .cache .now) (start l .args .all) (start l .args .limit) (l .before .before .causing .result) (start l .args .self .waiting) c ws
+    Turning (start l .args .session .now) (start l .args .masks .now) (start l .args .index .now) (start l .args .current .now) (start l .args .cache .now) (start l .args .all) (start l .args .unchanged) (start l .args .limit) (l .before .before .causing .result) (start l .args .self .waiting) c ws
 
 -- the operation, by the core that it was made of
-operated : (x : tie.After-operate Inv-loop μ-loop Inv-loop2 μ-loop2) → Operated (start (x .before .before .before .before .before .before) .args .session .now) (start (x .before .before .before .before .before .before) .args .current .now) (start (x .before .before .before .before .before .before) .args .cache .now) (start (x .before .before .before .before .before .before) .args .all) (x .before .before .before .before .before .before .loop .core) (x .operate .result)
+operated : (x : tie.After-operate Inv-loop μ-loop Inv-loop2 μ-loop2) → Operated (start (x .before .before .before .before .before .before) .args .session .now) (start (x .before .before .before .before .before .before) .args .current .now) (start (x .before .before .before .before .before .before) .args .cache .now) (start (x .before .before .before .before .before .before) .args .all) (start (x .before .before .before .before .before .before) .args .unchanged) (x .before .before .before .before .before .before .loop .core) (x .operate .result)
 operated x =
     let at = x .before .before .before .before in
     let s = start (at .before .before) in
-    subst (λ z. Operated (s .args .session .now) (s .args .current .now) (s .args .cache .now) (s .args .all) z (x .operate .result)) (x .before .causing2 .ensures ∙ calm (at .before .before .loop .core) (go at .0)) (x .operate .ensures)
+    subst (λ z. Operated (s .args .session .now) (s .args .current .now) (s .args .cache .now) (s .args .all) (s .args .unchanged) z (x .operate .result)) (x .before .causing2 .ensures ∙ calm (at .before .before .loop .core) (go at .0)) (x .operate .ensures)
 
 -- the operation's outcome
 made : (x : tie.After-operate Inv-loop μ-loop Inv-loop2 μ-loop2) → Now (x .before .before .before .before .before .before) (x .operate .result) (x .before .before .before .before .before .before .loop .waiting)
 made x =
     let at = x .before .before .before .before in
-    turning-made _ _ _ _ _ _ _ _ _ _ _ (at .before .before .loop .inv .0) (go at .0) (go at .1) (x .operate .result) (operated x)
+    turning-made _ _ _ _ _ _ _ _ _ _ _ _ (at .before .before .loop .inv .0) (go at .0) (go at .1) (x .operate .result) (operated x)
 
 sub-at : tie.Need-sub-at Inv-loop μ-loop Inv-loop2 μ-loop2
 sub-at c = made (c .before .before .before .before .before) .sits .some (ap isOver (c .before .before .before .effect .given .1))
@@ -144,14 +144,14 @@ loop-less : tie.Need-loop-less Inv-loop μ-loop Inv-loop2 μ-loop2
 loop-less c =
     let x = c .before .before .before .before .before in
     let at = x .before .before .before .before .before .before in
-    pushed-less _ _ _ _ _ _ _ _ _ _ _ (at .before .before .loop .inv .0) (go at .0) (go at .1) _ (operated (x .before .before)) _ _ _ (x .effect .given .1) _ (c .before .set-aside .ensures) _ (c .pushed .ensures)
+    pushed-less _ _ _ _ _ _ _ _ _ _ _ _ (at .before .before .loop .inv .0) (go at .0) (go at .1) _ (operated (x .before .before)) _ _ _ (x .effect .given .1) _ (c .before .set-aside .ensures) _ (c .pushed .ensures)
 
 -- src/lib.rt:189:9
 loop-again : tie.Need-loop-again Inv-loop μ-loop Inv-loop2 μ-loop2
 loop-again c =
     let x = c .before .before .before .before .before in
     let at = x .before .before .before .before .before .before in
-    (turning-pushed _ _ _ _ _ _ _ _ _ _ _ (at .before .before .loop .inv .0) (go at .0) (go at .1) _ (operated (x .before .before)) _ _ _ (x .effect .given .1) _ (c .before .set-aside .ensures) _ (c .pushed .ensures), ap (λ z. isDone (z .effect)) (c .pushed .ensures .core-is))
+    (turning-pushed _ _ _ _ _ _ _ _ _ _ _ _ (at .before .before .loop .inv .0) (go at .0) (go at .1) _ (operated (x .before .before)) _ _ _ (x .effect .given .1) _ (c .before .set-aside .ensures) _ (c .pushed .ensures), ap (λ z. isDone (z .effect)) (c .pushed .ensures .core-is))
 
 -- src/lib.rt:206:39
 enum-known-effect-2 : tie.Need-enum-known-effect-2 Inv-loop μ-loop Inv-loop2 μ-loop2
@@ -188,30 +188,31 @@ loop-less-2 : tie.Need-loop-less-2 Inv-loop μ-loop Inv-loop2 μ-loop2
 loop-less-2 c =
     let x = c .before .before .before .before .before .before .before in
     let at = x .before .before .before .before in
-    popped-less _ _ _ _ _ _ _ _ _ _ _ (at .before .before .loop .inv .0) (go at .0) (go at .1) _ (operated x) _ (c .before .before .before .before .effect2 .given .1) _ (c .popped .ensures)
+    popped-less _ _ _ _ _ _ _ _ _ _ _ _ (at .before .before .loop .inv .0) (go at .0) (go at .1) _ (operated x) _ (c .before .before .before .before .effect2 .given .1) _ (c .popped .ensures)
 
 -- src/lib.rt:189:9
 loop-again-2 : tie.Need-loop-again-2 Inv-loop μ-loop Inv-loop2 μ-loop2
 loop-again-2 c =
     let x = c .before .before .before .before .before .before .before in
     let at = x .before .before .before .before in
-    (turning-popped _ _ _ _ _ _ _ _ _ _ _ (at .before .before .loop .inv .0) (go at .0) (go at .1) _ (operated x) _ (c .before .before .before .before .effect2 .given .1) _ (c .popped .ensures), ap (λ z. isDone (z .effect)) (c .popped .ensures .core-is))
+    (turning-popped _ _ _ _ _ _ _ _ _ _ _ _ (at .before .before .loop .inv .0) (go at .0) (go at .1) _ (operated x) _ (c .before .before .before .before .effect2 .given .1) _ (c .popped .ensures), ap (λ z. isDone (z .effect)) (c .popped .ensures .core-is))
 
 -- an effect of another tag than a call's and a pop's
-other : (e : Effect) → OneOf (0 ∷ 1 ∷ 2 ∷ 3 ∷ 4 ∷ 6 ∷ []) (tagOf effect.the-type e) → OneOf (0 ∷ 1 ∷ 2 ∷ 3 ∷ 4 ∷ 5 ∷ []) (tagOf effect.the-type e) → isDone e ≡ true
+other : (e : Effect) → OneOf (0 ∷ 1 ∷ 2 ∷ 3 ∷ 4 ∷ 5 ∷ 7 ∷ []) (tagOf effect.the-type e) → OneOf (0 ∷ 1 ∷ 2 ∷ 3 ∷ 4 ∷ 5 ∷ 6 ∷ []) (tagOf effect.the-type e) → isDone e ≡ true
 other Nothing h k = refl
 other End h k = refl
 other (Write object field value) h k = refl
 other (Read object field) h k = refl
+other Change h k = refl
 other (Fork level object name parameter) h k = refl
-other (Call object way parameter) h k = absurd (miss (0 ∷ 1 ∷ 2 ∷ 3 ∷ 4 ∷ 6 ∷ []) 5 tt h)
-other (Pop reply) h k = absurd (miss (0 ∷ 1 ∷ 2 ∷ 3 ∷ 4 ∷ 5 ∷ []) 6 tt k)
+other (Call object way parameter) h k = absurd (miss (0 ∷ 1 ∷ 2 ∷ 3 ∷ 4 ∷ 5 ∷ 7 ∷ []) 6 tt h)
+other (Pop reply) h k = absurd (miss (0 ∷ 1 ∷ 2 ∷ 3 ∷ 4 ∷ 5 ∷ 6 ∷ []) 7 tt k)
 
 loop-less-3 : tie.Need-loop-less-3 Inv-loop μ-loop Inv-loop2 μ-loop2
 loop-less-3 c =
     let x = c .before .before in
     let at = x .before .before .before .before in
-    turning-less _ _ _ _ _ _ _ _ _ _ _ (at .before .before .loop .inv .0) (go at .0) (go at .1) _ (operated x) (other (x .operate .result .effect) (c .before .match .keys2) (c .match2 .keys2))
+    turning-less _ _ _ _ _ _ _ _ _ _ _ _ (at .before .before .loop .inv .0) (go at .0) (go at .1) _ (operated x) (other (x .operate .result .effect) (c .before .match .keys2) (c .match2 .keys2))
 
 -- src/lib.rt:189:9
 loop-again-3 : tie.Need-loop-again-3 Inv-loop μ-loop Inv-loop2 μ-loop2
@@ -222,7 +223,7 @@ loop-again-3 c =
 loop2-holds : tie.Need-loop2-holds Inv-loop μ-loop Inv-loop2 μ-loop2
 loop2-holds c =
     let l = c .before .before .loop in
-    lowering-start _ _ _ _ _ _ _ _ _ _ _ (l .inv .0) (l .inv .1)
+    lowering-start _ _ _ _ _ _ _ _ _ _ _ _ (l .inv .0) (l .inv .1)
 
 pops-requires : tie.Need-pops-requires Inv-loop μ-loop Inv-loop2 μ-loop2
 pops-requires c κs = search needs
@@ -282,8 +283,8 @@ returns : tie.Need-returns Inv-loop μ-loop Inv-loop2 μ-loop2
 returns c =
     let z = c .before .before .before in
     let l = z .before .before .before in
-    advanced-self _ _ _ _ _ _ _ _ (l .before .before .causing .ensures)
-    (advance-done _ _ _ _ _ _ _ _ _ _ _ (l .loop .inv .0) (sym (z .before .before .may-advance .ensures) ∙ z .before .if1 .left) _ (z .loop2 .inv) (sym (c .before .before .pops .ensures) ∙ c .before .if2 .left) _ (c .closed .ensures))
+    advanced-self _ _ _ _ _ _ _ _ _ (l .before .before .causing .ensures)
+    (advance-done _ _ _ _ _ _ _ _ _ _ _ _ (l .loop .inv .0) (sym (z .before .before .may-advance .ensures) ∙ z .before .if1 .left) _ (z .loop2 .inv) (sym (c .before .before .pops .ensures) ∙ c .before .if2 .left) _ (c .closed .ensures))
 
 pub advance-spec : {M : Type 1} → statement M
 advance-spec =

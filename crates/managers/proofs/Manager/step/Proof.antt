@@ -16,7 +16,7 @@ advance-requires c κs =
 returns : tie.Need-returns
 returns c =
     let a = c .before .before .before .before .before .before .before .pre in
-    step-done _ _ _ _ _ (a .held) (a .running) (c .advance .ensures)
+    step-done _ _ _ _ _ _ (a .held) (a .running) (c .advance .ensures)
 
 pub step-spec : {M : Type 1} → statement M
 step-spec = tie.close (tie.spec add-limit advance-requires returns)

@@ -1,19 +1,35 @@
--- `operations::Core::send` meets its contract. Assumes nothing.
-use mathlib.Core.Path.{refl, sym, _∙_, ap}
+-- `operations::Core::send` meets its contract: what becomes of the message decides. Assumes nothing.
+use mathlib.Core.Path.{_≡_, refl, sym, _∙_, ap}
 use mathlib.Core.Bool.{true, false}
+use mathlib.Core.List.{[], _∷_}
+use mathlib.Core.Logic.{_⊎_, inl, inr}
 use native.Mathlib.Omega.{arith}
 use borrow.Author.Needs.{needs}
+use borrow.Author.Tests.{eq-eqb, ne-eqb}
+use types.Run.{OneOf, miss}
+use denote.Enum.Declared.{tagOf}
+use Rattle.session.specs.Meaning.{levelOf}
 use Rattle.session.proofs.Laws.Verdict.{accepted}
 use Rattle.session.proofs.Laws.Contents.{object-limit}
 use Rattle.session.proofs.Laws.Numbering.{few-levels}
+use Rattle.session.proofs.Laws.Numbers.{number-few}
+use Rattle.filter.proofs.Fate as declared
+use Rattle.filter.specs.declared.Fate.{Fate}
 use Rattle.filter.specs.declared.Fate.the-variants as fate
-use Rattle.scripts.specs.Manager.{called, sent}
+use Rattle.scripts.specs.Manager.{sent}
 use Rattle.scripts.proofs.Laws.Send.{lent-ordered, fork-present}
-use Rattle.operations.specs.Core.{standing}
-use Rattle.operations.specs.Moves.{pastOf}
-use Rattle.operations.proofs.Laws.Operations.{send-made, send-blocked, own-frame}
+use Rattle.words.specs.Reads.{isOwn, scriptFound}
+use Rattle.words.proofs.Laws.Reads.{scripted-small}
+use Rattle.operations.proofs.Laws.Operations.{send-made, send-blocked, send-called, send-asked}
 use Rattle.operations.proofs.Core.send.Statement.{statement}
 use Rattle.operations.proofs.Core.send.Tie as tie
+
+-- a message that is neither forked nor blocked makes a frame
+framed : (t : Fate) → OneOf (0 ∷ 1 ∷ 2 ∷ []) (tagOf declared.the-type t) → OneOf (0 ∷ 1 ∷ 3 ∷ []) (tagOf declared.the-type t) → (t ≡ fate.Call) ⊎ (t ≡ fate.Discard)
+framed fate.Call p q = inl refl
+framed fate.Discard p q = inr refl
+framed fate.Block p q = absurd (miss (0 ∷ 1 ∷ 3 ∷ []) 2 tt q)
+framed (fate.Fork u) p q = absurd (miss (0 ∷ 1 ∷ 2 ∷ []) 3 tt p)
 
 level-of-requires : tie.Need-level-of-requires
 level-of-requires c κs = search needs
@@ -26,49 +42,21 @@ cast-fate-of c = search needs
 
 fate-of-requires : tie.Need-fate-of-requires
 fate-of-requires c κs =
-    let s = c .before .before .before .before .before .before in
-    lent-ordered (s .args .session .now) (s .args .masks .now) (s .pre .1)
-
-enum-told : tie.Need-enum-told
-enum-told c = search needs
-
-add-call : tie.Need-add-call
-add-call c =
-    let s = c .before .before .before .before .before .before .before .before .before in
-    omega (arith, s .pre .4 .0, object-limit (s .args .session .now) (s .pre .1 .accepted))
-
-call-requires : tie.Need-call-requires
-call-requires c κs = search needs
-
-enum-told-2 : tie.Need-enum-told-2
-enum-told-2 c = search needs
-
-add-call-2 : tie.Need-add-call-2
-add-call-2 c =
-    let s = c .before .before .before .before .before .before .before .before .before in
-    omega (arith, s .pre .4 .0, object-limit (s .args .session .now) (s .pre .1 .accepted))
-
-call-requires-2 : tie.Need-call-requires-2
-call-requires-2 c κs = search needs
-
-enum-told-3 : tie.Need-enum-told-3
-enum-told-3 c = search needs
-
-put-requires : tie.Need-put-requires
-put-requires c κs = search needs
+    let s = c .before .before .before .before .before .before .before .before in
+    lent-ordered (s .args .session .now) (s .args .masks .now) (s .pre .1 .leveled)
 
 enum-known-fate : tie.Need-enum-known-fate
 enum-known-fate c = search needs
 
 cast-fork : tie.Need-cast-fork
 cast-fork c =
-    let s = c .before .before .before .before .before .before .before .before .before .before in
+    let s = c .before .before .before .before .before .before .before .before .before .before .before .before in
     let t = s .args .session .now in
     let e = sym (c .before .before .before .fate-of .ensures) ∙ c .before .fate .given .1 in
     omega (
       arith,
-      fork-present t (s .args .masks .now) (s .pre .1) _ _ (s .args .c) (c .before .fate .given .0 .0) (s .pre .2 .level) (s .pre .4 .0) (rw (c .before .before .before .before .before .level-of2 .ensures) at e),
-      few-levels t (accepted t (s .pre .1 .accepted) .three),
+      fork-present t (s .args .masks .now) (s .pre .1 .leveled) _ _ (s .args .c) (c .before .fate .given .0 .0) (s .pre .1 .sits .level) (rw (c .before .before .before .before .before .level-of2 .ensures) at e),
+      few-levels t (accepted t (s .pre .1 .leveled .accepted) .three),
     )
 
 fork-requires : tie.Need-fork-requires
@@ -77,38 +65,79 @@ fork-requires c κs = search needs
 returns : tie.Need-returns
 unfolding sent
 returns c =
-    let s = c .before .before .before .before .before .before .before .before .before .before in
-    send-made (s .args .session .now) (s .args .masks .now) (s .pre .1) (s .args .self) (c .call .result) (s .args .a) (s .args .b) (s .args .c) (c .before .before .before .before .before .before .level-of .result) (c .before .before .before .before .before .level-of2 .result)
-    (s .pre .2) (c .before .before .before .before .before .before .level-of .ensures) (c .before .before .before .before .before .level-of2 .ensures) fate.Call _ _
-    (sym (c .before .before .before .fate-of .ensures) ∙ c .before .enum-told .given .1) (c .call .ensures) (s .pre .4 .0, omega (arith, s .pre .4 .0))
-    (λ read there gs. ap (λ f. called (standing (s .args .self) gs) (pastOf (s .args .self)) (s .args .a) f) (own-frame (s .args .session .now) read (s .args .c) (s .args .b) (s .args .a) true _ there (s .pre .4 .0)))
+    let s = c .before .before .before .before .before .before .before .before .before .before .before .before .before in
+    let t = s .args .session .now in
+    let e = sym (c .before .before .before .before .fate-of .ensures) ∙ c .before .before .fate .given .1 in
+    let u = c .before .before .fate .given .0 .0 in
+    send-made t (s .args .masks .now) (s .args .current .now) (s .args .cache .now) (s .args .all) (s .args .unchanged) (s .args .self) (c .fork .result) (s .pre .1) (s .args .a) (s .args .b) (s .args .c) (c .before .before .before .before .before .before .before .level-of .result) (c .before .before .before .before .before .before .level-of2 .result) (c .before .before .before .before .before .before .before .level-of .ensures) (c .before .before .before .before .before .before .level-of2 .ensures) (fate.Fork u) _ _ e (c .fork .ensures)
+    (fork-present t (s .args .masks .now) (s .pre .1 .leveled) _ _ (s .args .c) u (s .pre .1 .sits .level) (rw (c .before .before .before .before .before .before .level-of2 .ensures) at e), s .pre .3)
+    (λ read agrees gs. refl)
+
+enum-told : tie.Need-enum-told
+enum-told c = search needs
+
+put-requires : tie.Need-put-requires
+put-requires c κs = search needs
 
 returns-2 : tie.Need-returns-2
-unfolding sent
 returns-2 c =
-    let s = c .before .before .before .before .before .before .before .before .before .before in
-    send-made (s .args .session .now) (s .args .masks .now) (s .pre .1) (s .args .self) (c .call2 .result) (s .args .a) (s .args .b) (s .args .c) (c .before .before .before .before .before .before .level-of .result) (c .before .before .before .before .before .level-of2 .result)
-    (s .pre .2) (c .before .before .before .before .before .before .level-of .ensures) (c .before .before .before .before .before .level-of2 .ensures) fate.Discard _ _
-    (sym (c .before .before .before .fate-of .ensures) ∙ c .before .enum-told2 .given .1) (c .call2 .ensures) (s .pre .4 .0, omega (arith, s .pre .4 .0))
-    (λ read there gs. ap (λ f. called (standing (s .args .self) gs) (pastOf (s .args .self)) (s .args .a) f) (own-frame (s .args .session .now) read (s .args .c) (s .args .b) (s .args .a) false _ there (s .pre .4 .0)))
+    let s = c .before .before .before .before .before .before .before .before .before .before .before .before .before in
+    let t = s .args .session .now in
+    send-blocked t (s .args .masks .now) (s .args .current .now) (s .args .cache .now) (s .args .all) (s .args .unchanged) (s .args .self) (c .put .result) (s .pre .1) (s .args .a) (s .args .b) (s .args .c) (c .before .before .before .before .before .before .before .level-of .result) (c .before .before .before .before .before .before .level-of2 .result) (c .before .before .before .before .before .before .before .level-of .ensures) (c .before .before .before .before .before .before .level-of2 .ensures) (sym (c .before .before .before .before .fate-of .ensures) ∙ c .before .enum-told .given .1) (s .pre .0) (c .put .ensures)
+
+cast-is-own : tie.Need-cast-is-own
+cast-is-own c = search needs
+
+is-own-requires : tie.Need-is-own-requires
+is-own-requires c κs = search needs
+
+script-of-requires : tie.Need-script-of-requires
+script-of-requires c κs =
+    let s = c .before .before .before .before .before .before .before .before .before .before .before .before .before in
+    let o = s .pre .1 in
+    let few = object-limit (s .args .session .now) (o .leveled .accepted) in
+    record {
+      fields-there = o .fields-there;
+      cache-there = o .cache-there;
+      object = number-few (s .args .session .now) (o .leveled .accepted) (s .args .c) (s .pre .3 .0);
+      current-small = scripted-small (s .args .session .now) (s .args .current .now) few (o .current-scripted);
+      cache-small = scripted-small (s .args .session .now) (s .args .cache .now) few (o .cache-scripted);
+    }
+
+causing-requires : tie.Need-causing-requires
+causing-requires c κs = search needs
 
 returns-3 : tie.Need-returns-3
 returns-3 c =
-    let s = c .before .before .before .before .before .before .before .before .before .before in
-    send-blocked (s .args .session .now) (s .args .masks .now) (s .pre .1) (s .args .self) (c .put .result) (s .args .a) (s .args .b) (s .args .c) (c .before .before .before .before .before .before .level-of .result) (c .before .before .before .before .before .level-of2 .result)
-    (s .pre .2) (c .before .before .before .before .before .before .level-of .ensures) (c .before .before .before .before .before .level-of2 .ensures)
-    (sym (c .before .before .before .fate-of .ensures) ∙ c .before .enum-told3 .given .1) (s .pre .0) (c .put .ensures)
+    let s = c .before .before .before .before .before .before .before .before .before .before .before .before .before .before .before .before in
+    let t = s .args .session .now in
+    let own : c .before .before .before .is-own .result ≡ isOwn t (s .args .all) (s .args .self .level) (s .args .c) = rw (c .before .before .before .before .before .before .before .before .before .level-of2 .ensures) at (c .before .before .before .is-own .ensures) in
+    let script = ap (λ x. scriptFound (s .args .current .now) (s .args .cache .now) x (s .args .unchanged) (s .args .c)) (sym own) ∙ sym (c .before .before .script-of .ensures) ∙ c .before .if1 .taken in
+    elim (framed (c .before .before .before .before .before .before .before .fate-of .result) (c .before .before .before .before .before .before .match .keys2) (c .before .before .before .before .before .match2 .keys2)) [
+      | inl q ↦ send-asked t (s .args .masks .now) (s .args .current .now) (s .args .cache .now) (s .args .all) (s .args .unchanged) (s .args .self) (c .causing .result) (s .pre .1) (s .args .a) (s .args .b) (s .args .c) (c .before .before .before .before .before .before .before .before .before .before .level-of .result) (c .before .before .before .before .before .before .before .before .before .level-of2 .result) (c .before .before .before .before .before .before .before .before .before .before .level-of .ensures) (c .before .before .before .before .before .before .before .before .before .level-of2 .ensures) fate.Call (sym (c .before .before .before .before .before .before .before .fate-of .ensures) ∙ q) (rw script refl) (s .pre .0) (s .pre .3 .0) (c .causing .ensures)
+      | inr q ↦ send-asked t (s .args .masks .now) (s .args .current .now) (s .args .cache .now) (s .args .all) (s .args .unchanged) (s .args .self) (c .causing .result) (s .pre .1) (s .args .a) (s .args .b) (s .args .c) (c .before .before .before .before .before .before .before .before .before .before .level-of .result) (c .before .before .before .before .before .before .before .before .before .level-of2 .result) (c .before .before .before .before .before .before .before .before .before .before .level-of .ensures) (c .before .before .before .before .before .before .before .before .before .level-of2 .ensures) fate.Discard (sym (c .before .before .before .before .before .before .before .fate-of .ensures) ∙ q) (rw script refl) (s .pre .0) (s .pre .3 .0) (c .causing .ensures)
+    ]
+
+returns-requires : tie.Need-returns-requires
+returns-requires c κs = search needs
+
+call-requires : tie.Need-call-requires
+call-requires c κs =
+    let s = c .before .before .before .before .before .before .before .before .before .before .before .before .before .before .before .before in
+    (s .pre .0, s .pre .2, s .pre .3 .1)
 
 returns-4 : tie.Need-returns-4
 unfolding sent
 returns-4 c =
-    let s = c .before .before .before .before .before .before .before .before .before .before .before in
-    let u = c .before .before .fate .given .0 .0 in
-    let e = sym (c .before .before .before .before .fate-of .ensures) ∙ c .before .before .fate .given .1 in
-    let there = fork-present (s .args .session .now) (s .args .masks .now) (s .pre .1) _ _ (s .args .c) u (s .pre .2 .level) (s .pre .4 .0) (rw (c .before .before .before .before .before .before .level-of2 .ensures) at e) in
-    send-made (s .args .session .now) (s .args .masks .now) (s .pre .1) (s .args .self) (c .fork .result) (s .args .a) (s .args .b) (s .args .c) (c .before .before .before .before .before .before .before .level-of .result) (c .before .before .before .before .before .before .level-of2 .result)
-    (s .pre .2) (c .before .before .before .before .before .before .before .level-of .ensures) (c .before .before .before .before .before .before .level-of2 .ensures) (fate.Fork u) _ _
-    e (c .fork .ensures) (there, s .pre .4) (λ read there gs. refl)
+    let s = c .before .before .before .before .before .before .before .before .before .before .before .before .before .before .before .before .before in
+    let t = s .args .session .now in
+    let own : c .before .before .before .before .is-own .result ≡ isOwn t (s .args .all) (s .args .self .level) (s .args .c) = rw (c .before .before .before .before .before .before .before .before .before .before .level-of2 .ensures) at (c .before .before .before .before .is-own .ensures) in
+    let script = c .before .before .before .script-of .ensures ∙ ap (λ x. scriptFound (s .args .current .now) (s .args .cache .now) x (s .args .unchanged) (s .args .c)) own in
+    let known = ne-eqb (c .before .before .before .script-of .result) 255 (c .before .before .if1 .left) in
+    elim (framed (c .before .before .before .before .before .before .before .before .fate-of .result) (c .before .before .before .before .before .before .before .match .keys2) (c .before .before .before .before .before .before .match2 .keys2)) [
+      | inl q ↦ send-called t (s .args .masks .now) (s .args .current .now) (s .args .cache .now) (s .args .all) (s .args .unchanged) (s .args .self) (c .call .result) (s .pre .1) (s .args .a) (s .args .b) (s .args .c) (c .before .before .before .before .before .before .before .before .before .before .before .level-of .result) (c .before .before .before .before .before .before .before .before .before .before .level-of2 .result) (c .before .before .before .before .before .before .before .before .before .before .before .level-of .ensures) (c .before .before .before .before .before .before .before .before .before .before .level-of2 .ensures) fate.Call true (c .before .before .before .script-of .result) (rw (c .before .returns .ensures, q) at (c .call .ensures)) (sym (c .before .before .before .before .before .before .before .before .fate-of .ensures) ∙ q) (λ read gs. refl) (s .pre .3 .0) script known
+      | inr q ↦ send-called t (s .args .masks .now) (s .args .current .now) (s .args .cache .now) (s .args .all) (s .args .unchanged) (s .args .self) (c .call .result) (s .pre .1) (s .args .a) (s .args .b) (s .args .c) (c .before .before .before .before .before .before .before .before .before .before .before .level-of .result) (c .before .before .before .before .before .before .before .before .before .before .level-of2 .result) (c .before .before .before .before .before .before .before .before .before .before .before .level-of .ensures) (c .before .before .before .before .before .before .before .before .before .before .level-of2 .ensures) fate.Discard false (c .before .before .before .script-of .result) (rw (c .before .returns .ensures, q) at (c .call .ensures)) (sym (c .before .before .before .before .before .before .before .before .fate-of .ensures) ∙ q) (λ read gs. refl) (s .pre .3 .0) script known
+    ]
 
 pub send-spec : {M : Type 1} → statement M
 send-spec =
@@ -118,18 +147,18 @@ send-spec =
     level-of-requires-2
     cast-fate-of
     fate-of-requires
-    enum-told
-    add-call
-    call-requires
-    enum-told-2
-    add-call-2
-    call-requires-2
-    enum-told-3
-    put-requires
     enum-known-fate
     cast-fork
     fork-requires
     returns
+    enum-told
+    put-requires
     returns-2
+    cast-is-own
+    is-own-requires
+    script-of-requires
+    causing-requires
     returns-3
+    returns-requires
+    call-requires
     returns-4)

@@ -12,7 +12,7 @@ pass-requires c κs = search needs
 returns : tie.Need-returns
 returns c =
     let s = c .before .before .before .before .before in
-    makes-spent _ (s .args .self) (c .before .before .before .pass .result) _ (s .args .b) _ (s .pre .0) (c .before .before .before .pass .ensures) (c .before .if1 .taken) refl
+    makes-spent _ (s .args .self) (c .before .before .before .pass .result) _ _ _ (s .pre .0) (c .before .before .before .pass .ensures) (λ m. omega (arith, c .before .if1 .taken)) refl
 
 add-writes : tie.Need-add-writes
 add-writes c =

@@ -54,6 +54,18 @@ enum-known-step-7 c = search needs
 are-quit-valid-requires : tie.Need-are-quit-valid-requires
 are-quit-valid-requires c κs = search needs
 
+enum-known-step-8 : tie.Need-enum-known-step-8
+enum-known-step-8 c = search needs
+
+are-quit-valid-requires-2 : tie.Need-are-quit-valid-requires-2
+are-quit-valid-requires-2 c κs = search needs
+
+enum-told-2 : tie.Need-enum-told-2
+enum-told-2 c = search needs
+
+has-no-operands-requires : tie.Need-has-no-operands-requires
+has-no-operands-requires c κs = search needs
+
 returns : tie.Need-returns
 unfolding operandsFit unusedBytes
 returns c = rw (c .enum-told .given .1)
@@ -86,6 +98,14 @@ returns-8 : tie.Need-returns-8
 unfolding operandsFit unusedBytes
 returns-8 c = rw (c .before .before .step7 .given .1) (c .are-quit-valid .ensures)
 
+returns-9 : tie.Need-returns-9
+unfolding operandsFit unusedBytes
+returns-9 c = rw (c .before .before .step8 .given .1) (c .are-quit-valid2 .ensures)
+
+returns-10 : tie.Need-returns-10
+unfolding operandsFit unusedBytes
+returns-10 c = rw (c .before .enum-told2 .given .1) (c .has-no-operands .ensures)
+
 pub are-operands-valid-spec : {M : Type 1} → statement M
 are-operands-valid-spec =
     tie.close
@@ -106,6 +126,10 @@ are-operands-valid-spec =
     are-send-valid-requires
     enum-known-step-7
     are-quit-valid-requires
+    enum-known-step-8
+    are-quit-valid-requires-2
+    enum-told-2
+    has-no-operands-requires
     returns
     returns-2
     returns-3
@@ -113,4 +137,6 @@ are-operands-valid-spec =
     returns-5
     returns-6
     returns-7
-    returns-8)
+    returns-8
+    returns-9
+    returns-10)

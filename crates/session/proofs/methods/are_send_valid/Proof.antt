@@ -1,6 +1,6 @@
 -- `session::methods::are_send_valid` meets its contract. Assumes nothing.
-use mathlib.Core.Path.{refl}
-use borrow.Author.Tests.{lt-ltb, le-ltb}
+use mathlib.Core.Path.{refl, sym, _∙_}
+use borrow.Author.Tests.{lt-ltb, le-ltb, not-true, not-false}
 use Rattle.session.specs.Record.{from}
 use Rattle.session.specs.Lists.{tab}
 use Rattle.session.specs.Words.{joinedFrom, kept}
@@ -14,8 +14,13 @@ returns c = simp (le-ltb _ _ (c .if1 .taken))
 returns-2 : tie.Need-returns-2
 returns-2 c = simp (lt-ltb _ _ (c .before .if1 .left), le-ltb _ _ (c .if2 .taken))
 
+is-number-requires : tie.Need-is-number-requires
+is-number-requires c κs = search needs
+
 returns-3 : tie.Need-returns-3
-returns-3 c = simp (lt-ltb _ _ (c .before .before .if1 .left), lt-ltb _ _ (c .before .if2 .left), le-ltb _ _ (c .if3 .taken))
+returns-3 c =
+    let n = sym (c .before .is-number .ensures) ∙ not-true _ (c .if3 .taken) in
+    simp (lt-ltb _ _ (c .before .before .before .if1 .left), lt-ltb _ _ (c .before .before .if2 .left), n)
 
 are-unused-requires : tie.Need-are-unused-requires
 are-unused-requires c κs = search needs
@@ -23,7 +28,9 @@ are-unused-requires c κs = search needs
 returns-4 : tie.Need-returns-4
 unfolding joinedFrom kept tab
 returns-4 c =
-    simp (lt-ltb _ _ (c .before .before .before .if1 .left), lt-ltb _ _ (c .before .before .if2 .left), lt-ltb _ _ (c .before .if3 .left)) (c .are-unused .ensures (from 7) (record { first-is = refl; second-is = refl }))
+    let n = sym (c .before .before .is-number .ensures) ∙ not-false _ (c .before .if3 .left) in
+    simp (lt-ltb _ _ (c .before .before .before .before .if1 .left), lt-ltb _ _ (c .before .before .before .if2 .left), n)
+    (c .are-unused .ensures (from 7) (record { first-is = refl; second-is = refl }))
 
 pub are-send-valid-spec : {M : Type 1} → statement M
-are-send-valid-spec = tie.close (tie.spec returns returns-2 returns-3 are-unused-requires returns-4)
+are-send-valid-spec = tie.close (tie.spec returns returns-2 is-number-requires returns-3 are-unused-requires returns-4)

@@ -8,15 +8,15 @@ use Rattle.session.proofs.methods.are_valid.Statement.{statement}
 use Rattle.session.proofs.methods.are_valid.Tie as tie
 
 abbrev Inv-loop : tie.InvT-loop
-Inv-loop session first end objects at₀ at = Methods session objects first end at
+Inv-loop session first end levels objects at₀ at = Methods session levels objects first end at
 
 abbrev μ-loop : tie.MeasureT-loop
-μ-loop session first end objects at₀ at = end - at
+μ-loop session first end levels objects at₀ at = end - at
 
 loop-holds : tie.Need-loop-holds Inv-loop μ-loop
 loop-holds c =
     let s = c .before in
-    methods-none (s .args .session .now) (s .args .objects) (s .args .first) (s .args .end) (s .pre .0)
+    methods-none (s .args .session .now) (s .args .levels) (s .args .objects) (s .args .first) (s .args .end) (s .pre .0)
 
 method-end-requires : tie.Need-method-end-requires Inv-loop μ-loop
 method-end-requires c κs = (c .loop-test .taken, c .before .before .before .pre .1)
@@ -30,7 +30,7 @@ returns : tie.Need-returns Inv-loop μ-loop
 returns c =
     let s = c .before .before .before .before .before in
     let at = c .before .before .before .loop in
-    sym (methods-long (s .args .session .now) (s .args .objects) (s .args .first) (s .args .end) (at .at) (at .inv)
+    sym (methods-long (s .args .session .now) (s .args .levels) (s .args .objects) (s .args .first) (s .args .end) (at .at) (at .inv)
     (c .before .before .loop-test .taken)
     (rw (c .before .method-end .ensures) at (c .if1 .taken)))
 
@@ -53,7 +53,7 @@ returns-2 c =
     let s = c .before .before .before .before .before .before .before in
     let at = c .before .before .before .before .before .loop in
     let e = c .before .before .before .method-end .ensures in
-    sym (methods-wrong (s .args .session .now) (s .args .objects) (s .args .first) (s .args .end) (at .at) (at .inv)
+    sym (methods-wrong (s .args .session .now) (s .args .levels) (s .args .objects) (s .args .first) (s .args .end) (at .at) (at .inv)
     (c .before .before .before .before .loop-test .taken)
     (rw e at (sym (c .before .is-method-valid .ensures) ∙ not-true _ (c .if2 .taken))))
 
@@ -69,7 +69,7 @@ returns-3 c =
     let m = c .before .before .before .before .before in
     let s = m .before .before .before .before in
     let at = m .before .before .loop in
-    sym (methods-falls (s .args .session .now) (s .args .objects) (s .args .first) (s .args .end) (at .at) (at .inv)
+    sym (methods-falls (s .args .session .now) (s .args .levels) (s .args .objects) (s .args .first) (s .args .end) (at .at) (at .inv)
     (m .before .loop-test .taken)
     (rw (m .method-end .ensures) at (sym (c .before .falls .ensures) ∙ c .if3 .taken)))
 
@@ -85,7 +85,7 @@ loop-again c =
     let s = m .before .before .before .before in
     let at = m .before .before .loop in
     let e = m .method-end .ensures in
-    rw e (methods-more (s .args .session .now) (s .args .objects) (s .args .first) (s .args .end) (at .at) (at .inv)
+    rw e (methods-more (s .args .session .now) (s .args .levels) (s .args .objects) (s .args .first) (s .args .end) (at .at) (at .inv)
     (m .before .loop-test .taken)
     (rw e at (c .before .before .before .before .if1 .left))
     (rw e at (sym (c .before .before .before .is-method-valid .ensures) ∙ not-false _ (c .before .before .if2 .left)))
@@ -94,7 +94,7 @@ loop-again c =
 returns-4 : tie.Need-returns-4 Inv-loop μ-loop
 returns-4 c =
     let s = c .before .before .before in
-    sym (methods-all (s .args .session .now) (s .args .objects) (s .args .first) (s .args .end) (c .before .loop .at) (c .before .loop .inv) (c .loop-test .left))
+    sym (methods-all (s .args .session .now) (s .args .levels) (s .args .objects) (s .args .first) (s .args .end) (c .before .loop .at) (c .before .loop .inv) (c .loop-test .left))
 
 pub are-valid-spec : {M : Type 1} → statement M
 are-valid-spec =

@@ -12,10 +12,10 @@ use Rattle.session.proofs.methods.is_method_valid.Statement.{statement}
 use Rattle.session.proofs.methods.is_method_valid.Tie as tie
 
 abbrev Inv-loop : tie.InvT-loop
-Inv-loop session first count objects i₀ i = Tested count (λ k. isFit objects count (recordAt session (first + k))) i
+Inv-loop session first count levels objects i₀ i = Tested count (λ k. isFit levels objects count (recordAt session (first + k))) i
 
 abbrev μ-loop : tie.MeasureT-loop
-μ-loop session first count objects i₀ i = count - i
+μ-loop session first count levels objects i₀ i = count - i
 
 is-named-requires : tie.Need-is-named-requires Inv-loop μ-loop
 is-named-requires c κs = omega (arith, c .before .pre .0 .0, c .before .pre .1 .some)
@@ -23,7 +23,7 @@ is-named-requires c κs = omega (arith, c .before .pre .0 .0, c .before .pre .1 
 returns : tie.Need-returns Inv-loop μ-loop
 returns c =
     let s = c .before .before .before in
-    sym (method-unnamed (s .args .session .now) (s .args .first) (s .args .count) (s .args .objects)
+    sym (method-unnamed (s .args .session .now) (s .args .first) (s .args .count) (s .args .levels) (s .args .objects)
     (λ i. omega (arith, c .before .before .shared-slice-known .given i)) (s .pre .1)
     (sym (c .before .is-named .ensures) ∙ not-true _ (c .if1 .taken)))
 
@@ -40,7 +40,7 @@ returns-2 : tie.Need-returns-2 Inv-loop μ-loop
 returns-2 c =
     let n = c .before .before .before .before .before in
     let s = n .before .before in
-    sym (method-unfit (s .args .session .now) (s .args .first) (s .args .count) (s .args .objects)
+    sym (method-unfit (s .args .session .now) (s .args .first) (s .args .count) (s .args .levels) (s .args .objects)
     (λ i. omega (arith, n .before .shared-slice-known .given i)) (s .pre .1)
     (sym (tested-fails _ _ _ _ (c .before .before .loop-test .taken) (c .before .is-fit .ensures) (c .if2 .taken))))
 
@@ -58,7 +58,7 @@ returns-3 : tie.Need-returns-3 Inv-loop μ-loop
 returns-3 c =
     let n = c .before .before .before in
     let s = n .before .before in
-    sym (method-fits (s .args .session .now) (s .args .first) (s .args .count) (s .args .objects)
+    sym (method-fits (s .args .session .now) (s .args .first) (s .args .count) (s .args .levels) (s .args .objects)
     (λ i. omega (arith, n .before .shared-slice-known .given i)) (s .pre .1)
     (sym (n .is-named .ensures) ∙ not-false _ (c .before .before .if1 .left))
     (sym (tested-all _ _ _ (c .before .loop .inv) (c .loop-test .left))))

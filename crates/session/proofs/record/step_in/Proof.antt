@@ -1,7 +1,7 @@
 -- `session::record::step_in` meets its contract: the operation byte says which step it is. Assumes nothing.
 use mathlib.Core.Path.{sym, _∙_}
 use borrow.Author.Needs.{needs}
-use Rattle.session.proofs.Laws.Record.{step-set, step-add, step-jump, step-read, step-write, step-send, step-quit, step-end, no-operation}
+use Rattle.session.proofs.Laws.Record.{step-set, step-add, step-jump, step-read, step-write, step-send, step-quit, step-create, step-withdraw, step-end, no-operation}
 use Rattle.session.proofs.record.step_in.Statement.{statement}
 use Rattle.session.proofs.record.step_in.Tie as tie
 
@@ -42,11 +42,19 @@ returns-7 : tie.Need-returns-7
 returns-7 c = step-quit _ _ (sym (c .before .byte-at3 .ensures) ∙ c .match .keys7) (c .before .before .before .byte-at .ensures)
 
 returns-8 : tie.Need-returns-8
-returns-8 c =
+returns-8 c = step-create _ _ (sym (c .before .byte-at3 .ensures) ∙ c .match .keys8) (c .before .before .before .byte-at .ensures)
+
+returns-9 : tie.Need-returns-9
+returns-9 c = step-withdraw _ (sym (c .before .byte-at3 .ensures) ∙ c .match .keys9)
+
+returns-10 : tie.Need-returns-10
+returns-10 c =
     let e = c .before .byte-at3 .ensures in
     let no = c .match .rest in
     step-end _
     (no-operation _
+    (λ z. no .0 .0 .0 .0 .0 .0 .0 .0 .1 (e ∙ z))
+    (λ z. no .0 .0 .0 .0 .0 .0 .0 .1 (e ∙ z))
     (λ z. no .0 .0 .0 .0 .0 .0 .1 (e ∙ z))
     (λ z. no .0 .0 .0 .0 .0 .1 (e ∙ z))
     (λ z. no .0 .0 .0 .0 .1 (e ∙ z))
@@ -71,4 +79,6 @@ step-in-spec =
     returns-5
     returns-6
     returns-7
-    returns-8)
+    returns-8
+    returns-9
+    returns-10)

@@ -2,22 +2,23 @@
 -- Every step keeps this. Assumes nothing.
 use Prim.Native.Nat.{ℕ, _+_, _*_, _^_, _≤_, _<_}
 use mathlib.Core.Path.{_≡_, refl, sym, _∙_, ap}
-use mathlib.Core.List.{List, [], _∷_}
+use mathlib.Core.Bool.{cond}
+use mathlib.Core.List.{List, [], _∷_, map}
 use native.Mathlib.Omega.{arith}
-use lib.ListN.{length}
+use lib.ListN.{length, length-append, length-map}
 use Rattle.session.specs.Program.{Program, seenBy}
 use Rattle.session.proofs.Laws.Lists.{holds, fails, truth}
 use Rattle.scripts.specs.Limits.{maxForks, maxWrites}
 use Rattle.scripts.specs.Ending.{isRunning}
 use Rattle.scripts.specs.Manager.{started, stepped}
 use Rattle.scripts.specs.State.{Manager}
-use Rattle.scripts.specs.Effect.{Effect}
+use Rattle.scripts.specs.Effect.{Written, Effect}
 use Rattle.scripts.specs.Effect as effect
 use Rattle.scripts.proofs.Laws.Counts.{counts, grown, oneMore, started-counts, stepped-counts}
 use Rattle.scripts.proofs.Laws.Effects.{Sound, Fits, stepped-fits}
 use Rattle.model.specs.Fork.{Fork, childOf}
 use Rattle.model.specs.History.{historyOf}
-use Rattle.model.specs.Level.{Version, Activity, idle, busy, Level, arrived, after}
+use Rattle.model.specs.Level.{Version, versionOf, Activity, idle, busy, Level, isBusy, arrived, after}
 use Rattle.model.specs.Step.{State, levelAt, viewOf, readAt, at, versionsAfter, begun, advanced, moved, moveAt, stepAt}
 use Rattle.model.specs.Limits.{stampDigits}
 use Rattle.theorems.proofs.Laws.Each.{Each}
@@ -65,6 +66,11 @@ PacedBy (busy x m) next ended versions =
 abbrev pub Paced : Level → Type 0
 Paced v = PacedBy (v .activity) (v .next) (length (v .ended)) (length (v .versions))
 
+-- so each manager that started adds 16 versions at most
+pub paced-versions : (b : Activity) (next ended versions : ℕ) → PacedBy b next ended versions → versions ≤ maxWrites * (ended + cond (isBusy b) 1 0)
+paced-versions idle next ended versions q = omega (arith, q .1)
+paced-versions (busy x m) next ended versions q = omega (arith, q .1 .1 .1 .0, q .1 .1 .1 .1)
+
 after-paced : (v : Level) (ws : List Fork) (vs : List Version) (x : Fork) (m : Manager) → PacedBy (busy x m) (v .next) (length (v .ended)) (length vs) → Paced (after v ws vs x m)
 unfolding after
 after-paced v ws vs x m q = elim (truth (isRunning (m .ending))) [
@@ -85,17 +91,23 @@ begun-paced p st l v (x ∷ xs) q b =
     let writes : started p (readAt p st l x) l (v .next) (x .message) .writes ≡ 0 = ap (λ c. c .writes) c in
     after-paced v xs (v .versions) x _ (idly .0, (omega (arith, stamp), (omega (arith, forks), (omega (arith, writes), omega (arith, idly .1)))))
 
+-- the versions that a step adds are as many as it writes
+written-length : (m : Manager) (ws : List Written) (vs : List Version) → length (versionsAfter m (effect.Write ws) vs) ≡ length ws + length vs
+written-length m ws vs =
+    length-append (map (versionOf (m .stamp)) ws) vs ∙ ap (λ n. n + length vs) (length-map ws (versionOf (m .stamp)))
+
 effect-paced : (p : Program) (m m' : Manager) (x : Fork) (e : Effect) (next ended : ℕ) (vs : List Version) → counts m' ≡ oneMore (grown (counts m) e) → Fits p m e → PacedBy (busy x m) next ended (length vs) → PacedBy (busy x m') next ended (length (versionsAfter m e vs))
 effect-paced p m m' x effect.Nothing next ended vs c f b =
     let stamp : m' .stamp ≡ m .stamp = ap (λ c. c .stamp) c in
     let forks : m' .forks ≡ m .forks = ap (λ c. c .forks) c in
     let writes : m' .writes ≡ m .writes = ap (λ c. c .writes) c in
     (b .0, (omega (arith, stamp, forks, b .1 .0), (omega (arith, forks, b .1 .1 .0), (omega (arith, writes, b .1 .1 .1 .0), omega (arith, writes, b .1 .1 .1 .1)))))
-effect-paced p m m' x (effect.Write o k w) next ended vs c f b =
+effect-paced p m m' x (effect.Write ws) next ended vs c f b =
     let stamp : m' .stamp ≡ m .stamp = ap (λ c. c .stamp) c in
     let forks : m' .forks ≡ m .forks = ap (λ c. c .forks) c in
-    let writes : m' .writes ≡ m .writes + 1 = ap (λ c. c .writes) c in
-    (b .0, (omega (arith, stamp, forks, b .1 .0), (omega (arith, forks, b .1 .1 .0), (omega (arith, writes, f .1), omega (arith, writes, b .1 .1 .1 .1)))))
+    let writes : m' .writes ≡ m .writes + length ws = ap (λ c. c .writes) c in
+    let more = written-length m ws vs in
+    (b .0, (omega (arith, stamp, forks, b .1 .0), (omega (arith, forks, b .1 .1 .0), (omega (arith, writes, f .1), omega (arith, more, writes, b .1 .1 .1 .1)))))
 effect-paced p m m' x (effect.Fork u message) next ended vs c f b =
     let stamp : m' .stamp ≡ m .stamp + 1 = ap (λ c. c .stamp) c in
     let forks : m' .forks ≡ m .forks + 1 = ap (λ c. c .forks) c in

@@ -15,13 +15,13 @@ use Rattle.scripts.specs.Manager.{started, stepped}
 use Rattle.scripts.specs.State.{Manager}
 use Rattle.scripts.specs.Effect.{Effect}
 use Rattle.scripts.specs.Effect as effect
-use Rattle.scripts.proofs.Laws.Counts.{Counts, counts, grown, oneMore, started-counts, stepped-counts}
+use Rattle.scripts.proofs.Laws.Counts.{counts, started-counts, stepped-counts}
 use Rattle.scripts.proofs.Laws.Effects.{Sound, Fits, stepped-fits}
 use Rattle.model.specs.Limits.{maxManagers}
 use Rattle.model.specs.Fork.{Fork, childOf}
 use Rattle.model.specs.DepthFirst.{Progress, newTally, tallyAt, fieldNow, close, RunFork, effected, finish, runFork}
 use Rattle.theorems.proofs.Laws.Lists.{modify-other}
-use Rattle.theorems.proofs.Laws.Invariant.Preserved.{other-level}
+use Rattle.theorems.proofs.Laws.Invariant.Preserved.{grown-level, other-level}
 
 -- a manager that runs makes one script step; one that has ended is closed
 pub finish-step : (run : RunFork) (k : ℕ) (p : Program) (l : ℕ) (x : Fork) (m : Manager) (g : Progress) → isRunning (m .ending) ≡ true → finish run (suc k) p l x m g ≡ finish run k p l x (stepped p (fieldNow p g) m .manager) (effected run l x m (stepped p (fieldNow p g) m .effect) g)
@@ -42,11 +42,6 @@ close-leaves : (l : ℕ) (x : Fork) (m : Manager) (g : Progress) (j : ℕ) → (
 unfolding close
 close-leaves l x m g j n = modify-other newTally l j _ (g .levels) n
 
-same-level : (c : Counts) (e : Effect) → oneMore (grown c e) .level ≡ c .level
-same-level c effect.Nothing = refl
-same-level c (effect.Write o k v) = refl
-same-level c (effect.Fork u message) = refl
-
 module _ (p : Program) (so : Sound p) (run : RunFork) (r : Leaves p run) (l : ℕ) (h : l < p .levels) (x : Fork) where
   -- a level that does not dominate l does not dominate a level above l
   not-above : (j u : ℕ) → j < p .levels → u < p .levels → p .dom j l ≡ false → strictly (p .dom) u l ≡ true → p .dom j u ≡ false
@@ -62,7 +57,7 @@ module _ (p : Program) (so : Sound p) (run : RunFork) (r : Leaves p run) (l : �
   effected-at : (m : Manager) (e : Effect) (g : Progress) (j : ℕ) → j < p .levels → m .level ≡ l → Fits p m e → ((u : ℕ) → u < p .levels → strictly (p .dom) u l ≡ true → p .dom j u ≡ false) → tallyAt (effected run l x m e g) j ≡ tallyAt g j
   unfolding effected
   effected-at m effect.Nothing g j hj q f n = refl
-  effected-at m (effect.Write o k v) g j hj q f n = refl
+  effected-at m (effect.Write ws) g j hj q f n = refl
   effected-at m (effect.Fork u message) g j hj q f n = elim (truth (ltb (length (tallyAt g u .ended)) maxManagers)) [
     | holds e ↦ rw e (r u (childOf l x m message) g (f .0) j hj (n u (f .0) (rw (sym q) (f .1 .0))))
     | fails e ↦ rw e refl
@@ -80,7 +75,7 @@ module _ (p : Program) (so : Sound p) (run : RunFork) (r : Leaves p run) (l : �
     | fails e ↦ rw e (close-leaves l x m g j (λ e. not-both (p .dom j l) (rw (sym e) (so .lattice .order .itself l h)) d))
     | holds e ↦
         let s = stepped p (fieldNow p g) m in
-        let level : s .manager .level ≡ l = ap (λ c. c .level) (stepped-counts p (fieldNow p g) m) ∙ same-level (counts m) (s .effect) ∙ q in
+        let level : s .manager .level ≡ l = ap (λ c. c .level) (stepped-counts p (fieldNow p g) m) ∙ grown-level (counts m) (s .effect) ∙ q in
         rw e (finish-leaves k (s .manager) (effected run l x m (s .effect) g) level j hj d
         ∙ effected-at m (s .effect) g j hj q (stepped-fits p (fieldNow p g) m so (rw q h)) (λ u hu t. not-above j u hj hu d t))
   ]

@@ -3,21 +3,24 @@
 use Prim.Native.Nat.{ℕ, _+_, _-_, _*_, _≤_, _<_, _^_}
 use mathlib.Core.Path.{_≡_, sym, _∙_, ap, subst}
 use mathlib.Core.Bool.{true, cond}
-use mathlib.Core.List.{List, _∷_, map}
+use mathlib.Core.List.{List, [], _∷_, map}
 use native.Mathlib.Omega.{arith}
 use lib.ListN.{length}
-use Rattle.session.specs.Limits.{fields}
-use Rattle.session.specs.Parts.{levelCount, objectCount}
+use Rattle.session.specs.Parts.{levelCount}
 use Rattle.session.specs.Questions.{verdictOf}
+use Rattle.session.specs.Meaning.{Numbered}
 use Rattle.session.specs.Program.{programOf}
 use Rattle.session.specs.declared.Value.{Value}
 use Rattle.session.specs.declared.Message.{Message}
 use Rattle.session.specs.declared.Verdict.the-variants.{Accepted}
 use Rattle.scripts.specs.Limits.{maxWrites, maxForks}
+use Rattle.scripts.specs.Existence.{existence}
 use Rattle.scripts.specs.Ending.{isRunning}
 use Rattle.scripts.specs.Manager.{stepped}
 use Rattle.scripts.specs.Valid.{Valid, Startable}
+use Rattle.scripts.specs.Valid as valid
 use Rattle.scripts.specs.State.{Manager}
+use Rattle.scripts.specs.Effect.{Written}
 use Rattle.scripts.specs.Effect as effect
 use Rattle.scripts.proofs.Laws.Accepted.{EffectPresent}
 use Rattle.scripts.proofs.Laws.Effects.{Fits, stepped-fits}
@@ -39,24 +42,25 @@ use Rattle.theorems.proofs.Laws.Invariant.Versions.{Falling}
 use Rattle.theorems.proofs.Laws.Safe.Reads.{last-below}
 use Rattle.theorems.proofs.Laws.Safe.Asked.{first-entry}
 use Rattle.theorems.proofs.Laws.Order.Accepted.{sound}
-use Rattle.theorems.proofs.Laws.Code.Bounds.{Fits32, PacedBy, Paced}
+use Rattle.theorems.proofs.Laws.Code.Bounds.{Fits32, PacedBy, Paced, paced-versions}
 use Rattle.theorems.proofs.Laws.Code.Reached.{Sendable, Runs, ReachedState, present, next-paced, next-startable}
 
--- the versions and the write stamp of a level that keeps its limits
-versions-low : (b : Activity) (next ended versions : ℕ) → ended + cond (isBusy b) 1 0 ≤ maxManagers → PacedBy b next ended versions → versions ≤ maxManagers * maxWrites
-versions-low idle next ended versions t g = omega (arith, g .1)
-versions-low (busy x m) next ended versions t g = omega (arith, g .1 .1 .1 .0, g .1 .1 .1 .1)
-
+-- the write stamp of a level that keeps its limits
 stamp-low : (b : Activity) (next ended versions : ℕ) → ended + cond (isBusy b) 1 0 ≤ maxManagers → PacedBy b next ended versions → stampBy b next < 2 ^ 16
 stamp-low idle next ended versions t g = omega (arith, g .0)
 stamp-low (busy x m) next ended versions t g = omega (arith, g .0, g .1 .0, g .1 .1 .0)
 
--- one more version, where the running manager may still write
-one-more : (v : Level) (x : Fork) (m : Manager) → v .activity ≡ busy x m → Bounded v → Paced v → m .writes < maxWrites → length (v .versions) < maxManagers * maxWrites
-one-more v x m q t b w =
+-- so many more versions, where the running manager may still write them
+more-versions : (v : Level) (x : Fork) (m : Manager) (n : ℕ) → v .activity ≡ busy x m → Bounded v → Paced v → m .writes + n ≤ maxWrites → length (v .versions) + n ≤ maxManagers * maxWrites
+more-versions v x m n q t b w =
     let count : startedCount v ≡ length (v .ended) + 1 = ap (λ a. length (v .ended) + cond (isBusy a) 1 0) q in
     let now : PacedBy (busy x m) (v .next) (length (v .ended)) (length (v .versions)) = rw q at b in
     omega (arith, count, t .room, now .1 .1 .1 .1)
+
+-- what is written, at the manager's level and with numbers
+written-both : (s : List ℕ) {k l : ℕ} → k ≡ l → (ws : List Written) → valid.Each (λ w. programOf s .level (w .object) ≡ k) ws → valid.Each (λ w. Numbered s (w .object) × (w .field ≤ existence)) ws → valid.Each (λ w. (programOf s .level (w .object) ≡ l) × (Numbered s (w .object) × (w .field ≤ existence))) ws
+written-both s q [] f g = tt
+written-both s q (w ∷ ws) f g = ((f .0 ∙ q, g .0), written-both s q ws (f .1) (g .1))
 
 module _ (s : List ℕ) (a : verdictOf s ≡ Accepted) (st : State) (i : ReachedState s st) (l : ℕ) (h : l < levelCount s) where
   -- a level has at most 32 managers, ended, running and waiting
@@ -74,7 +78,7 @@ module _ (s : List ℕ) (a : verdictOf s ≡ Accepted) (st : State) (i : Reached
   -- it has room for its versions, 16 of each manager
   pub live-versions : length (levelAt st l .versions) ≤ maxManagers * maxWrites
   live-versions =
-      versions-low (levelAt st l .activity) (levelAt st l .next) (length (levelAt st l .ended)) (length (levelAt st l .versions)) (omega (arith, live-room)) paced
+      omega (arith, live-room, paced-versions (levelAt st l .activity) (levelAt st l .next) (length (levelAt st l .ended)) (length (levelAt st l .versions)) paced)
 
   -- newest first, their write stamps never rise
   pub live-falling : Falling (levelAt st l .versions)
@@ -111,12 +115,12 @@ module _ (s : List ℕ) (a : verdictOf s ≡ Accepted) (st : State) (i : Reached
     fits : (read : ℕ → ℕ → Value) → Fits (programOf s) m (stepped (programOf s) read m .effect)
     fits read = stepped-fits (programOf s) read m (sound s a) (present s (m .level) (live-runs .0 .placed))
 
-    -- what it writes is a field of a present object of the level, and there is room for the version
-    pub live-write : (read : ℕ → ℕ → Value) (o k : ℕ) (w : Value) → stepped (programOf s) read m .effect ≡ effect.Write o k w → (length (levelAt st l .versions) < maxManagers * maxWrites) × ((programOf s .level o ≡ l) × ((o < objectCount s) × (k < fields)))
-    live-write read o k w e =
+    -- what it writes are fields, or the existence, of objects of the level that have numbers, and there is room for the versions
+    pub live-write : (read : ℕ → ℕ → Value) (ws : List Written) → stepped (programOf s) read m .effect ≡ effect.Write ws → (length (levelAt st l .versions) + length ws ≤ maxManagers * maxWrites) × valid.Each (λ w. (programOf s .level (w .object) ≡ l) × (Numbered s (w .object) × (w .field ≤ existence))) ws
+    live-write read ws e =
         let f = subst (Fits (programOf s) m) e (fits read) in
         let g = subst (EffectPresent s) e (stepped-present s a read m (live-runs .0) (live-runs .1 .1)) in
-        (one-more (levelAt st l) x m q (i .reachable .steady .bounded l) paced (f .1), (f .0 ∙ live-runs .1 .0, g))
+        (more-versions (levelAt st l) x m (length ws) q (i .reachable .steady .bounded l) paced (f .1), written-both s (live-runs .1 .0) ws (f .0) g)
 
     entries : entriesIn st l ≡ runningEntry l x (m .forks) ∷ map (waitingEntry l) (levelAt st l .waiting)
     entries = ap (λ b. entriesBy l b (levelAt st l .waiting)) q

@@ -1,5 +1,5 @@
--- What holds of every state that a run of an accepted session reaches: the messages that wait are to present objects, and the managers
--- that run are valid. So the code may start and step them. Assumes nothing.
+-- What holds of every state that a run of an accepted session reaches: the messages that wait are to objects that have numbers, and the
+-- managers that run are valid. So the code may start and step them. Assumes nothing.
 use Prim.Native.Nat.{ℕ, _+_, _*_, _-_, _^_, _≤_, _<_}
 use mathlib.Core.Path.{_≡_, sym, _∙_, ap}
 use mathlib.Core.Bool.{true}
@@ -7,15 +7,16 @@ use mathlib.Core.List.{List, [], _∷_}
 use native.Mathlib.Omega.{arith}
 use lib.ListN.{length}
 use Rattle.session.specs.Limits.{names, maxLevels}
-use Rattle.session.specs.Parts.{levelCount, objectCount}
+use Rattle.session.specs.Parts.{levelCount}
 use Rattle.session.specs.Questions.{verdictOf}
-use Rattle.session.specs.Meaning.{rootOf}
+use Rattle.session.specs.Meaning.{Numbered, rootOf}
 use Rattle.session.specs.Program.{programOf}
 use Rattle.session.specs.declared.Verdict.the-variants.{Accepted}
 use Rattle.session.proofs.Laws.Lists.{holds, fails, truth}
 use Rattle.session.proofs.Laws.Verdict.{accepted}
 use Rattle.session.proofs.Laws.Numbering.{few-levels}
 use Rattle.session.proofs.Laws.Accepted.{root-present, root-named}
+use Rattle.session.proofs.Laws.Numbers.{number-own}
 use Rattle.scripts.specs.Limits.{maxWrites, maxScriptSteps}
 use Rattle.scripts.specs.Ending.{isRunning}
 use Rattle.scripts.specs.Manager.{stepped}
@@ -46,9 +47,9 @@ use Rattle.theorems.proofs.Laws.Invariant.Contained.{AllContained, read
 use Rattle.theorems.proofs.Laws.Code.Bounds.{Fits32, PacedBy, Paced}
 use Rattle.theorems.proofs.Laws.Code.Reachable.{Reachable, reachable-start, reachable-step}
 
--- a fork's message is to a present object, by a name at most 15
+-- a fork's message is to an object that has a number, by a name at most 15
 abbrev pub Sendable : List ℕ → Fork → Type 0
-Sendable s x = (x .message .object < objectCount s) × (x .message .name < names)
+Sendable s x = Numbered s (x .message .object) × (x .message .name < names)
 
 -- the manager that runs at level l is valid, is one of that level and has not ended
 abbrev pub Runs : List ℕ → ℕ → Activity → Type 0
@@ -154,7 +155,7 @@ module _ (s : List ℕ) (a : verdictOf s ≡ Accepted) where
     where
       by : (e : Effect) → EffectPresent s e → Sends s (arrivalOf l x m e)
       by effect.Nothing g = unfold Sends in tt
-      by (effect.Write o k w) g = unfold Sends in tt
+      by (effect.Write ws) g = unfold Sends in tt
       by (effect.Fork u message) g = unfold Sends childOf in g
 
   few : programOf s .levels ≤ maxLevels
@@ -167,7 +168,7 @@ module _ (s : List ℕ) (a : verdictOf s ≡ Accepted) where
       record {
         reachable = reachable-start (programOf s) (sound s a) few (rootOf s);
         waiting = λ l h.
-            each-level (programOf s) (sound s a) few (rootOf s) (λ v. Each (Sendable s) (v .waiting)) (unfold Each in ((root-present s a, root-named s a), tt)) (unfold Each in tt) l;
+            each-level (programOf s) (sound s a) few (rootOf s) (λ v. Each (Sendable s) (v .waiting)) (unfold Each in ((number-own s (rootOf s .object) (root-present s a), root-named s a), tt)) (unfold Each in tt) l;
         activity = λ l h. each-level (programOf s) (sound s a) few (rootOf s) (λ v. Runs s l (v .activity)) tt tt l;
         ended = λ l h. each-level (programOf s) (sound s a) few (rootOf s) (λ v. Each Kept (v .ended)) (unfold Each in tt) (unfold Each in tt) l;
       }

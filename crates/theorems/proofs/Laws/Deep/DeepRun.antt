@@ -109,7 +109,7 @@ module _ (p : Program) (so : Sound p) (left : ℕ) (ih : RunsForks p left) (u : 
   advances : (st : State) (g : Progress) (m : Manager) (k : ℕ) → Working p st g u c m (suc k) → isRunning (m .ending) ≡ true → (e : Effect) → stepped p (fieldNow p g) m .effect ≡ e → Advances p st g (effected (runFork left p) u c m e g) u c (stepped p (fieldNow p g) m .manager) k
   unfolding effected
   advances st g m k w r effect.Nothing q = nothing-advances p so st g u hu c m k w r q
-  advances st g m k w r (effect.Write o f v) q = write-advances p so st g u hu c m k w r o f v q
+  advances st g m k w r (effect.Write ws) q = write-advances p so st g u hu c m k w r ws q
   advances st g m k w r (effect.Fork t message) q = elim (truth (ltb (length (tallyAt g t .ended)) maxManagers)) [
     | holds room ↦
         let ht = target p so st g u hu c m k w r t message q in

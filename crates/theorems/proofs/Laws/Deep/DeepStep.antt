@@ -3,7 +3,7 @@
 use Prim.Native.Nat.{ℕ, suc, _+_, _≤_, _<_}
 use mathlib.Core.Path.{_≡_, refl, sym, _∙_, ap}
 use mathlib.Core.Bool.{true, false, cond, _&&_}
-use mathlib.Core.List.{List, [], _∷_}
+use mathlib.Core.List.{List, [], _∷_, _++_, map}
 use native.Mathlib.Decide.{ℕ-discrete}
 use native.Mathlib.Omega.{arith}
 use borrow.Author.Tests.{ne-eqb}
@@ -16,19 +16,20 @@ use Rattle.scripts.specs.Existence.{initially}
 use Rattle.scripts.specs.Ending.{isRunning}
 use Rattle.scripts.specs.Manager.{stepped}
 use Rattle.scripts.specs.State.{Manager, Stepped}
-use Rattle.scripts.specs.Effect.{Effect}
+use Rattle.scripts.specs.Effect.{Written, Effect}
 use Rattle.scripts.specs.Effect as effect
 use Rattle.scripts.proofs.Laws.Counts.{Counts, counts, grown, oneMore, stepped-counts}
 use Rattle.scripts.proofs.Laws.Effects.{Sound, Fits, stepped-fits}
 use Rattle.scripts.proofs.Laws.Endings.{running-few}
 use Rattle.scripts.proofs.Laws.Within.{stepped-within}
 use Rattle.model.specs.Fork.{Fork, childStamp}
-use Rattle.model.specs.Level.{Version, after, newest}
+use Rattle.model.specs.Level.{Version, versionOf, after, newest}
 use Rattle.model.specs.Step.{State, levelAt, none, at, versionsAfter, arrivalOf, moveAt, stepAt}
-use Rattle.model.specs.DepthFirst.{Written, Tally, Progress, newTally, tallyAt, current, fieldNow}
-use Rattle.theorems.proofs.Laws.Each.{Each, each-map}
+use Rattle.model.specs.DepthFirst.{Tally, Progress, newTally, tallyAt, current, fieldNow}
+use Rattle.theorems.proofs.Laws.Each.{Each, each-map, each-any, each-seen, each-append, each-made}
 use Rattle.theorems.proofs.Laws.Invariant.Forks.{ForkInvariant}
-use Rattle.theorems.proofs.Laws.Invariant.Preserved.{other-level}
+use Rattle.theorems.proofs.Laws.Invariant.Preserved.{grown-level, other-level}
+use Rattle.theorems.proofs.Laws.Invariant.Measure.{grown-steps}
 use Rattle.theorems.proofs.Laws.Invariant.WriteStamps.{after-versions}
 use Rattle.theorems.proofs.Laws.Invariant.Became.{level-stepped, level-internal}
 use Rattle.theorems.proofs.Laws.Invariant.State.{StateInvariant, steady-preserves}
@@ -37,30 +38,21 @@ use Rattle.theorems.proofs.Laws.Deep.Quiescent.{quiescent-level}
 use Rattle.theorems.proofs.Laws.Deep.Working.{endOf, FieldsAgree, fields-legible, Around, Working, working-safe, working-move}
 use Rattle.theorems.proofs.Laws.Deep.Ready.{Leads, leads-one, leads-both, leads-none, fields-kept, around-next}
 
--- a write stamp does not fall in a step, and a step counts its fork
+-- a write stamp does not fall in a step
 stamp-grown : (c : Counts) (e : Effect) → c .stamp ≤ oneMore (grown c e) .stamp
 stamp-grown c effect.Nothing = omega arith
-stamp-grown c (effect.Write o k v) = omega arith
+stamp-grown c (effect.Write ws) = omega arith
 stamp-grown c (effect.Fork u message) = omega arith
-
-steps-grown : (c : Counts) (e : Effect) → oneMore (grown c e) .steps ≡ c .steps + 1
-steps-grown c effect.Nothing = refl
-steps-grown c (effect.Write o k v) = refl
-steps-grown c (effect.Fork u message) = refl
-
-level-grown : (c : Counts) (e : Effect) → oneMore (grown c e) .level ≡ c .level
-level-grown c effect.Nothing = refl
-level-grown c (effect.Write o k v) = refl
-level-grown c (effect.Fork u message) = refl
 
 -- versions lie at or below the write stamp
 versions-written : (m : Manager) (e : Effect) (vs : List Version) (b : ℕ) → m .stamp ≤ b → Each (λ w. w .stamp ≤ m .stamp) vs → Each (λ w. w .stamp ≤ b) (versionsAfter m e vs)
-unfolding Each
-versions-written m effect.Nothing vs b h e = each-map (λ w. w .stamp ≤ m .stamp) (λ w. w .stamp ≤ b) (λ w g. omega (arith, g)) vs e
-versions-written m (effect.Write o k v) vs b h e =
-    (h, each-map (λ w. w .stamp ≤ m .stamp) (λ w. w .stamp ≤ b) (λ w g. omega (arith, g)) vs e)
-versions-written m (effect.Fork u message) vs b h e =
-    each-map (λ w. w .stamp ≤ m .stamp) (λ w. w .stamp ≤ b) (λ w g. omega (arith, g)) vs e
+versions-written m e vs b h low = by e (each-map (λ w. w .stamp ≤ m .stamp) (λ w. w .stamp ≤ b) (λ w g. omega (arith, g)) vs low)
+  where
+    by : (e : Effect) → Each (λ w. w .stamp ≤ b) vs → Each (λ w. w .stamp ≤ b) (versionsAfter m e vs)
+    by effect.Nothing l = l
+    by (effect.Write ws) l =
+        each-append (λ w. w .stamp ≤ b) (map (versionOf (m .stamp)) ws) vs (each-made (versionOf (m .stamp)) (λ w. w .stamp ≤ b) ws (each-any _ (λ w. h) ws)) l
+    by (effect.Fork u message) l = l
 
 -- a manager's level takes nothing else of what was there before
 after-quiescent-level : (t t' : Tally) (vs vs' : List Version) (c : Fork) (m : Manager) → t ≡ t' → after (quiescent-level t vs) [] vs' c m ≡ after (quiescent-level t' vs') [] vs' c m
@@ -90,14 +82,14 @@ module _ (p : Program) (so : Sound p) (st : State) (g : Progress) (u : ℕ) (hu 
   pub working-next : (st' : State) (g' : Progress) → levelAt st' u ≡ levelAt (stepAt p u st) u → tallyAt g' u ≡ tallyAt g u → childStamp (c .stamp) (c .depth) (made .manager .forks + 1) ≤ endOf c → Around p st' g' u c (childStamp (c .stamp) (c .depth) (made .manager .forks + 1)) → Working p st' g' u c (made .manager) k
   working-next st' g' q t room a =
       let grows : m .stamp ≤ made .manager .stamp = rw (ap (λ c. c .stamp) answered) (stamp-grown (counts m) (made .effect)) in
-      let steps : made .manager .steps ≡ m .steps + 1 = ap (λ c. c .steps) answered ∙ steps-grown (counts m) (made .effect) in
+      let steps : made .manager .steps ≡ m .steps + 1 = ap (λ c. c .steps) answered ∙ grown-steps (counts m) (made .effect) in
       record {
         versions = versionsAfter m (made .effect) (w .versions);
         is = q ∙ own-next ∙ after-quiescent-level (tallyAt g u) (tallyAt g' u) (w .versions) (versionsAfter m (made .effect) (w .versions)) c (made .manager) (sym t);
         written = versions-written m (made .effect) (w .versions) (made .manager .stamp) grows (w .written);
         early = rw (ap (λ t. t .ended) t) (w .early);
         positive = omega (arith, grows, w .positive);
-        level = ap (λ c. c .level) answered ∙ level-grown (counts m) (made .effect) ∙ w .level;
+        level = ap (λ c. c .level) answered ∙ grown-level (counts m) (made .effect) ∙ w .level;
         within = stepped-within p so (fieldNow p g) (fields-legible p so st g (w .around .steady .contained) (w .around .fields)) u m hu (w .level) r (w .within);
         steps = omega (arith, steps, w .steps);
         live = running-few p (fieldNow p g) m;
@@ -112,17 +104,19 @@ pub record Advances (p : Program) (st : State) (g g' : Progress) (u : ℕ) (c : 
   pub working : Working p to g' u c m k
 
 -- the fields after a write, in both runs
-abbrev pub wrote : ℕ → ℕ → Value → Progress → Progress
-wrote o k v g =
-    record { written = record { object = o; field = k; value = v } ∷ g .written; levels = g .levels }
+abbrev pub wrote : List Written → Progress → Progress
+wrote ws g = record { written = ws ++ g .written; levels = g .levels }
 
-newest-wrote : (i j : Value) (o k s o' k' : ℕ) (v : Value) (vs : List Version) (ws : List Written) → newest i o' k' vs ≡ current j o' k' ws → newest i o' k' (record { stamp = s; object = o; field = k; value = v } ∷ vs) ≡ current j o' k' (record { object = o; field = k; value = v } ∷ ws)
+newest-wrote : (i j : Value) (s o k : ℕ) (ws : List Written) (vs : List Version) (gs : List Written) → newest i o k vs ≡ current j o k gs → newest i o k (map (versionOf s) ws ++ vs) ≡ current j o k (ws ++ gs)
 unfolding newest current
-newest-wrote i j o k s o' k' v vs ws e = ap (cond (eqb o o' && eqb k k') v) e
+newest-wrote i j s o k [] vs gs e = e
+newest-wrote i j s o k (w ∷ ws) vs gs e =
+    ap (cond (eqb (w .object) o && eqb (w .field) k) (w .value)) (newest-wrote i j s o k ws vs gs e)
 
-current-other : (i : Value) (o k o' k' : ℕ) (v : Value) (ws : List Written) → (o ≡ o' → ⊥) → current i o' k' (record { object = o; field = k; value = v } ∷ ws) ≡ current i o' k' ws
-unfolding current
-current-other i o k o' k' v ws n = rw (ne-eqb o o' n) refl
+current-other : (i : Value) (o k : ℕ) (ws gs : List Written) → Each (λ w. w .object ≡ o → ⊥) ws → current i o k (ws ++ gs) ≡ current i o k gs
+unfolding current Each
+current-other i o k [] gs n = refl
+current-other i o k (w ∷ ws) gs n = rw (ne-eqb (w .object) o (n .0)) (current-other i o k ws gs (n .1))
 
 module _ (p : Program) (so : Sound p) (st : State) (g : Progress) (u : ℕ) (hu : u < p .levels) (c : Fork) (m : Manager) (k : ℕ) (w : Working p st g u c m (suc k)) (r : isRunning (m .ending) ≡ true) where
   abbrev pub after-it : Stepped
@@ -186,26 +180,26 @@ module _ (p : Program) (so : Sound p) (st : State) (g : Progress) (u : ℕ) (hu 
       ]
 
   -- a write
-  pub write-advances : (o f : ℕ) (v : Value) → after-it .effect ≡ effect.Write o f v → Advances p st g (wrote o f v g) u c (after-it .manager) k
-  write-advances o f v e =
-      internal-advances (sends-next p so st g u hu c m k w r ∙ ap (arrivalOf u c m) e) (wrote o f v g) refl fields
+  pub write-advances : (ws : List Written) → after-it .effect ≡ effect.Write ws → Advances p st g (wrote ws g) u c (after-it .manager) k
+  write-advances ws e =
+      internal-advances (sends-next p so st g u hu c m k w r ∙ ap (arrivalOf u c m) e) (wrote ws g) refl fields
       (ap (λ c. c .forks) answered-it ∙ ap (λ e. oneMore (grown (counts m) e) .forks) e)
     where
-      place : p .level o ≡ u
-      place = fitted (after-it .effect) e fits .0 ∙ w .level
+      places : Each (λ w. p .level (w .object) ≡ m .level) ws
+      places = each-seen _ ws (fitted (after-it .effect) e fits .0)
         where
-          fitted : (e : Effect) → e ≡ effect.Write o f v → Fits p m e → Fits p m (effect.Write o f v)
+          fitted : (e : Effect) → e ≡ effect.Write ws → Fits p m e → Fits p m (effect.Write ws)
           fitted e q t = rw q at t
 
-      written-at : levelAt (stepAt p u st) u .versions ≡ record { stamp = m .stamp; object = o; field = f; value = v } ∷ w .versions
+      written-at : levelAt (stepAt p u st) u .versions ≡ map (versionOf (m .stamp)) ws ++ w .versions
       written-at = versions-next ∙ ap (λ e. versionsAfter m e (w .versions)) e
 
-      fields : FieldsAgree p (stepAt p u st) (wrote o f v g)
+      fields : FieldsAgree p (stepAt p u st) (wrote ws g)
       fields o' k' = elim (ℕ-discrete (p .level o') u) [
         | yes q ↦
             ap (λ j. newest (initially p o' k') o' k' (levelAt (stepAt p u st) j .versions)) q
             ∙ ap (newest (initially p o' k') o' k') written-at
-            ∙ newest-wrote (initially p o' k') (initially p o' k') o f (m .stamp) o' k' v (w .versions) (g .written) (
+            ∙ newest-wrote (initially p o' k') (initially p o' k') (m .stamp) o' k' ws (w .versions) (g .written) (
             ap (newest (initially p o' k') o' k') (sym versions-before)
             ∙ ap (λ j. newest (initially p o' k') o' k' (levelAt st j .versions)) (sym q)
             ∙ w .around .fields o' k'
@@ -213,5 +207,7 @@ module _ (p : Program) (so : Sound p) (st : State) (g : Progress) (u : ℕ) (hu 
         | no n ↦
             ap (λ l. newest (initially p o' k') o' k' (l .versions)) (level-internal p so st here u hu (sends-next p so st g u hu c m k w r ∙ ap (arrivalOf u c m) e) (p .level o') n)
             ∙ w .around .fields o' k'
-            ∙ sym (current-other (initially p o' k') o f o' k' v (g .written) (λ q. n (ap (p .level) (sym q) ∙ place)))
+            ∙ sym (current-other (initially p o' k') o' k' ws (g .written) (
+            each-map (λ x. p .level (x .object) ≡ m .level) (λ x. x .object ≡ o' → ⊥) (λ x t q. n (ap (p .level) (sym q) ∙ t ∙ w .level)) ws places
+            ))
       ]

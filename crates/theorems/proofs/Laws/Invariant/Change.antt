@@ -62,8 +62,8 @@ same-forks l v x m m' versions q same =
 effect-change : (p : Program) (l : ℕ) (v : Level) (x : Fork) (m m' : Manager) (e : Effect) → v .activity ≡ busy x m → m .level ≡ l → counts m' ≡ oneMore (grown (counts m) e) → Fits p m e → 0 < writeStamp v → Change p l (entriesOf l v) (entriesOf l (after v (v .waiting) (versionsAfter m e (v .versions)) x m')) (arrivalOf l x m e)
 effect-change p l v x m m' effect.Nothing q h c f z =
     internal refl (same-forks l v x m m' (v .versions) q (ap (λ c. c .forks) c))
-effect-change p l v x m m' (effect.Write o k w) q h c f z =
-    internal refl (same-forks l v x m m' (versionsAfter m (effect.Write o k w) (v .versions)) q (ap (λ c. c .forks) c))
+effect-change p l v x m m' (effect.Write ws) q h c f z =
+    internal refl (same-forks l v x m m' (versionsAfter m (effect.Write ws) (v .versions)) q (ap (λ c. c .forks) c))
 effect-change p l v x m m' (effect.Fork u message) q h c f z =
     let W = map (waitingEntry l) (v .waiting) in
     let more : m' .forks ≡ m .forks + 1 = ap (λ c. c .forks) c in

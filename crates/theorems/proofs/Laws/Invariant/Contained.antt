@@ -3,13 +3,11 @@
 use Prim.Native.Nat.{ℕ, _-_, _<_}
 use mathlib.Core.Path.{_≡_, refl, sym, _∙_, ap}
 use mathlib.Core.Bool.{true, _&&_}
-use mathlib.Core.List.{List, [], _∷_}
+use mathlib.Core.List.{List, [], _∷_, map}
 use native.Mathlib.Decide.{ℕ-discrete}
-use native.Mathlib.Omega.{arith}
 use borrow.Author.Tests.{eqb-true, ltb-true}
 use lib.Dec.{eqb, leb, ltb}
 use Rattle.lattice.proofs.Laws.Range.{and-left, and-right}
-use Rattle.session.specs.Limits.{fields}
 use Rattle.session.specs.Program.{Program, seenBy}
 use Rattle.session.specs.declared.Value.{Value}
 use Rattle.session.proofs.Laws.Lists.{holds, fails, truth}
@@ -21,13 +19,13 @@ use Rattle.scripts.specs.State.{Manager}
 use Rattle.scripts.specs.Effect.{Effect}
 use Rattle.scripts.specs.Effect as effect
 use Rattle.scripts.proofs.Laws.Effects.{Readable, Legible, Sound}
-use Rattle.scripts.proofs.Laws.Within.{Within, started-within, started-seen, stepped-within, stepped-seen, Reaches, stepped-reaches, Lawful, Lawfully, stepped-lawful, WritesFields, stepped-fields}
+use Rattle.scripts.proofs.Laws.Within.{Within, started-within, started-seen, stepped-within, stepped-seen, Reaches, stepped-reaches, Lawful, Lawfully, stepped-lawful}
 use Rattle.model.specs.Limits.{maxManagers}
 use Rattle.model.specs.Lists.{inserted}
 use Rattle.model.specs.Fork.{Fork, childOf}
-use Rattle.model.specs.Level.{Version, Activity, idle, busy, Level, startedCount, arrived, after, isOf, newest, newestTo}
+use Rattle.model.specs.Level.{Version, versionOf, Activity, idle, busy, Level, startedCount, arrived, after, isOf, newest, newestTo}
 use Rattle.model.specs.Step.{State, levelAt, viewOf, readAt, Arrival, none, at, versionsAfter, arrivalOf, begun, advanced, moved, moveAt, stepAt}
-use Rattle.theorems.proofs.Laws.Each.{Each, each-take, each-inserted}
+use Rattle.theorems.proofs.Laws.Each.{Each, each-seen, each-append, each-made, each-take, each-inserted}
 use Rattle.theorems.proofs.Laws.Steps.Reads.{read-own, read-below, reads-direct}
 use Rattle.theorems.proofs.Laws.Steps.Moves.{AtLevel, move-is}
 use Rattle.theorems.proofs.Laws.Invariant.Forks.{ForkInvariant}
@@ -41,10 +39,9 @@ abbrev pub Framed : Program → ℕ → Activity → Type 0
 Framed p l idle = Unit
 Framed p l (busy x m) = (isRunning (m .ending) ≡ true) × Within p l m
 
--- a version of an object's existence, at level l, names a script that l may read; and there is none
-pub record Kept (p : Program) (l : ℕ) (w : Version) : Type 0 where
-  pub lawful : Lawful p l (w .field) (w .value)
-  pub fielded : w .field < fields
+-- a version of an object's existence, at level l, names a script that l may read
+abbrev pub Kept : Program → ℕ → Version → Type 0
+Kept p l w = Lawful p l (w .field) (w .value)
 
 pub record Contained (p : Program) (l : ℕ) (v : Level) : Type 0 where
   pub waiting : Each (Reached p l) (v .waiting)
@@ -62,7 +59,7 @@ pub newest-kept : (p : Program) (l : ℕ) (i : Value) (o : ℕ) (ws : List Versi
 unfolding newest Each
 newest-kept p l i o [] r e = r
 newest-kept p l i o (w ∷ ws) r e = elim (truth (isOf o existence w)) [
-  | holds q ↦ rw q (e .0 .lawful (is-of o existence w q))
+  | holds q ↦ rw q (e .0 (is-of o existence w q))
   | fails q ↦ rw q (newest-kept p l i o ws r (e .1))
 ]
 
@@ -70,7 +67,7 @@ newest-to-kept : (p : Program) (l b : ℕ) (i : Value) (o : ℕ) (ws : List Vers
 unfolding newestTo Each
 newest-to-kept p l b i o [] r e = r
 newest-to-kept p l b i o (w ∷ ws) r e = elim (truth (isOf o existence w && leb (w .stamp) b)) [
-  | holds q ↦ rw q (e .0 .lawful (is-of o existence w (and-left (isOf o existence w) (leb (w .stamp) b) q)))
+  | holds q ↦ rw q (e .0 (is-of o existence w (and-left (isOf o existence w) (leb (w .stamp) b) q)))
   | fails q ↦ rw q (newest-to-kept p l b i o ws r (e .1))
 ]
 
@@ -95,41 +92,12 @@ read-legible p so st i l x o = by (ℕ-discrete (p .level o) l)
     by (no n) =
         rw (read-below p st l x o existence n) (newest-to-kept p (p .level o) _ (initially p o existence) o (levelAt st (p .level o) .versions) (first-readable p so o) kept)
 
--- existence is as it was at first
-newest-existence : (p : Program) (l : ℕ) (i : Value) (o : ℕ) (ws : List Version) → Each (Kept p l) ws → newest i o existence ws ≡ i
-unfolding newest Each
-newest-existence p l i o [] e = refl
-newest-existence p l i o (w ∷ ws) e = elim (truth (isOf o existence w)) [
-  | holds q ↦ absurd (omega (arith, is-of o existence w q, e .0 .fielded))
-  | fails q ↦ rw q (newest-existence p l i o ws (e .1))
-]
-
-newest-to-existence : (p : Program) (l b : ℕ) (i : Value) (o : ℕ) (ws : List Version) → Each (Kept p l) ws → newestTo b i o existence ws ≡ i
-unfolding newestTo Each
-newest-to-existence p l b i o [] e = refl
-newest-to-existence p l b i o (w ∷ ws) e = elim (truth (isOf o existence w && leb (w .stamp) b)) [
-  | holds q ↦ absurd (omega (arith, is-of o existence w (and-left (isOf o existence w) (leb (w .stamp) b) q), e .0 .fielded))
-  | fails q ↦ rw q (newest-to-existence p l b i o ws (e .1))
-]
-
-pub read-existence : (p : Program) → Sound p → (st : State) → AllContained p st → (l : ℕ) (x : Fork) (o : ℕ) → readAt p st l x o existence ≡ initially p o existence
-read-existence p so st i l x o = by (ℕ-discrete (p .level o) l)
-  where
-    kept : Each (Kept p (p .level o)) (levelAt st (p .level o) .versions)
-    kept = i (p .level o) (so .placed o) .versions
-
-    by : Dec (p .level o ≡ l) → readAt p st l x o existence ≡ initially p o existence
-    by (yes e) =
-        read-own p st l x o existence e ∙ newest-existence p (p .level o) (initially p o existence) o (levelAt st (p .level o) .versions) kept
-    by (no n) =
-        read-below p st l x o existence n ∙ newest-to-existence p (p .level o) _ (initially p o existence) o (levelAt st (p .level o) .versions) kept
-
 -- a step's versions do
-kept-after : (p : Program) (l : ℕ) (m : Manager) (e : Effect) (ws : List Version) → Lawfully p l e → WritesFields e → Each (Kept p l) ws → Each (Kept p l) (versionsAfter m e ws)
-unfolding Each
-kept-after p l m effect.Nothing ws w f e = e
-kept-after p l m (effect.Write o k v) ws w f e = (record { lawful = w; fielded = f }, e)
-kept-after p l m (effect.Fork u message) ws w f e = e
+kept-after : (p : Program) (l : ℕ) (m : Manager) (e : Effect) (vs : List Version) → Lawfully p l e → Each (Kept p l) vs → Each (Kept p l) (versionsAfter m e vs)
+kept-after p l m effect.Nothing vs w e = e
+kept-after p l m (effect.Write ws) vs w e =
+    each-append (Kept p l) (map (versionOf (m .stamp)) ws) vs (each-made (versionOf (m .stamp)) (Kept p l) ws (each-seen _ ws w)) e
+kept-after p l m (effect.Fork u message) vs w e = e
 
 begun-direct : (p : Program) → Sound p → (st : State) → AllContained p st → (l : ℕ) → l < p .levels → (v : Level) (ws : List Fork) → Each (Reached p l) ws → begun (seenBy l p) (viewOf p l st) l v ws ≡ begun p st l v ws
 unfolding begun Each
@@ -175,7 +143,7 @@ unfolding moved advanced
 moved-contained p so st i l h v idle q c f = begun-contained p so st i l h v (v .waiting) c (c .waiting)
 moved-contained p so st i l h v (busy x m) q c f =
     after-contained p l v (v .waiting) _ x _ (c .waiting) (stepped-within p so (readAt p st l x) (read-legible p so st i l x) l m h q (f .0) (f .1))
-    (kept-after p l m (stepped p (readAt p st l x) m .effect) (v .versions) (stepped-lawful p l (readAt p st l x) m so) (stepped-fields p (readAt p st l x) m so) (c .versions))
+    (kept-after p l m (stepped p (readAt p st l x) m .effect) (v .versions) (stepped-lawful p l (readAt p st l x) m so (read-legible p so st i l x) q) (c .versions))
 
 -- the object of a fork's message lies under the level that it goes to
 unfoldable Sent : Program → Arrival → Type 0
@@ -193,7 +161,7 @@ moved-sent p so st l h v (busy x m) q = by (stepped p (readAt p st l x) m .effec
   where
     by : (e : Effect) → Reaches p e → Sent p (arrivalOf l x m e)
     by effect.Nothing r = unfold Sent in tt
-    by (effect.Write o k w) r = unfold Sent in tt
+    by (effect.Write ws) r = unfold Sent in tt
     by (effect.Fork u message) r = unfold Sent childOf in r
 
 arrived-contained : (p : Program) (l : ℕ) (x : Fork) (v : Level) → Reached p l x → Contained p l v → Contained p l (arrived x v)

@@ -85,9 +85,10 @@ begun-falls p st l v t q (x ∷ xs) e h =
       less = omega (arith, after-cost v xs (v .versions) x m, room, count, none-yet, ap left q);
     }
 
-grown-steps : (c : Counts) (e : Effect) → oneMore (grown c e) .steps ≡ c .steps + 1
+-- a script step counts itself
+pub grown-steps : (c : Counts) (e : Effect) → oneMore (grown c e) .steps ≡ c .steps + 1
 grown-steps c effect.Nothing = refl
-grown-steps c (effect.Write o k v) = refl
+grown-steps c (effect.Write ws) = refl
 grown-steps c (effect.Fork u message) = refl
 
 advanced-falls : (p : Program) (st : State) (l : ℕ) (v : Level) (x : Fork) (m : Manager) → Bounded v → v .activity ≡ busy x m → Falls v (advanced p st l v x m .own)

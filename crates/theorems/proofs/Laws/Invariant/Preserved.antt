@@ -49,7 +49,7 @@ after-at l v ws versions x m q = elim (truth (isRunning (m .ending))) [
 
 pub grown-level : (c : Counts) (e : Effect) → oneMore (grown c e) .level ≡ c .level
 grown-level c effect.Nothing = refl
-grown-level c (effect.Write o k v) = refl
+grown-level c (effect.Write ws) = refl
 grown-level c (effect.Fork u message) = refl
 
 begun-at : (p : Program) (st : State) (l : ℕ) (v : Level) (ws : List Fork) → AtLevel l (v .activity) → AtLevel l (begun p st l v ws .own .activity)

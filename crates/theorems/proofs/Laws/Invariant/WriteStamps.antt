@@ -2,7 +2,7 @@
 use Prim.Native.Nat.{ℕ, _+_, _≤_, _<_}
 use mathlib.Core.Path.{_≡_, refl, sym, _∙_, ap, ap₂}
 use mathlib.Core.Bool.{true, false}
-use mathlib.Core.List.{List, [], _∷_, _++_}
+use mathlib.Core.List.{List, [], _∷_, _++_, map}
 use native.Mathlib.Omega.{arith}
 use lib.ListN.{set}
 use Rattle.session.specs.Program.{Program}
@@ -17,9 +17,9 @@ use Rattle.scripts.proofs.Laws.Counts.{counts, grown, oneMore, started-counts, 
 use Rattle.model.specs.Lists.{inserted}
 use Rattle.model.specs.Fork.{Fork, childOf}
 use Rattle.model.specs.History.{History, historyOf}
-use Rattle.model.specs.Level.{Version, Activity, idle, busy, Level, isBusy, forksBy, forksOf, after}
+use Rattle.model.specs.Level.{Version, versionOf, Activity, idle, busy, Level, isBusy, forksBy, forksOf, after}
 use Rattle.model.specs.Step.{State, readAt, Arrival, none, at, versionsAfter, arrivalOf, begun, advanced, moved}
-use Rattle.theorems.proofs.Laws.Each.{Each}
+use Rattle.theorems.proofs.Laws.Each.{Each, each-any, each-made}
 use Rattle.theorems.proofs.Laws.Invariant.Forest.{Rest, whole, tail}
 
 -- the write stamp of a level: of the manager that runs, or of the next one
@@ -57,7 +57,7 @@ pub record Marks (l : ℕ) (v w : Level) (b : Arrival) : Type 0 where
   pub closes : Closes v w
   pub fresh : List Version
   pub versions : w .versions ≡ fresh ++ v .versions
-  pub above : Each (λ r. writeStamp v ≤ r .stamp) fresh
+  pub current : Each (λ r. r .stamp ≡ writeStamp v) fresh
   pub child : Sends l v w b
 
 -- the level after a step of the manager of fork x, which is m then
@@ -105,7 +105,7 @@ module _ (v : Level) (ws : List Fork) (vs : List Version) (x : Fork) (m : Manage
   ]
 
   -- so what a step marks, by what it writes and forks
-  marks-after : (l : ℕ) (b : Arrival) (fresh : List Version) → forksOf v ≡ x ∷ ws → Rest (v .waiting) ws → writeStamp v ≤ m .stamp → vs ≡ fresh ++ v .versions → Each (λ r. writeStamp v ≤ r .stamp) fresh → Sends l v (after v ws vs x m) b → Marks l v (after v ws vs x m) b
+  marks-after : (l : ℕ) (b : Arrival) (fresh : List Version) → forksOf v ≡ x ∷ ws → Rest (v .waiting) ws → writeStamp v ≤ m .stamp → vs ≡ fresh ++ v .versions → Each (λ r. r .stamp ≡ writeStamp v) fresh → Sends l v (after v ws vs x m) b → Marks l v (after v ws vs x m) b
   marks-after l b fresh q t g e a s =
       record {
         grows = omega (arith, g, after-stamp);
@@ -115,7 +115,7 @@ module _ (v : Level) (ws : List Fork) (vs : List Version) (x : Fork) (m : Manage
         closes = after-closes q;
         fresh = fresh;
         versions = after-versions ∙ e;
-        above = a;
+        current = a;
         child = s;
       }
 
@@ -130,7 +130,7 @@ begun-marks p st l v q [] e =
       closes = kept refl;
       fresh = [];
       versions = refl;
-      above = tt;
+      current = tt;
       child = tt;
     }
 begun-marks p st l v q (x ∷ xs) e =
@@ -146,10 +146,12 @@ effect-marks l v x m m' effect.Nothing q c =
     let same : m' .stamp ≡ m .stamp = ap (λ c. c .stamp) c in
     let now : writeStamp v ≡ m .stamp = ap (λ a. stampBy a (v .next)) q in
     marks-after v (v .waiting) (v .versions) x m' l none [] (ap (λ a. forksBy a (v .waiting)) q) (whole refl) (omega (arith, same, now)) refl tt tt
-effect-marks l v x m m' (effect.Write o k w) q c =
+effect-marks l v x m m' (effect.Write ws) q c =
     let same : m' .stamp ≡ m .stamp = ap (λ c. c .stamp) c in
     let now : writeStamp v ≡ m .stamp = ap (λ a. stampBy a (v .next)) q in
-    marks-after v (v .waiting) _ x m' l none (record { stamp = m .stamp; object = o; field = k; value = w } ∷ []) (ap (λ a. forksBy a (v .waiting)) q) (whole refl) (omega (arith, same, now)) refl (omega (arith, now), tt) tt
+    let fresh = map (versionOf (m .stamp)) ws in
+    marks-after v (v .waiting) (fresh ++ v .versions) x m' l none fresh (ap (λ a. forksBy a (v .waiting)) q) (whole refl) (omega (arith, same, now)) refl
+    (each-made (versionOf (m .stamp)) (λ r. r .stamp ≡ writeStamp v) ws (each-any _ (λ w. sym now) ws)) tt
 effect-marks l v x m m' (effect.Fork u message) q c =
     let more : m' .stamp ≡ m .stamp + 1 = ap (λ c. c .stamp) c in
     let now : writeStamp v ≡ m .stamp = ap (λ a. stampBy a (v .next)) q in

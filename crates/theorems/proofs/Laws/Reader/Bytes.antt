@@ -19,7 +19,7 @@ use Rattle.session.proofs.Laws.Lists.{holds, fails, truth, select-all, select-n
 use Rattle.session.proofs.Laws.Choice.{every-then, whole, records-joined}
 use Rattle.session.proofs.Laws.Fill.{tab-more, tab-ext}
 use Rattle.model.specs.History.{History}
-use Rattle.model.specs.Result.{Result, objectRecord, historyRecord, replyRecord, objectsShown, levelsShown, historiesShown, replyOf, replyShown, bytesOf}
+use Rattle.model.specs.Result.{Result, objectRecord, historyRecord, replyRecord, numbersOf, isShown, objectsShown, levelsShown, historiesShown, replyOf, replyShown, bytesOf}
 use Rattle.model.specs.Reader.{historiesAt, SameRecords}
 use Rattle.theorems.specs.Reader.{ComparedByRecords}
 use Rattle.model.specs.Entries.{writtenOver}
@@ -65,6 +65,15 @@ map-chosen t f g (suc n) h e = elim (truth (t (h zero))) [
   | fails q ↦ rw q (map-chosen t f g n (λ i. h (suc i)) (λ i l. e (suc i) (omega arith)))
 ]
 
+-- by tests that agree
+pub chosen-same : {A B : Type 0} (t u : A → Bool) (f g : A → B) → ((x : A) → t x ≡ u x) → ((x : A) → t x ≡ true → f x ≡ g x) → (xs : List A) → map f (select t xs) ≡ map g (select u xs)
+unfolding select
+chosen-same t u f g s e [] = refl
+chosen-same t u f g s e (x ∷ xs) = elim (truth (t x)) [
+  | holds q ↦ rw (sym (s x), q) (ap₂ _∷_ (e x q) (chosen-same t u f g s e xs))
+  | fails q ↦ rw (sym (s x), q) (chosen-same t u f g s e xs)
+]
+
 pub chosen-groups : {A : Type 0} (t : ℕ → Bool) (g : ℕ → List A) (n : ℕ) (f : ℕ → ℕ) → joined (map g (select t (tab n f))) ≡ joined (tab n (λ i. cond (t (f i)) (g (f i)) []))
 unfolding joined select tab
 chosen-groups t g zero f = refl
@@ -87,7 +96,7 @@ module _ (q : Record → Bool) where
   objects-pass : ((o level : ℕ) (field : ℕ → Value) → q (objectRecord o level field) ≡ true) → (p : Program) (r : Result) (c : ℕ) → every q (objectsShown p r c) ≡ true
   unfolding objectsShown
   objects-pass h p r c =
-      every-mapped q (λ o. objectRecord o (p .level o) (r .field o)) (λ o. h o (p .level o) (r .field o)) (select (λ o. p .dom c (p .level o)) (tab (p .objects) (λ o. o)))
+      every-mapped q (λ o. objectRecord o (p .level o) (r .field o)) (λ o. h o (p .level o) (r .field o)) (select (isShown p r c) (numbersOf p))
 
   histories-pass : ((l : ℕ) (h : History) → q (historyRecord l h) ≡ true) → (p : Program) (r : Result) (c : ℕ) → every q (historiesShown p r c) ≡ true
   unfolding historiesShown

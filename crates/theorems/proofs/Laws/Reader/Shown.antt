@@ -4,24 +4,26 @@ use Prim.Native.Nat.{ℕ, _≤_, _<_}
 use mathlib.Core.Path.{_≡_, refl, sym, ap, ap₂, fun-ext}
 use mathlib.Core.Bool.{true}
 use mathlib.Core.List.{List, [], _∷_, _++_, map}
+use Rattle.lattice.proofs.Laws.Range.{and-left}
 use Rattle.session.specs.Lists.{joined}
 use Rattle.session.specs.Record.{Record}
 use Rattle.session.specs.Program.{Program, seenBy}
 use Rattle.session.specs.declared.Message.{Message}
 use Rattle.session.proofs.Laws.Lists.{holds, fails, truth}
 use Rattle.session.specs.Limits.{maxLevels}
+use Rattle.scripts.specs.Existence.{existence, isThere}
 use Rattle.scripts.proofs.Laws.Effects.{Sound}
 use Rattle.model.specs.Level.{newest}
 use Rattle.model.specs.Step.{State, levelAt}
 use Rattle.model.specs.Schedule.{finished, runOf}
 use Rattle.model.specs.DepthFirst.{depthFirst}
-use Rattle.model.specs.Result.{resultOf, resultOfDepthFirst, objectRecord, historyRecord, objectsShown, historiesShown, replyRecord, replyOf, replyShown, bytesOf}
+use Rattle.model.specs.Result.{resultOf, resultOfDepthFirst, objectRecord, historyRecord, numbersOf, isShown, objectsShown, historiesShown, replyRecord, replyOf, replyShown, bytesOf}
 use Rattle.theorems.specs.Isolation.{SameUnder}
 use Rattle.theorems.proofs.Laws.Steps.Moves.{seen-sound}
 use Rattle.theorems.proofs.Laws.Steps.Reads.{seen-field}
 use Rattle.theorems.proofs.Laws.Reader.Isolation.{seen-same}
 use Rattle.theorems.proofs.Laws.Deep.Root.{same-result}
-use Rattle.theorems.proofs.Laws.Reader.Bytes.{map-chosen}
+use Rattle.theorems.proofs.Laws.Reader.Bytes.{map-chosen, chosen-same}
 
 module _ (p : Program) (so : Sound p) (c : ℕ) (t t' : State) (same : SameUnder p c t t') where
   -- a field of an object that c dominates
@@ -30,10 +32,19 @@ module _ (p : Program) (so : Sound p) (c : ℕ) (t t' : State) (same : SameUnder
   field-seen o d =
       fun-ext λ k. ap₂ (λ i v. newest i o k (v .versions)) (sym (seen-field c p o k d)) (same (p .level o) (so .placed o) d)
 
+  -- and whether it is shown
+  shown-seen : (o : ℕ) → isShown p (resultOf p t) c o ≡ isShown (seenBy c p) (resultOf (seenBy c p) t') c o
+  unfolding seenBy
+  shown-seen o = elim (truth (p .dom c (p .level o))) [
+    | holds d ↦ rw d (ap (λ f. isThere (f existence)) (field-seen o d))
+    | fails d ↦ rw d refl
+  ]
+
   objects-seen : objectsShown p (resultOf p t) c ≡ objectsShown (seenBy c p) (resultOf (seenBy c p) t') c
   unfolding objectsShown seenBy
   objects-seen =
-      map-chosen (λ o. p .dom c (p .level o)) (λ o. objectRecord o (p .level o) (resultOf p t .field o)) (λ o. objectRecord o (p .level o) (resultOf (seenBy c p) t' .field o)) (p .objects) (λ o. o) (λ o h d. ap (objectRecord o (p .level o)) (field-seen o d))
+      chosen-same (isShown p (resultOf p t) c) (isShown (seenBy c p) (resultOf (seenBy c p) t') c) (λ o. objectRecord o (p .level o) (resultOf p t .field o)) (λ o. objectRecord o (p .level o) (resultOf (seenBy c p) t' .field o)) shown-seen
+      (λ o s. ap (objectRecord o (p .level o)) (field-seen o (and-left (p .dom c (p .level o)) _ s))) (numbersOf p)
 
   reply-seen : (l : ℕ) → l < p .levels → replyShown p (resultOf p t) c l ≡ replyShown (seenBy c p) (resultOf (seenBy c p) t') c l
   unfolding replyShown seenBy

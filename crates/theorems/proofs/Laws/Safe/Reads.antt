@@ -98,7 +98,7 @@ marks-look l k x v w b m h a n =
       own = λ e. absurd (n e);
       bound = λ _. same (truth (eqb (getD (x .carried) k 0) 0)) (m .closes);
       below = λ _ i o f.
-          sym (ap (newestTo (boundAt x k v) i o f) (m .versions) ∙ newest-added (boundAt x k v) i o f (m .fresh) (v .versions) (each-map (λ r. writeStamp v ≤ r .stamp) (λ r. boundAt x k v < r .stamp) (λ r g. omega (arith, g, h)) (m .fresh) (m .above)));
+          sym (ap (newestTo (boundAt x k v) i o f) (m .versions) ∙ newest-added (boundAt x k v) i o f (m .fresh) (v .versions) (each-map (λ r. r .stamp ≡ writeStamp v) (λ r. boundAt x k v < r .stamp) (λ r g. omega (arith, g, h)) (m .fresh) (m .current)));
     }
   where
     not-smaller : getD (x .carried) k 0 ≡ 0 → (s : ℕ) → (e : Entry) × ((e .stamp ≡ s) × Later x k e) → x .stamp ≤ s

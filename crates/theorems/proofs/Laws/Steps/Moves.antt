@@ -25,7 +25,13 @@ AtLevel l (busy x m) = m .level ≡ l
 -- what a level sees is sound too
 pub seen-sound : (l : ℕ) (p : Program) → Sound p → Sound (seenBy l p)
 unfolding seenBy
-seen-sound l p so = record { lattice = so .lattice; placed = so .placed; fielded = λ o name j. seen o name j (truth (p .dom l (p .level o))) }
+seen-sound l p so =
+    record {
+      lattice = so .lattice;
+      placed = so .placed;
+      fielded = λ o name j. seen o name j (truth (p .dom l (p .level o)));
+      owned = so .owned;
+    }
   where
     seen : (o name j : ℕ) → Truth (p .dom l (p .level o)) → Fielded (cond (p .dom l (p .level o)) (p .step o name j) End)
     seen o name j (holds e) = rw e (so .fielded o name j)
@@ -33,7 +39,7 @@ seen-sound l p so = record { lattice = so .lattice; placed = so .placed; fielded
 
 arrival-above : (p : Program) (l : ℕ) (x : Fork) (m : Manager) (e : Effect) → m .level ≡ l → Fits p m e → Above p l (arrivalOf l x m e)
 arrival-above p l x m effect.Nothing q f = tt
-arrival-above p l x m (effect.Write o k v) q f = tt
+arrival-above p l x m (effect.Write ws) q f = tt
 arrival-above p l x m (effect.Fork u message) q f = (f .0, rw (sym q) (f .1 .0))
 
 moved-above : (p : Program) (st : State) (l : ℕ) (v : Level) (a : Activity) → Sound p → l < p .levels → AtLevel l a → Above p l (moved p st l v a .arrival)

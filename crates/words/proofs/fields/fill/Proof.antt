@@ -9,7 +9,7 @@ use Rattle.words.proofs.fields.fill.Statement.{statement}
 use Rattle.words.proofs.fields.fill.Tie as tie
 
 abbrev Inv-loop : tie.InvT-loop
-Inv-loop session masks fields₀ n i₀ fields i = (i ≤ n) × (n ≡ 3 * objectCount session) × Filling session fields₀ fields i
+Inv-loop session masks fields₀ n i₀ fields i = (i ≤ n) × (n ≡ 4 * objectCount session) × Filling session fields₀ fields i
 
 abbrev μ-loop : tie.MeasureT-loop
 μ-loop session masks fields₀ n i₀ fields i = n - i
@@ -25,10 +25,10 @@ loop-holds c =
     let s = c .before .before .before .before in
     (omega arith, omega (arith, c .object-count .ensures), fill-none (s .args .session .now) (s .args .fields .now))
 
-field-of-requires : tie.Need-field-of-requires Inv-loop μ-loop
-field-of-requires c κs =
+first-of-requires : tie.Need-first-of-requires Inv-loop μ-loop
+first-of-requires c κs =
     let s = c .before .before .before .before .before .before .before in
-    (s .pre .accepted, s .pre .table, omega (arith, c .before .before .loop .inv .1), omega arith)
+    (record { accepted = s .pre .accepted; masks-are = s .pre .table }, omega (arith, c .before .before .loop .inv .1), omega arith)
 
 set-requires : tie.Need-set-requires Inv-loop μ-loop
 set-requires c κs =
@@ -53,8 +53,8 @@ loop-again c =
     let at = c .before .before .before .before .before .before .loop in (
       omega arith,
       at .inv .1,
-      fill-more (g .session .now) (g .fields .now) (at .fields) (c .before .before .set .last .0) (at .i) (c .before .before .before .field-of .result) (at .inv .2)
-          (set-requires (c .before .before .before) (c .before .before .set .lifetimes)) (c .before .before .set .ensures) (c .before .before .before .field-of .ensures),
+      fill-more (g .session .now) (g .fields .now) (at .fields) (c .before .before .set .last .0) (at .i) (c .before .before .before .first-of .result) (at .inv .2)
+          (set-requires (c .before .before .before) (c .before .before .set .lifetimes)) (c .before .before .set .ensures) (c .before .before .before .first-of .ensures),
     )
 
 same-length : tie.Need-same-length Inv-loop μ-loop
@@ -75,7 +75,7 @@ fill-spec =
     object-count-requires
     mul-n
     loop-holds
-    field-of-requires
+    first-of-requires
     set-requires
     add-i
     loop-less
