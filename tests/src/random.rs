@@ -68,10 +68,14 @@ impl Random {
         }
     }
 
+    /// Often a small number, the largest one, or one near it or near its half: sums of
+    /// such are at the largest number or pass it by little.
     pub fn number(&mut self) -> u32 {
-        match self.below(4) {
-            0 => self.below(3) as u32,
-            1 => u32::MAX,
+        match self.below(8) {
+            0 | 1 => self.below(3) as u32,
+            2 => u32::MAX,
+            3 => u32::MAX - self.below(3) as u32,
+            4 => u32::MAX / 2 + self.below(2) as u32,
             _ => self.bits() as u32,
         }
     }

@@ -44,7 +44,6 @@ events! {
     ManyPops "3 pops or more in one step",
     PopAfterQuit "sender popped in the step of a QUIT above it",
     JumpToEnd "jump to the script's end",
-    AddWraps "addition that wraps around",
     WriteBelow "write below the manager's level",
     WriteNil "write of NIL",
     WriteReplaced "write that replaces one of the same stamp",
@@ -139,10 +138,19 @@ events! {
     WithdrawnAbove "object of the session withdrawn at a level not shown",
     FourShown "four made objects of one level shown",
     LevelsShown "made objects of two levels shown or more",
+    SumLargest "sum that is 4,294,967,295",
+    SumPasses "sum that passes 4,294,967,295",
+    SumOneMore "sum that passes 4,294,967,295 by 1",
+    DoubleLargest "register added to itself, 2,147,483,647",
+    DoublePasses "register added to itself, past 4,294,967,295",
+    LoopEndedBySum "loop that ends by a JUMP on a register that a sum made NIL",
+    NilOfSum "NIL written in place of a sum that passes 4,294,967,295",
+    SumNilSent "NIL sent in place of a sum that passes 4,294,967,295",
+    SumNilReplied "NIL replied by the root in place of a sum that passes 4,294,967,295",
 }
 
 /// What document 02 changes must occur in many sessions, all else in one. Besides
-/// these, whatever concerns objects made and withdrawn.
+/// these, whatever concerns objects made and withdrawn, and sums.
 const FREQUENT: [(Event, u64); 17] = [
     (Event::EarlyFinished, 1_000),
     (Event::HeldBack, 1_000),
@@ -167,8 +175,11 @@ const FREQUENT: [(Event, u64); 17] = [
 pub const PAGES: u64 = 200;
 
 /// How often whatever concerns objects made and withdrawn must occur. All of it stands
-/// at the end of the events.
+/// after the other events, before those of sums.
 pub const OBJECTS: u64 = 200;
+
+/// How often whatever concerns sums must occur. All of it stands at the end.
+const SUMS: u64 = 200;
 
 /// How often each event occurred.
 #[derive(Clone)]
@@ -244,6 +255,7 @@ impl Totals {
             least[event as usize] = times;
         }
         least[Event::Made as usize..].fill(OBJECTS);
+        least[Event::SumLargest as usize..].fill(SUMS);
         let counts = self.sessions.counts.iter().zip(least).zip(NAMES);
         counts
             .filter(|((&count, least), _)| count < *least)

@@ -1,4 +1,5 @@
 // Values of registers: the sum of two, and the test of a JUMP.
+use scripts::GREATEST_NUMBER;
 use session::Value;
 ghost use mathlib.Core.Path.{_≡_};
 ghost use Rattle.session.specs.declared.Value.the-variants.{Nil};
@@ -11,7 +12,7 @@ pub fn nil() -> Value
     Value::Nil
 }
 
-// Two values added modulo 2^32; NIL if either is NIL.
+// The sum of two values: NIL if either is NIL, or where it passes the greatest number.
 pub fn sum(x: Value, y: Value) -> Value
     ensures { λ r. ⌜ r ≡ sum x y ⌝ }
 {
@@ -21,7 +22,12 @@ pub fn sum(x: Value, y: Value) -> Value
     let Value::Number(n) = y else {
         return Value::Nil;
     };
-    Value::Number(std::num::wrapping_add_u32(m, n))
+    let total = m as u64 + n as u64;
+    if total > GREATEST_NUMBER as u64 {
+        return Value::Nil;
+    }
+    let number = total as u32;
+    Value::Number(number)
 }
 
 // Whether a value is NIL or 0.

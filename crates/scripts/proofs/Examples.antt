@@ -1,7 +1,7 @@
 -- Managers over small programs, computed by the definitions. Assumes nothing.
 use Prim.Native.Nat.{ℕ, zero, suc, _+_, _*_}
 use mathlib.Core.Path.{_≡_, refl}
-use mathlib.Core.Bool.{true, cond, _&&_}
+use mathlib.Core.Bool.{true, cond, _&&_, false}
 use mathlib.Core.List.{List, [], _∷_, _++_}
 use lib.Dec.{eqb}
 use lib.ListN.{length, getD, replicate}
@@ -76,6 +76,10 @@ registers m = top m .r0 ∷ top m .r1 ∷ top m .r2 ∷ top m .r3 ∷ []
 -- three steps, after which the registers of a frame hold its parameter, 5, 6, 7
 abbrev pub filling : List Step
 filling = Set 1 5 ∷ Set 2 6 ∷ Set 3 7 ∷ []
+
+-- counts register 1 up until it is NIL, and replies it
+abbrev counting : List Step
+counting = Set 1 0xFFFFFFFE ∷ Set 2 1 ∷ Jump 1 5 ∷ Add 1 2 ∷ Jump 3 2 ∷ Quit 1 ∷ []
 
 -- object 0 fills its registers, sends to object 1, with register 2 and for a reply to it, and replies register 2. Object 1's method is given
 abbrev asking : ℕ → ℕ → ℕ → List Step → Program
@@ -155,12 +159,24 @@ pub record Examples : Type 0 where
   -- "SET a to n"
   set : alone (Set 1 3 ∷ Quit 1 ∷ []) 2 .reply ≡ Number 3
   fills : registers (alone (filling ++ Quit 0 ∷ []) 3) ≡ Number 4 ∷ Number 5 ∷ Number 6 ∷ Number 7 ∷ []
-  -- "ADD b to a, modulo 2^32, NIL if either is NIL"
-  add : sum (Number 0xFFFFFFFF) (Number 3) ≡ Number 2
-  add-nil : sum (Number 1) Nil ≡ Nil
-  add-to-nil : sum Nil (Number 1) ≡ Nil
+  -- "ADD b to a, .. NIL if either is NIL"; "ADD gives NIL when the sum passes 4,294,967,295; at that value it is still a number"
+  add : sum (Number 0) (Number 0) ≡ Number 0
+  add-bound : sum (Number 0xFFFFFFFE) (Number 1) ≡ Number 0xFFFFFFFF
+  add-to-bound : sum (Number 0) (Number 0xFFFFFFFF) ≡ Number 0xFFFFFFFF
+  add-past : sum (Number 0xFFFFFFFF) (Number 1) ≡ Nil
+  add-twice : sum (Number 0x7FFFFFFF) (Number 0x7FFFFFFF) ≡ Number 0xFFFFFFFE
+  add-twice-past : sum (Number 0x80000000) (Number 0x80000000) ≡ Nil
+  add-most : sum (Number 0xFFFFFFFF) (Number 0xFFFFFFFF) ≡ Nil
+  add-nil : sum (Number 0) Nil ≡ Nil
+  add-to-nil : sum Nil (Number 0) ≡ Nil
   add-to : registers (alone (filling ++ Add 2 1 ∷ Quit 0 ∷ []) 4) ≡ Number 4 ∷ Number 5 ∷ Number 11 ∷ Number 7 ∷ []
-  add-over : registers (alone (Set 1 0xFFFFFFFF ∷ Add 0 1 ∷ Quit 0 ∷ []) 2) ≡ Number 3 ∷ Number 0xFFFFFFFF ∷ Nil ∷ Nil ∷ []
+  add-over : registers (alone (Set 1 0xFFFFFFFF ∷ Add 0 1 ∷ Quit 0 ∷ []) 2) ≡ Nil ∷ Number 0xFFFFFFFF ∷ Nil ∷ Nil ∷ []
+  add-itself : registers (alone (Set 1 0x80000000 ∷ Add 1 1 ∷ Quit 0 ∷ []) 2) ≡ Number 4 ∷ Nil ∷ Nil ∷ Nil ∷ []
+  counted-up : registers (alone counting 6) ≡ Number 4 ∷ Number 0xFFFFFFFF ∷ Number 1 ∷ Nil ∷ []
+  counted-past : registers (alone counting 7) ≡ Number 4 ∷ Nil ∷ Number 1 ∷ Nil ∷ []
+  counted-out : alone counting 10 .reply ≡ Nil
+  counted-on : isRunning (alone counting 9 .ending) ≡ true
+  counted-end : isRunning (alone counting 10 .ending) ≡ false
   nil-added : registers (alone (Add 0 1 ∷ Quit 0 ∷ []) 1) ≡ Nil ∷ Nil ∷ Nil ∷ Nil ∷ []
   added-to-nil : registers (alone (Add 1 0 ∷ Quit 0 ∷ []) 1) ≡ Number 4 ∷ Nil ∷ Nil ∷ Nil ∷ []
   -- "JUMP to step b, counted from 0, if a is NIL or 0"
@@ -267,10 +283,22 @@ examples =
       set = refl;
       fills = refl;
       add = refl;
+      add-bound = refl;
+      add-to-bound = refl;
+      add-past = refl;
+      add-twice = refl;
+      add-twice-past = refl;
+      add-most = refl;
       add-nil = refl;
       add-to-nil = refl;
       add-to = refl;
       add-over = refl;
+      add-itself = refl;
+      counted-up = refl;
+      counted-past = refl;
+      counted-out = refl;
+      counted-on = refl;
+      counted-end = refl;
       nil-added = refl;
       added-to-nil = refl;
       jump-nil = refl;

@@ -1,3 +1,4 @@
 pub mod Laws
+pub mod Sums
 pub mod Examples
 pub mod Making

@@ -1,4 +1,4 @@
--- The numbers that document 01 fixes for managers. Assumes nothing.
+-- The numbers that documents 01 and 02 fix for managers. Assumes nothing.
 use Prim.Native.Nat.{ℕ, _^_}
 
 -- "a stack of at most 8 frames"
@@ -15,6 +15,10 @@ maxWrites = 16
 -- "Child k (1 to 15)"
 abbrev pub maxForks : ℕ
 maxForks = 15
+
+-- "ADD gives NIL when the sum passes 4,294,967,295; at that value it is still a number"
+abbrev pub greatestNumber : ℕ
+greatestNumber = 4294967295
 
 -- how many write stamps there are: a result record has two bytes for one, "8 and 9 first write stamp .., 10 and 11 last"
 abbrev pub writeStamps : ℕ

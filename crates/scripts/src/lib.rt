@@ -4,7 +4,7 @@ use session::Value;
 ghost use mathlib.Core.Path.{_≡_};
 ghost use Rattle.scripts.specs.Ending.{isRunning};
 
-// The numbers that document 01 fixes for managers, under the names that the definitions give them: how many
+// The numbers that documents 01 and 02 fix for managers, under the names that the definitions give them: how many
 // frames a manager may have, and how many script steps, writes that take effect and forks it may make.
 pub const MAX_FRAMES: u8 = 8;
 
@@ -13,6 +13,9 @@ pub const MAX_SCRIPT_STEPS: u16 = 256;
 pub const MAX_WRITES: u8 = 16;
 
 pub const MAX_FORKS: u8 = 15;
+
+// The greatest number that a sum may be.
+pub const GREATEST_NUMBER: u32 = 4_294_967_295;
 
 // How a manager stands.
 pub enum Ending {

@@ -26,7 +26,7 @@ use std::{env, fs, thread, time::Instant};
 const ENOUGH: u64 = 20_000;
 
 /// So many vectors are recorded.
-const VECTORS: usize = 10_569;
+const VECTORS: usize = 11_251;
 
 fn main() -> ExitCode {
     match run() {

@@ -3,6 +3,7 @@
 
 use super::filter::{filter, Delivery};
 use super::fork::{Ancestor, Fork};
+use super::notes::note_sum;
 use super::objects::{owner, Existence};
 use super::session::Session;
 use crate::limits::*;
@@ -34,6 +35,8 @@ pub(super) struct Frame {
     pub registers: [Value; REGISTERS],
     /// By what operation each register lost a number and is NIL since, if so.
     pub lost: [Option<Event>; REGISTERS],
+    /// The last JUMP backward: its target and its place. For the tally alone.
+    pub turned: Option<(usize, usize)>,
     /// The sender's register that gets the reply, if any.
     reply_to: Option<u8>,
 }
@@ -111,7 +114,7 @@ impl Manager {
             Operation::Add { a, b } => self.add(a, b, world),
             Operation::Jump { a, target } => {
                 if self.register(a).unwrap_or(0) == 0 {
-                    self.jump(usize::from(target), script.len(), world);
+                    self.jump(a, usize::from(target), script.len(), world);
                 }
             }
             Operation::Read { a, field } => self.read(a, field, session, world),
@@ -184,18 +187,24 @@ impl Manager {
             .object
     }
 
+    /// A sum that passes the largest number is NIL.
     fn add(&mut self, a: u8, b: u8, world: &mut impl World) {
         let (x, y) = (*self.register(a), *self.register(b));
-        if x.zip(y).is_some_and(|(x, y)| x.checked_add(y).is_none()) {
-            world.saw(Event::AddWraps);
+        let Some((x, y)) = x.zip(y) else {
+            return self.set(a, None);
+        };
+        note_sum(x, y, a == b, world);
+        match x.checked_add(y) {
+            Some(sum) => self.set(a, Some(sum)),
+            None => self.lose(a, Event::NilOfSum),
         }
-        self.set(a, x.zip(y).map(|(x, y)| x.wrapping_add(y)));
     }
 
-    fn jump(&mut self, target: usize, length: usize, world: &mut impl World) {
+    fn jump(&mut self, a: u8, target: usize, length: usize, world: &mut impl World) {
         if target == length {
             world.saw(Event::JumpToEnd);
         }
+        self.note_jump(a, target, world);
         self.top().next = target;
     }
 
@@ -203,6 +212,9 @@ impl Manager {
         let from = session.level_of(self.object());
         let to = session.level_of(object);
         let parameter = *self.register(a);
+        if self.is_nil_by_sum(a) {
+            world.saw(Event::SumNilSent);
+        }
         match filter(&session.lattice, self.level, from, to) {
             Delivery::Frame => {
                 if from != to {
@@ -273,6 +285,7 @@ impl Manager {
             next: 0,
             registers: [parameter, None, None, None],
             lost: [None; REGISTERS],
+            turned: None,
             reply_to,
         });
         if self.frames.len() == FRAMES_MAX {
@@ -319,7 +332,10 @@ impl Manager {
     fn pop(&mut self, reply: Value, lost: Option<Event>, world: &mut impl World) {
         let frame = self.frames.pop().expect("a running manager has frames");
         match (self.frames.last_mut(), frame.reply_to) {
-            (None, _) => self.reply = reply,
+            (None, _) => {
+                self.reply = reply;
+                self.note_reply(lost, world);
+            }
             (Some(sender), Some(a)) => {
                 sender.registers[usize::from(a)] = reply;
                 sender.lost[usize::from(a)] = lost;

@@ -1,4 +1,4 @@
-//! What the tally is told of objects made and withdrawn, and of too many writes.
+//! What the tally is told of sums, of objects made and withdrawn, and of too many writes.
 
 use super::manager::{Manager, World};
 use super::objects::{made_by, owner, Existence};
@@ -6,7 +6,57 @@ use super::session::Session;
 use crate::limits::*;
 use crate::tally::Event;
 
+/// Two numbers are about to be added, a register to itself if `doubled`.
+pub(super) fn note_sum(x: u32, y: u32, doubled: bool, world: &mut impl World) {
+    let sum = u64::from(x) + u64::from(y);
+    match sum {
+        0..LARGEST => {}
+        LARGEST => world.saw(Event::SumLargest),
+        _ => world.saw(Event::SumPasses),
+    }
+    if sum == LARGEST + 1 {
+        world.saw(Event::SumOneMore);
+    }
+    if doubled && sum > LARGEST {
+        world.saw(Event::DoublePasses);
+    }
+    // An even number is never the largest.
+    if doubled && sum == LARGEST - 1 {
+        world.saw(Event::DoubleLargest);
+    }
+}
+
+/// The largest number that a sum can be.
+const LARGEST: u64 = u32::MAX as u64;
+
 impl Manager {
+    /// Whether a register is NIL since a sum in it passed the largest number.
+    pub(super) fn is_nil_by_sum(&mut self, a: u8) -> bool {
+        self.top().lost[usize::from(a)] == Some(Event::NilOfSum)
+    }
+
+    /// A JUMP on a register is about to be taken. One backward makes a loop, and one
+    /// from inside it to behind it ends it.
+    pub(super) fn note_jump(&mut self, a: u8, target: usize, world: &mut impl World) {
+        let by_sum = self.is_nil_by_sum(a);
+        let frame = self.top();
+        let place = frame.next - 1;
+        if target <= place {
+            frame.turned = Some((target, place));
+        }
+        let is_end = |(first, last)| first <= place && place < last && last < target;
+        if by_sum && frame.turned.is_some_and(is_end) {
+            world.saw(Event::LoopEndedBySum);
+        }
+    }
+
+    /// The manager's reply, which is shown if it is the root's.
+    pub(super) fn note_reply(&self, lost: Option<Event>, world: &mut impl World) {
+        if self.fork_stamp == 0 && lost == Some(Event::NilOfSum) {
+            world.saw(Event::SumNilReplied);
+        }
+    }
+
     /// A manager that was forked starts.
     pub(super) fn note_start(&self, object: u8, was_there: bool, world: &mut impl World) {
         let existence = world.existence(self, object);

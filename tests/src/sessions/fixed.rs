@@ -163,20 +163,18 @@ pub fn largest_by_versions() -> Vec<u8> {
         objects: levels.map(|level| (level, [Some(1); FIELDS])).to_vec(),
         ..Draft::default()
     };
-    let forks = vec![
-        Set { a: 0, n: 100 },
-        Add { a: 0, b: 2 },
-        send(0, 0, planner),
+    let forks = (1..=5).flat_map(|i| [Set { a: 0, n: 100 * i }, send(0, 0, planner)]);
+    draft.put(0, 0, forks.collect());
+    // A field keeps what the forks get, as each takes it from its register. No two
+    // writers get the same number.
+    let (read, write) = (Read { a: 0, field: 0 }, Write { a: 0, field: 0 });
+    draft.put(planner, 0, vec![write, send(0, 1, planner)]);
+    let add_1 = Add { a: 0, b: 3 };
+    let forks = [
+        vec![read, add_1, send(0, 0, writer)],
+        vec![read, send(0, 0, reader)],
+        vec![read, add_1, add_1, write, send(0, 0, writer)],
     ];
-    draft.put(0, 0, counted(5, forks));
-    // A field keeps the parameter, as each fork takes it from its register.
-    draft.put(
-        planner,
-        0,
-        vec![Write { a: 0, field: 0 }, send(0, 1, planner)],
-    );
-    let forks = [(2, writer), (2, reader), (3, writer)]
-        .map(|(b, object)| [Read { a: 0, field: 0 }, Add { a: 0, b }, send(0, 0, object)]);
     draft.put(planner, 1, counted(5, forks.concat()));
 
     // Five objects get three versions, the writer one.

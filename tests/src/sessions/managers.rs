@@ -17,7 +17,7 @@ pub fn recursion(random: &mut Random) -> Draft {
     let name = scene.random.byte_below(3);
     let mut script = vec![
         Operation::Jump { a: 0, target: 16 },
-        Operation::Set { a: 1, n: u32::MAX },
+        Operation::Set { a: 1, n: 1 },
         Operation::Add { a: 0, b: 1 },
         Operation::Send { a: 0, name, object },
     ];
@@ -29,7 +29,9 @@ pub fn recursion(random: &mut Random) -> Draft {
     }
     scene.draft.put(object, name, script);
     scene.start(object, name);
-    scene.draft.root_parameter = Some(scene.random.between(6, 9) as u32);
+    // The parameter counts up, and is NIL in the frame that sends no more.
+    let sends = scene.random.between(6, 9) as u32;
+    scene.draft.root_parameter = Some(u32::MAX - (sends - 1));
     scene.draft
 }
 

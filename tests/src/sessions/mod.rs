@@ -9,6 +9,7 @@ mod managers;
 mod objects;
 pub mod rules;
 mod scene;
+mod sums;
 mod work;
 
 pub use damage::damaged;
@@ -26,7 +27,7 @@ pub fn valid(random: &mut Random) -> Vec<u8> {
 }
 
 /// Those that are drawn alike, some of them twice or more.
-const SHAPES: [fn(&mut Random) -> Draft; 38] = [
+const SHAPES: [fn(&mut Random) -> Draft; 41] = [
     managers::recursion,
     managers::path,
     managers::upward_inside,
@@ -63,6 +64,9 @@ const SHAPES: [fn(&mut Random) -> Draft; 38] = [
     objects::withdrawn,
     objects::absent,
     objects::absent,
+    sums::sums,
+    sums::sums,
+    sums::ended_loop,
     any_steps,
     any_steps,
 ];

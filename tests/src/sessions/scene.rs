@@ -224,13 +224,12 @@ impl<'r> Scene<'r> {
     }
 }
 
-/// The body `count` times, with registers 2 and 3 to count and register 1 NIL:
-/// 1 + count × (body + 3) steps.
+/// The body `count` times, at least once, with registers 2 and 3 to count and register
+/// 1 NIL: 1 + count × (body + 3) steps. It counts up, as no number can be added to count
+/// down; the sum that passes the largest number ends it.
 pub fn counted(count: u32, body: Vec<Operation>) -> Vec<Operation> {
-    let mut script = vec![
-        Operation::Set { a: 2, n: count },
-        Operation::Set { a: 3, n: u32::MAX },
-    ];
+    let n = u32::MAX - (count - 1);
+    let mut script = vec![Operation::Set { a: 2, n }, Operation::Set { a: 3, n: 1 }];
     script.extend(body);
     script.push(Operation::Add { a: 2, b: 3 });
     let end = script.len() as u8 + 2;

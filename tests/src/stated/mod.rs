@@ -1,10 +1,12 @@
 //! The cases M1 to M12 that document 01 states with their answers, M5's as
 //! document 02 changes it, two with more than 65,536 bytes, tables with and without
-//! greatest lower bounds, pages, and objects made and withdrawn.
+//! greatest lower bounds, pages, objects made and withdrawn, and sums.
 
 mod bounds;
+mod case;
 mod objects;
 mod receivers;
+mod sums;
 
 use crate::library::Answer;
 use crate::limits::*;
@@ -82,6 +84,7 @@ pub fn cases() -> Vec<(&'static str, Vector)> {
     cases.extend(pages());
     cases.extend(receivers::cases());
     cases.extend(objects::cases());
+    cases.extend(sums::cases());
     cases
 }
 

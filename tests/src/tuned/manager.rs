@@ -138,7 +138,7 @@ impl Manager {
                 let b = usize::from(b) % REGISTERS;
                 let terms = (frame.registers[register], frame.registers[b]);
                 frame.registers[register] = match terms {
-                    (Some(x), Some(y)) => Some(x.wrapping_add(y)),
+                    (Some(x), Some(y)) => x.checked_add(y),
                     _ => None,
                 };
             }

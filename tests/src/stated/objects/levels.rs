@@ -1,10 +1,10 @@
 //! Objects of one level that managers of the level above read or run.
 
-use super::super::{depth_first, finished, plain, shown, vector};
-use super::{root, send, Case, NIL};
 use crate::limits::FIELDS;
 use crate::record::Operation::{self, *};
 use crate::record::{self, History, Record};
+use crate::stated::case::{root, send, Case, NIL};
+use crate::stated::{depth_first, finished, plain, shown, vector};
 use crate::vectors::Vector;
 
 pub fn cases() -> Vec<Case> {

@@ -3,104 +3,11 @@
 
 mod levels;
 
-use super::{depth_first, draft, finished, paged, plain, printed, shown, timetable, vector};
-use crate::limits::{FIELDS, PAGE_LENGTH, RESULT_LENGTH};
+use super::case::{root, send, Case, NIL};
+use super::shown;
 use crate::record::Operation::{self, *};
-use crate::record::{self, History, Record, Value};
-use crate::sessions::Draft;
+use crate::record::{self, History, Value};
 use crate::vectors::Vector;
-
-/// A session with what a reader at its highest level is shown.
-struct Case {
-    name: &'static str,
-    session: Draft,
-    /// By each of which the run finishes.
-    timetables: Vec<Vec<u8>>,
-    shown: Vec<Record>,
-}
-
-impl Case {
-    /// A session of one level with one object, of which method 0 has these steps.
-    fn alone(name: &'static str, script: Vec<Operation>) -> Self {
-        let mut session = draft(&[0x01]);
-        session.put(0, 0, script);
-        Case {
-            name,
-            session,
-            timetables: Vec::new(),
-            shown: Vec::new(),
-        }
-    }
-
-    /// A session of level 1 over level 0, with object 0 at level 0 and object 1 at
-    /// level 1.
-    fn two_levels(name: &'static str) -> Self {
-        Case {
-            name,
-            session: draft(&[0x01, 0x03]),
-            timetables: Vec::new(),
-            shown: Vec::new(),
-        }
-    }
-
-    fn method(mut self, object: u8, name: u8, script: Vec<Operation>) -> Self {
-        self.session.put(object, name, script);
-        self
-    }
-
-    fn timetable(mut self, list: &[u8]) -> Self {
-        self.timetables.push(list.to_vec());
-        self
-    }
-
-    fn shows(mut self, records: Vec<Record>) -> Self {
-        self.shown = records;
-        self
-    }
-
-    /// Of a session of one level: its one manager takes a step to start and then so
-    /// many. The objects come before its history and its reply.
-    fn shows_alone(self, objects: Vec<Record>, history: History, reply: Value) -> Self {
-        let steps = usize::from(history.steps) + 1;
-        let last = [history.record(), record::reply(0, reply)];
-        self.timetable(&vec![0; steps])
-            .shows([objects, last.to_vec()].concat())
-    }
-
-    /// All runs of it.
-    fn vectors(self) -> Vec<(&'static str, Vector)> {
-        let clearance = self.session.masks.len() - 1;
-        let mut runs = vec![plain(clearance), depth_first(clearance)];
-        runs.extend(
-            self.timetables
-                .iter()
-                .map(|list| timetable(list, clearance)),
-        );
-        let session = self.session.bytes();
-        let expected = finished(self.shown.concat());
-        runs.into_iter()
-            .map(|run| (self.name, vector(session.clone(), run, expected.clone())))
-            .collect()
-    }
-}
-
-const NIL: [Value; FIELDS] = [None; FIELDS];
-
-/// The history of the only manager of level 0.
-fn root(ending: u8, writes: u8, steps: u16) -> History {
-    History {
-        ending,
-        writes,
-        first_write_stamp: 1,
-        last_write_stamp: 1,
-        steps,
-        ..History::default()
-    }
-}
-
-fn send(a: u8, name: u8, object: u8) -> Operation {
-    Send { a, name, object }
-}
 
 pub fn cases() -> Vec<(&'static str, Vector)> {
     let mut cases = vec![fifth(), first_maker(), at_level_1()];
@@ -110,26 +17,15 @@ pub fn cases() -> Vec<(&'static str, Vector)> {
     cases.extend(levels::cases());
     let mut vectors: Vec<_> = cases.into_iter().flat_map(Case::vectors).collect();
     vectors.extend(levels::hidden());
-    vectors.push(fewer_writes());
     vectors
 }
 
 /// The page of an ending 2 with 13 writes.
-fn fewer_writes() -> (&'static str, Vector) {
-    let page = "\
+const FEWER_WRITES: &str = "\
 00000000 0 2 13   1   1  15
 TOTAL                    15
 LEVEL 0          15       0
 ";
-    let mut cases = limits().into_iter();
-    let case = cases.find(|case| case.name == AT_THIRTEEN);
-    let case = case.expect("it is one of them");
-    let expected = printed(case.shown.concat(), page);
-    let request = paged(0, RESULT_LENGTH, PAGE_LENGTH);
-    (case.name, vector(case.session.bytes(), request, expected))
-}
-
-const AT_THIRTEEN: &str = "CREATE at 13 writes";
 
 /// The fifth gives NIL, though 16 writes are counted by then.
 fn fifth() -> Case {
@@ -169,11 +65,9 @@ fn limits() -> Vec<Case> {
             Some(32),
         ),
         // Nothing is made or counted, and the CREATE is the fifteenth step.
-        Case::alone(AT_THIRTEEN, create(13)).shows_alone(
-            vec![shown(0, 0, one)],
-            root(2, 13, 15),
-            None,
-        ),
+        Case::alone("CREATE at 13 writes", create(13))
+            .shows_alone(vec![shown(0, 0, one)], root(2, 13, 15), None)
+            .prints(FEWER_WRITES),
         Case::alone("WITHDRAW as 16th write", withdraw(3)).shows_alone(made, root(0, 16, 7), None),
         Case::alone("WITHDRAW at 16 writes", withdraw(4)).shows_alone(all, root(2, 16, 8), None),
     ]
