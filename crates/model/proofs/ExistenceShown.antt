@@ -207,7 +207,7 @@ pub record Shown : Type 0 where
   fifteen-counts : inRuns atFifteen (managersAt 0) ≡ replicate 3 ((0 ∷ 16 ∷ 0 ∷ 1 ∷ 1 ∷ 8 ∷ []) ∷ [])
   fifteen-shown : inRuns atFifteen (shownTo 0 atFifteen) ≡ replicate 3 (32 ∷ 33 ∷ 34 ∷ [])
   fifteen-reply : inRuns atFifteen replied ≡ replicate 3 (Number 34 ∷ [])
-  -- "A card withdrawn by the end is not shown. Existing made cards are shown after the others by number". "Level n owns numbers 32 + 4n to 35 + 4n":
+  -- "[An object] withdrawn by the end is not shown. Existing made [ones] are shown after the others by number". "Level n owns numbers 32 + 4n to 35 + 4n":
   -- each level counts its own
   shown-to-3 : plainBytes (making makes) 0 3 ≡ for3
   shown-to-3-depth-first : deepBytes (making makes) 0 3 ≡ for3
@@ -216,7 +216,7 @@ pub record Shown : Type 0 where
   shown-to-1 : plainBytes (making makes) 0 1 ≡ for1
   shown-to-0 : plainBytes (making makes) 0 0 ≡ for0
   session-shown : answered (plain (lent session 3)) ≡ 0 ∷ 0 ∷ 176 ∷ for3
-  -- "The wall's third line holds .., whatever cards are made or withdrawn at levels the reader's does not dominate": where object 1 makes none, is
+  -- demand 3 holds "whatever [objects] are made or withdrawn at levels the reader's does not dominate": where object 1 makes none, is
   -- withdrawn, or is emptied, a reader of level 2 is shown the same; one of level 1 is not
   withdrawn-above-1 : plainBytes (making withdraws) 0 1 ≡ for1Withdrawn
   withdrawn-above-2 : plainBytes (making withdraws) 0 2 ≡ for2

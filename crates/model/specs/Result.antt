@@ -91,11 +91,11 @@ stepsIn rec = halfOf rec 12
 unfoldable pub replyRecord : ℕ → Value → Record
 replyRecord level v = 7 ∷ level ∷ 0 ∷ tag v ∷ [] ++ bytes4 (numberIn v) ++ replicate 8 0
 
--- "Kind 5: objects by number": those of the session; "Existing made cards are shown after the others by number" (document 02, job 7)
+-- "Kind 5: objects by number": those of the session; "Existing made [objects] are shown after the others by number" (document 02, job 7)
 abbrev pub numbersOf : Program → List ℕ
 numbersOf p = tab (p .objects) (λ o. o) ++ tab (madeObjects * p .levels) (λ i. maxObjects + i)
 
--- "For levels the clearance dominates"; "A card withdrawn by the end is not shown", nor is one that was never made
+-- "For levels the clearance dominates"; "[An object] withdrawn by the end is not shown", nor is one that was never made
 abbrev pub isShown : Program → Result → ℕ → ℕ → Bool
 isShown p r c o = p .dom c (p .level o) && isThere (r .field o existence)
 

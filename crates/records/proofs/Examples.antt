@@ -62,7 +62,7 @@ history1 = 6 ∷ 1 ∷ 0 ∷ 2 ∷ 0 ∷ 0 ∷ 0 ∷ 0x10 ∷ 1 ∷ 0 ∷ 1 ∷ 
 pub record Examples : Type 0 where
   m1 : bytesFor 0 ≡ object0 ++ history0 ++ reply
   m2 : bytesFor 1 ≡ object0 ++ object1 ++ history0 ++ history1 ++ reply
-  -- "A card withdrawn by the end is not shown", and made ones are, to whom their level is shown
+  -- "[An object] withdrawn by the end is not shown", and made ones are, to whom their level is shown
   changed-low : bytesFrom changed 0 ≡ history0 ++ reply
   changed-high : bytesFrom changed 1 ≡ object1 ++ object36 ++ history0 ++ history1 ++ reply
 

@@ -83,7 +83,7 @@ pub record RecordOf (p : Program) (r : Result) (c : ℕ) (rec : Record) : Type 0
   pub dominated : p .dom c (p .level object) ≡ true
   pub is : rec ≡ objectRecord object (p .level object) (r .field object)
 
--- "A card withdrawn by the end is not shown": every record of kind 5 in the bytes of a result is such a record
+-- "[An object] withdrawn by the end is not shown": every record of kind 5 in the bytes of a result is such a record
 abbrev pub ShownAreThere : Type 0
 ShownAreThere =
     (p : Program) (rootLevel : ℕ) (r : Result) (c : ℕ) (rec : Record) → Among rec (ofKind 5 (bytesOf p rootLevel r c)) → RecordOf p r c rec
@@ -94,7 +94,7 @@ WithdrawnNotShown =
     (p : Program) (rootLevel : ℕ) (r : Result) (c : ℕ) (rec : Record) → Among rec (ofKind 5 (bytesOf p rootLevel r c))
     → isThere (r .field (byteOf rec 1) existence) ≡ false → ⊥
 
--- "Existing made cards are shown after the others": every number's object that is there, and whose level c dominates, has its record
+-- "Existing made [objects] are shown after the others": every number's object that is there, and whose level c dominates, has its record
 abbrev pub ThereAreShown : Type 0
 ThereAreShown =
     (p : Program) (rootLevel : ℕ) (r : Result) (c o : ℕ)
