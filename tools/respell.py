@@ -10,6 +10,7 @@ strings, inputs and outputs. It stops where two names would fall together.
 """
 import collections
 import glob
+import os
 import re
 import sys
 
@@ -105,6 +106,17 @@ def clashes(found, renamed):
     return bad
 
 
+def of_libraries(text):
+    """The names that a file takes from a library: they keep their spelling in it."""
+    own = set(os.listdir("crates"))
+    names = set()
+    for module, items in re.findall(r"use ([^\s{;]+)\.\{([^}]*)\}", text):
+        parts = re.split(r"[.·]", module)
+        if parts[0] != "Rattle" or parts[1] not in own:
+            names.update(TOKEN.findall(items))
+    return names
+
+
 def respelled(code, renamed):
     parts = re.split(r'("(?:[^"\\]|\\.)*")', code)
     return "".join(p if p.startswith('"') else TOKEN.sub(lambda m: renamed.get(m.group(0), m.group(0)), p) for p in parts)
@@ -126,23 +138,25 @@ def main():
     paths = [p for part in ("specs", "proofs") for p in glob.glob(f"crates/*/{part}/**/*.antt", recursive=True)]
     paths += glob.glob("crates/*/src/**/*.rt", recursive=True) + glob.glob("crates/*/must-fail/*.edit")
     for path in paths:
-        lines = open(path, encoding="utf-8").read().split("\n")
+        text = open(path, encoding="utf-8").read()
+        lines = text.split("\n")
+        here = {old: new for old, new in renamed.items() if old not in of_libraries(text)}
         comment = "//" if path.endswith(".rt") else "--"
         edit = path.endswith(".edit")
         for i, line in enumerate(lines):
             if edit and not re.match(r"(old|new): ", line):
-                lines[i] = in_ticks(line, renamed)
+                lines[i] = in_ticks(line, here)
                 continue
             at = line.find(comment)
             code, said = (line, "") if at < 0 else (line[:at], line[at:])
             if edit:
                 word, code = code[:5], code[5:]
-                lines[i] = word + respelled(code, renamed) + in_ticks(said, renamed)
+                lines[i] = word + respelled(code, here) + in_ticks(said, here)
             else:
-                lines[i] = respelled(code, renamed) + in_ticks(said, renamed)
-        text = "\n".join(lines)
-        if text != open(path, encoding="utf-8").read():
-            open(path, "w", encoding="utf-8").write(text)
+                lines[i] = respelled(code, here) + in_ticks(said, here)
+        new = "\n".join(lines)
+        if new != text:
+            open(path, "w", encoding="utf-8").write(new)
     for path in ["README.md"] + glob.glob("docs/*.md") + glob.glob("crates/README.md"):
         text = open(path, encoding="utf-8").read()
         new = in_ticks(text, renamed)

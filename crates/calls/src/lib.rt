@@ -1,5 +1,6 @@
 // What a call of an entry answers, for every input: definitions and computed cases. Of code there is only the type of what the page
 // entry answers.
+#![tactic(auto)]
 
 // What the page entry answers: its number, its place, the count of result bytes written, and that of the page.
 #[derive(Drop)]

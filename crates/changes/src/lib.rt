@@ -1,5 +1,7 @@
 // CREATE and WITHDRAW (document 02, job 7): apart from the other operations, since few steps are one, and the others
 // are made in a row.
+#![tactic(auto)]
+
 ghost use Rattle.std.specs.Prelude.{◌≡◌};
 ghost use Rattle.session.specs.Program.{program_of};
 ghost use Rattle.scripts.specs.Manager.{next_step};

@@ -1,4 +1,6 @@
 // Check: the questions that document 01's Check uses, put in their order of any bytes.
+#![tactic(auto)]
+
 mod levels;
 mod objects;
 mod root;

@@ -2,6 +2,8 @@
 //
 // The check makes the level table (`checks::check_into`), and a run makes the method index once. With them
 // each function below costs a few reads: no record is searched for.
+#![tactic(auto)]
+
 ghost use Rattle.std.specs.Prelude.{◌≡◌, ◌++◌, ℕ, ◌+◌, ◌/◌, ◌%◌, ◌≤◌, ◌<◌, length, drop};
 ghost use Rattle.session.specs.Limits.{max_methods, names, fields};
 ghost use Rattle.session.specs.Parts.{level_count, object_count, step_count, masks_of};

@@ -1,5 +1,7 @@
 // The core of a message manager, by value: all of it but for the frames that wait below its top. What a script step
 // makes of one, and frames made and popped.
+#![tactic(auto)]
+
 mod ends;
 mod moves;
 

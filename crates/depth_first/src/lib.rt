@@ -1,4 +1,6 @@
 // The depth-first run: a fork that is made and kept runs whole, before its sender continues.
+#![tactic(auto)]
+
 ghost use Rattle.std.specs.Prelude.{◌≤◌, ◌≡◌, [], length};
 ghost use Rattle.session.specs.Parts.{masks_of};
 ghost use Rattle.session.specs.Questions.{verdict_of};

@@ -2,6 +2,8 @@
 // each manager the levels left above fall.
 //
 // What a run keeps is lent, as crate `progress` says.
+#![tactic(auto)]
+
 ghost use Rattle.std.specs.Prelude.{◌<◌, get_or};
 ghost use Rattle.model.specs.Limits.{max_managers};
 ghost use Rattle.progress.specs.Representation.{Tables, RepresentsSome};

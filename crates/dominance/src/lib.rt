@@ -1,5 +1,6 @@
 // Which level dominates which: orders of levels, their bounds, and level tables with the questions that are put of them (4 and 5 of
 // document 01, 17 of document 02). Definitions and computed cases; of code there is only the type of what the questions say.
+#![tactic(auto)]
 
 // What the questions about a level table say of it.
 #[derive(Drop)]

@@ -2,6 +2,8 @@
 //
 // Each run returns the number of document 01's answer. Its place and count are written to the front of
 // `place_and_count`, or nothing where that has no room for the two; the page entry tells three numbers so.
+#![tactic(auto)]
+
 ghost use Rattle.std.specs.Prelude.{◌≡◌, []};
 ghost use Rattle.session.specs.Questions.{verdict_of, answer_of};
 ghost use Rattle.calls.specs.Entries.{timetabled, plain, deep};

@@ -1,5 +1,6 @@
 // What becomes of a message, by the message filter of RADC-TR-90-91 as document 01 fixes it. Definitions and computed cases; of code
 // there is only the type of what becomes of one.
+#![tactic(auto)]
 
 // What becomes of a message.
 #[derive(Drop)]

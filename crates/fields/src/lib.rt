@@ -1,5 +1,7 @@
 // The fields and the existence of the objects of a run, and what of them a manager has read: two words for each
 // value, four values for each number that an object can have.
+#![tactic(auto)]
+
 pub mod reads;
 pub mod values;
 

@@ -1,5 +1,7 @@
 // The message filter of RADC-TR-90-91, as document 01 fixes it: what becomes of a message from one
 // object to another.
+#![tactic(auto)]
+
 ghost use Rattle.std.specs.Prelude.{◌≡◌, true, length};
 ghost use Rattle.dominance.specs.Table.{dominates, is_ordered};
 ghost use Rattle.fates.specs.Filter.{fate_of};

@@ -1,4 +1,6 @@
 // The run of the first fork that waits at a level, to its end.
+#![tactic(auto)]
+
 ghost use Rattle.level_state.specs.Steps.{Tables};
 ghost use Rattle.fork_runs.specs.Running.{NextReady, NextDone};
 

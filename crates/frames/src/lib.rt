@@ -1,4 +1,6 @@
 // Frames of a message manager, by value: the one on top, and those that wait below it.
+#![tactic(auto)]
+
 pub mod values;
 
 ghost use Rattle.std.specs.Prelude.{◌+◌, ◌^◌, ◌≤◌, ◌<◌, ◌≡◌, cond, [], ◌∷◌, leb, get_or};

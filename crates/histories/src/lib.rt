@@ -1,4 +1,6 @@
 // The histories of a run: ROW_WORDS words for each, MAX_MANAGERS of them for each level, in stamp order.
+#![tactic(auto)]
+
 pub mod limits;
 pub mod places;
 

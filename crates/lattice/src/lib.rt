@@ -3,6 +3,8 @@
 //
 // A table is a lent slice with one mask for each level: bit k of mask i is set when level i
 // dominates level k. A mask of 16 bits has room for sixteen levels.
+#![tactic(auto)]
+
 ghost use Rattle.std.specs.Prelude.{◌≡◌, true, not, ◌&&◌, ◌^◌, ltb, length};
 ghost use Rattle.lists.specs.Range.{implies, first};
 ghost use Rattle.dominance.specs.Order.{reflexive, antisymmetric, transitive};

@@ -1,5 +1,7 @@
 // The text of a page, as ASCII. Each function writes to a page from `at` on and returns the place behind what it
 // wrote.
+#![tactic(auto)]
+
 ghost use Rattle.std.specs.Prelude.{◌+◌, ◌^◌, ◌≤◌, ◌<◌, ◌≡◌, [], ◌∷◌, length, replicate};
 ghost use Rattle.session.specs.Limits.{record_bytes, max_levels};
 ghost use Rattle.lists.specs.Lists.{tab, joined};

@@ -1,5 +1,7 @@
 // What the manager that runs at a level reads, of its own level and of those below, and the answers to what it asks for:
 // they are kept in `cache`.
+#![tactic(auto)]
+
 ghost use Rattle.std.specs.Prelude.{ℕ, ◌≤◌, ◌<◌, ◌≡◌};
 ghost use Rattle.session.specs.Limits.{fields};
 ghost use Rattle.session.specs.Parts.{object_count};

@@ -5,6 +5,8 @@
 // has read of them, as in `fields`; `ended` the histories, as in `histories`; `tallies` the counts of each level, as in
 // the crate of that name; `queue` the forks, as in `queues`; `work` the versions, as in `versions`.
 // How the scheduler steps of a run end.
+#![tactic(auto)]
+
 #[derive(Drop)]
 pub enum RunEnd {
     Finished,

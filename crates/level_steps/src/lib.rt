@@ -1,4 +1,6 @@
 // What a scheduler step at a level is made of, but for the script step itself: that is the manager's own.
+#![tactic(auto)]
+
 ghost use Rattle.std.specs.Prelude.{◌+◌, ◌<◌};
 ghost use Rattle.scripts.specs.Limits.{write_stamps};
 ghost use Rattle.cores.specs.Core.{effect_of};

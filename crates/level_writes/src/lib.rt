@@ -1,4 +1,6 @@
 // What the manager that runs at a level writes: a field, and what a CREATE or WITHDRAW does.
+#![tactic(auto)]
+
 ghost use Rattle.scripts.specs.Existence.{making};
 ghost use Rattle.scripts.specs.Effect as effect;
 ghost use Rattle.frames.specs.Frames.{frame_of};

@@ -1,5 +1,7 @@
 // What the program prints, as ASCII. Each function writes to a text from `at` on, or from its start, and
 // returns the place behind what it wrote.
+#![tactic(auto)]
+
 ghost use Rattle.std.specs.Prelude.{◌+◌, ◌*◌, ◌≤◌, ◌<◌, ◌≡◌, [], ◌∷◌, length};
 ghost use Rattle.io.specs.Digits.{hex_digit_ascii};
 ghost use Rattle.session.specs.Record.{record_at, record_count};

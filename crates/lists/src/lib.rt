@@ -1,1 +1,2 @@
 // Ranges and lists: definitions and their laws, and no code. All other crates stand on this one.
+#![tactic(auto)]

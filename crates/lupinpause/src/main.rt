@@ -1,5 +1,7 @@
 // The program of document 01: reads a session from standard input, runs it plainly for a reader cleared to
 // the root's level, and prints the result records or the refusal.
+#![tactic(auto)]
+
 ghost use Rattle.std.specs.Prelude.{◌*◌, ◌≤◌, ◌<◌, length};
 ghost use Rattle.session.specs.Limits.{record_bytes, max_records};
 ghost use Rattle.session.specs.Meaning.{level_of, root_object};

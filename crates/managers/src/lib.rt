@@ -1,4 +1,6 @@
 // Message managers: a stack of frames that runs the methods of one message, by value.
+#![tactic(auto)]
+
 ghost use Rattle.std.specs.Prelude.{◌≤◌, ◌<◌, ◌≡◌};
 ghost use Rattle.session.specs.Parts.{object_count};
 ghost use Rattle.scripts.specs.Limits.{max_script_steps};

@@ -1,5 +1,7 @@
 // What a run is: definitions and computed cases; what is proved of every run is crate `theorems`. Of code there are
 // only the numbers that documents 01 and 02 fix for runs, under the names that the definitions give them.
+#![tactic(auto)]
+
 use scripts::MAX_WRITES;
 use session::limits::{MAX_LEVELS, MAX_NUMBERS, RECORD_BYTES};
 

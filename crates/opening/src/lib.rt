@@ -1,5 +1,7 @@
 // What every entry does before a run: its session is checked and its level table made, once; the clearance and the
 // lent slices are measured; and a refusal is answered.
+#![tactic(auto)]
+
 ghost use Rattle.std.specs.Prelude.{◌^◌, ◌≤◌, ◌<◌, ◌≡◌, leb, length};
 ghost use Rattle.session.specs.Limits.{max_levels};
 ghost use Rattle.model.specs.Limits.{work_numbers};

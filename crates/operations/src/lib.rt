@@ -1,4 +1,6 @@
 // Operations: the next script step of a core that runs.
+#![tactic(auto)]
+
 ghost use Rattle.std.specs.Prelude.{◌<◌, ◌≡◌, ◌||◌, eqb};
 ghost use Rattle.session.specs.Limits.{fields as fieldCount, registers};
 ghost use Rattle.session.specs.Program.{program_of};

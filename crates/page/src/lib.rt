@@ -1,4 +1,6 @@
 // The printed page of a run: a depth-first run, its result records, and a text that lays out the histories shown.
+#![tactic(auto)]
+
 ghost use Rattle.std.specs.Prelude.{◌^◌, ◌<◌, []};
 ghost use Rattle.calls.specs.Page.{Refused, Finished, paged, PageAnswers};
 

@@ -1,4 +1,6 @@
 // Questions 12 to 15, which look at what is counted of each level and at the forks.
+#![tactic(auto)]
+
 ghost use Rattle.std.specs.Prelude.{◌≡◌, true, ◌<◌, length};
 ghost use Rattle.tallies.specs.Places.{managed};
 ghost use Rattle.permits.specs.Permits.{lowest_of, free_of, ended_of, permit_of, Countable, Askable};

@@ -1,5 +1,7 @@
 // The plain run. All lists of steps that finish give the same result, so its order is free: level after level
 // by the conservative rule, each until all its managers have ended.
+#![tactic(auto)]
+
 ghost use Rattle.model.specs.Schedule.{initial_state};
 ghost use Rattle.level_state.specs.Steps.{Tables};
 ghost use Rattle.level_state.specs.Ends.{Quiescent, SameRest};

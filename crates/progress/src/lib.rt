@@ -3,6 +3,8 @@
 // What a run keeps is lent: `current` holds the fields and the existence of objects, as in `fields`; `ended` the
 // histories, as in `histories`; `tallies` how many managers of each level have ended, the write stamp of its next one,
 // and whether existence was written, as in the crate of that name.
+#![tactic(auto)]
+
 pub mod writes;
 
 ghost use Rattle.progress.specs.Starts.{StartReady, StartDone};

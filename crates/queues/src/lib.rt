@@ -2,6 +2,8 @@
 //
 // Each level has room for MAX_MANAGERS forks. A level's forks that started stand first, those that wait
 // behind them, by rising stamp: a fork that starts is not moved.
+#![tactic(auto)]
+
 ghost use Rattle.std.specs.Prelude.{ℕ, ◌+◌, ◌-◌, ◌^◌, ◌≤◌, ◌<◌, ◌≡◌, get_or};
 ghost use Rattle.session.specs.Limits.{max_levels};
 ghost use Rattle.scripts.specs.Limits.{max_forks};

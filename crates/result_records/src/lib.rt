@@ -1,4 +1,6 @@
 // Result records by value.
+#![tactic(auto)]
+
 ghost use Rattle.std.specs.Prelude.{◌≡◌, ◌∷◌, ◌++◌, ◌%◌, ◌^◌, ◌≤◌, ◌<◌, length};
 ghost use Rattle.session.specs.Limits.{max_numbers, max_levels};
 ghost use Rattle.scripts.specs.Ending.{number_of_ending};

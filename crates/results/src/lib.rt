@@ -1,4 +1,6 @@
 // The result of a run: the records that a clearance is shown, written to a buffer.
+#![tactic(auto)]
+
 mod shown;
 
 ghost use Rattle.results.specs.Writing.{result_in, bytes_in, Ready};

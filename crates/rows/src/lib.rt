@@ -1,4 +1,6 @@
 // Rows of equal width in a lent slice of words, in order of their first words, the keys.
+#![tactic(auto)]
+
 ghost use Rattle.std.specs.Prelude.{◌+◌, ◌*◌, ◌≤◌, ◌<◌, length};
 ghost use Rattle.rows.specs.Rows.{rows_at, Rising};
 ghost use Rattle.rows.specs.Change.{Shifted, Stored, Room, Place, Put, Inserted};

@@ -1,4 +1,6 @@
 // The timetabled run and the plain run.
+#![tactic(auto)]
+
 ghost use Rattle.session.specs.Meaning.{level_of, root_object};
 ghost use Rattle.scripts.specs.Valid.{Leveled};
 ghost use Rattle.calls.specs.Entries.{timetabled, plain as plainly, Answers};

@@ -1,5 +1,7 @@
 // What a message manager is and what a script step does to it: definitions, laws and computed cases. Of code there are only limits and
 // types: how a manager stands, and what is kept of one that has ended.
+#![tactic(auto)]
+
 use session::Value;
 
 // The numbers that documents 01 and 02 fix for managers, under the names that the definitions give them: how many

@@ -1,5 +1,7 @@
 // Sessions: the records of document 01, what they say, and the questions that Check puts of them. Definitions and computed cases;
 // of code there are only types and limits.
+#![tactic(auto)]
+
 pub mod limits;
 
 // A field, a register, a parameter or a reply: NIL or a number.

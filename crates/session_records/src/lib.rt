@@ -1,4 +1,6 @@
 // The records of a session, read from its bytes: one record, and how many there are of each kind.
+#![tactic(auto)]
+
 pub mod kinds;
 pub mod masks;
 pub mod places;

@@ -1,4 +1,6 @@
 // What is counted of each level, in lent numbers of one layout for every run.
+#![tactic(auto)]
+
 ghost use Rattle.std.specs.Prelude.{◌≡◌, ◌≤◌, ◌<◌, ltb, length, get_or};
 ghost use Rattle.session.specs.Limits.{max_levels};
 ghost use Rattle.model.specs.Limits.{max_managers};

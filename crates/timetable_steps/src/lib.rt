@@ -1,4 +1,6 @@
 // What a step of a timetable is made of besides the parts of a scheduler step: one that waits for existence, and the end of the run.
+#![tactic(auto)]
+
 ghost use Rattle.std.specs.Prelude.{◌≡◌};
 ghost use Rattle.permits.specs.Permits.{number_of_permit, ended_of, Countable};
 ghost use Rattle.level_state.specs.Steps.{Tables};

@@ -1,4 +1,6 @@
 // A run by a timetable: one scheduler step for each of its bytes.
+#![tactic(auto)]
+
 ghost use Rattle.model.specs.Schedule.{initial_state};
 ghost use Rattle.level_state.specs.Steps.{Tables};
 ghost use Rattle.level_state.specs.Ends.{Quiescent, Ends, SameRest};

@@ -2,6 +2,8 @@
 //
 // Each level has a log of its own. A write adds a version to its end, and write stamps never fall. So a
 // read finds which versions are not above its bound by halving, and goes through those backward.
+#![tactic(auto)]
+
 ghost use Rattle.std.specs.Prelude.{◌≡◌, ◌+◌, ◌<◌, ◌≤◌, length, nat_lt};
 ghost use Rattle.session.specs.Limits.{max_levels};
 ghost use Rattle.model.specs.Limits.{work_numbers};

@@ -2,7 +2,7 @@
 -- bound there. Assumes nothing.
 use Prim.Native.Nat.{ℕ, ◌^◌, ◌≤◌, ◌<◌}
 use mathlib.Core.Path.{◌≡◌, refl, sym, ◌∙◌, ap, ap₂, subst}
-use mathlib.Core.Bool.{cond, and_false}
+use mathlib.Core.Bool.{cond, and-false}
 use mathlib.Core.List.{List, [], ◌∷◌}
 use native.Mathlib.Decide.{ℕ_discrete}
 use native.Mathlib.Omega.{arith}
@@ -125,13 +125,13 @@ none_newest : (i : Value) (o : ℕ) (vs : List Version) → Each OfField vs → 
 unfolding newest
 none_newest i o [] e = refl
 none_newest i o (w ∷ ws) e =
-    rw (ne_eqb w.field existence (λ z. omega (arith, z, e.0)), and_false (eqb w.object o)) (none_newest i o ws e.1)
+    rw (ne_eqb w.field existence (λ z. omega (arith, z, e.0)), and-false (eqb w.object o)) (none_newest i o ws e.1)
 
 none_newest_to : (v : ℕ) (i : Value) (o : ℕ) (vs : List Version) → Each OfField vs → newest_to v i o existence vs ≡ i
 unfolding newest_to
 none_newest_to v i o [] e = refl
 none_newest_to v i o (w ∷ ws) e =
-    rw (ne_eqb w.field existence (λ z. omega (arith, z, e.0)), and_false (eqb w.object o)) (none_newest_to v i o ws e.1)
+    rw (ne_eqb w.field existence (λ z. omega (arith, z, e.0)), and-false (eqb w.object o)) (none_newest_to v i o ws e.1)
 
 pub read_first : (s : List ℕ) (st : State) (l : ℕ) (x : Fork) (o : ℕ) → Each OfField (level_at st (level_of s o)).versions → read_at (program_of s) st l x o existence ≡ initially (program_of s) o existence
 unfolding program_of

@@ -1,7 +1,7 @@
 -- Tests of a list as tests of the numbers of its elements. Assumes nothing.
 use Prim.Native.Nat.{ℕ, zero, suc, ◌+◌, ◌<◌}
 use mathlib.Core.Path.{◌≡◌, refl, sym, ◌∙◌, ap₂}
-use mathlib.Core.Bool.{Bool, ◌&&◌, and_true, and_assoc}
+use mathlib.Core.Bool.{Bool, ◌&&◌, and-true, and_assoc}
 use mathlib.Core.List.{List, [], ◌∷◌}
 use native.Mathlib.Nat.{add-zero, add-suc, zero-add, suc-add}
 use native.Mathlib.Omega.{arith}
@@ -13,7 +13,7 @@ use Rattle.lists.specs.Lists.{every, counts_from}
 -- `all`, from its first number on, and of two tests that agree
 pub all_first : (n : ℕ) (p : ℕ → Bool) → all (suc n) p ≡ (p zero && all n (λ i. p (suc i)))
 unfolding all
-all_first zero p = sym (and_true (p zero))
+all_first zero p = sym (and-true (p zero))
 all_first (suc n) p = rw (all_first n p) (and_assoc (p zero) (all n (λ i. p (suc i))) (p (suc n)))
 
 pub all_ext : (n : ℕ) (p q : ℕ → Bool) → ((i : ℕ) → i < n → p i ≡ q i) → all n p ≡ all n q

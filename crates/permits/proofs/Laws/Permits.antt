@@ -1,7 +1,7 @@
 -- Laws of questions 12 to 15 as they are put of what is counted. Assumes nothing.
 use Prim.Native.Nat.{ℕ, ◌+◌, ◌≤◌, ◌<◌}
 use mathlib.Core.Path.{◌≡◌, sym}
-use mathlib.Core.Bool.{Bool, true, false, not, ◌&&◌, or-true, and_false}
+use mathlib.Core.Bool.{Bool, true, false, not, ◌&&◌, or-true, and-false}
 use mathlib.Core.List.{List}
 use native.Mathlib.Omega.{arith}
 use borrow.Author.Tests.{lt-ltb, le-ltb, eq-eqb, ne_eqb}
@@ -25,7 +25,7 @@ passes masks tallies l j = implies (strictly (dominates masks) l j) (not (manage
 module _ (masks tallies : List ℕ) (l j : ℕ) where
   -- why so: j is l itself, or has no manager, or is not dominated
   pub passes_itself : j ≡ l → passes masks tallies l j ≡ true
-  passes_itself e = rw (eq-eqb l j (sym e), and_false)
+  passes_itself e = rw (eq-eqb l j (sym e), and-false)
 
   pub passes_ended : managed tallies j ≡ false → passes masks tallies l j ≡ true
   passes_ended e = rw (e, or-true)
@@ -37,7 +37,7 @@ module _ (masks tallies : List ℕ) (l j : ℕ) where
   pub stops : j < length masks → (j ≡ l → ⊥) → managed tallies j ≡ true → dominates masks l j ≡ true → lowest_of masks tallies l ≡ false
   stops h f e d =
       let z = all_fails (length masks) (passes masks tallies l) j h (rw (d, ne_eqb l j (λ q. f (sym q)), e)) in
-      rw (z, and_false)
+      rw (z, and-false)
 
 module _ (masks tallies : List ℕ) (l : ℕ) where
   pub lowest_idle : managed tallies l ≡ false → lowest_of masks tallies l ≡ false
@@ -62,7 +62,7 @@ spares masks tallies queue l j =
 module _ (masks tallies queue : List ℕ) (l j : ℕ) where
   -- why so: j has none, or is not dominated, or its stamps do not lie before
   pub spares_ended : managed tallies j ≡ false → spares masks tallies queue l j ≡ true
-  spares_ended e = rw (e, and_false)
+  spares_ended e = rw (e, and-false)
 
   pub spares_apart : dominates masks l j ≡ false → spares masks tallies queue l j ≡ true
   spares_apart e = rw e
