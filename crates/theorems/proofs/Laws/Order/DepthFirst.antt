@@ -1,7 +1,7 @@
 -- The order of the depth-first run is an allowed list of steps that finishes. Where each step is made by the manager of largest stamp, those that
 -- have not ended stand in a line of ancestors: no two own disjoint intervals, so none holds another back. Assumes nothing.
 use Prim.Native.Nat.{ℕ, zero, suc, ◌+◌, ◌≤◌, ◌<◌}
-use mathlib.Core.Path.{◌≡◌, refl, sym, ◌∙◌, ap}
+use mathlib.Core.Path.{◌≡◌, refl, sym, ◌∙◌, ap, subst}
 use mathlib.Core.Bool.{true, false, not, ◌||◌}
 use mathlib.Core.List.{List, [], ◌∷◌, map}
 use native.Mathlib.Decide.{ℕ_discrete, dec_lt}
@@ -100,7 +100,8 @@ module _ (p : Program) (so : Sound p) (st : State) (i : StateInvariant p st) (li
               two (waiting_entry n y) (waiting_entry n z) (map (waiting_entry n) zs) (rw q at f) (rw q at r) (rw q at g)
           act (busy x m) ws q f r g =
               let rest : ws ≡ z ∷ zs = tail_same x y ws (z ∷ zs) q in
-              two (running_entry n x m.forks) (waiting_entry n z) (map (waiting_entry n) zs) (rw rest at f) (rw rest at r) (rw rest at g)
+              two (running_entry n x m.forks) (waiting_entry n z) (map (waiting_entry n) zs) (rw rest at f) (rw rest at r)
+              (subst (λ us. Each (λ c. Each (λ d. d.stamp < up_to c) (entries_by n (busy x m) us)) (entries_by n (busy x m) us)) rest g)
 
   -- there is a largest stamp
   largest_below : (n : ℕ) → n ≤ p.levels → Largest st n
