@@ -69,8 +69,8 @@ module _ (chosen : ℕ → Bool) (rec : Record) where
         ∙ sym t
     | fails t ↦
         refuted (eqb (long_of (kept chosen rec) first_long) 0 && eqb (long_of (kept chosen rec) second_long) 0) (λ u.
-        let e = eqb-true _ 0 (and_left (eqb (long_of (kept chosen rec) first_long) 0) (eqb (long_of (kept chosen rec) second_long) 0) u) in
-        let g = eqb-true _ 0 (and_right (eqb (long_of (kept chosen rec) first_long) 0) (eqb (long_of (kept chosen rec) second_long) 0) u) in
+        let e = eqb-true (long_of (kept chosen rec) first_long) 0 (and_left (eqb (long_of (kept chosen rec) first_long) 0) (eqb (long_of (kept chosen rec) second_long) 0) u) in
+        let g = eqb-true (long_of (kept chosen rec) second_long) 0 (and_right (eqb (long_of (kept chosen rec) first_long) 0) (eqb (long_of (kept chosen rec) second_long) 0) u) in
         not_both (zero_at chosen rec)
         (zero_byte λ j h. elim (dec_lt j second_long) [
           | yes l ↦ joined-zero (kept chosen rec) first_long long_bytes e j (omega arith) (omega arith)
