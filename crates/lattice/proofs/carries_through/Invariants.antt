@@ -1,11 +1,9 @@
 use Prim.Native.Nat.{ℕ, ◌≤◌, ◌<◌, ◌-◌}
-use mathlib.Core.Path.{◌≡◌, refl, sym, ◌∙◌}
+use mathlib.Core.Path.{◌≡◌}
 use mathlib.Core.Bool.{true, ◌&&◌}
-use native.Mathlib.Omega.{arith}
 use lib.ListN.{length}
 use Rattle.lists.specs.Range.{implies}
 use Rattle.dominance.specs.Table.{dominates}
-use Rattle.dominance.proofs.Laws.Order.{transitive_fails, transitive-every}
 use Rattle.lattice.proofs.carries_through.Given as goal
 
 abbrev pub invariant-loop-k : goal.invariant-loop-k

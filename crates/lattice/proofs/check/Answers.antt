@@ -1,6 +1,4 @@
 use mathlib.Core.Path.{sym, ◌∙◌}
-use borrow.Author.Rules.{rules}
-use borrow.Author.Tests.{not-true, not-false}
 use Rattle.dominance.proofs.Laws.Table.{not_ordered, no_join, no_meet, all_pass}
 use Rattle.lattice.proofs.check.Goals as goal
 

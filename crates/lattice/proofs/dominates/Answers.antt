@@ -1,5 +1,4 @@
 use mathlib.Core.Path.{sym}
-use borrow.Author.Rules.{rules}
 use Rattle.dominance.specs.Table.{dominates}
 use Rattle.dominance.proofs.Laws.Table.{absent}
 use Rattle.lattice.proofs.dominates.Goals as goal

@@ -1,6 +1,5 @@
 use mathlib.Core.Path.{sym}
 use native.Mathlib.Nat.{le_trans}
-use borrow.Author.Rules.{rules}
 use lib.Pow.{pow_mono}
 use Rattle.dominance.proofs.Laws.Table.{bit_beyond}
 use Rattle.lattice.proofs.has_bit.Goals as goal

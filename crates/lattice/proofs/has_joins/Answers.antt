@@ -1,9 +1,7 @@
-use Prim.Native.Nat.{ℕ, ◌≤◌, ◌<◌, ◌-◌}
-use mathlib.Core.Path.{◌≡◌, sym, ◌∙◌}
+use Prim.Native.Nat.{◌<◌}
+use mathlib.Core.Path.{sym, ◌∙◌}
 use native.Mathlib.Omega.{arith}
-use borrow.Author.Count.{below_none, below_more}
 use lib.ListN.{length}
-use Rattle.dominance.specs.Join.{join}
 use Rattle.dominance.specs.Table.{dominates}
 use Rattle.dominance.proofs.Laws.Join.{not_joined, joined-pairs}
 use Rattle.dominance.proofs.Laws.Table.{partial_order}

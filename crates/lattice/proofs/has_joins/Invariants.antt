@@ -1,11 +1,8 @@
 use Prim.Native.Nat.{ℕ, ◌≤◌, ◌<◌, ◌-◌}
-use mathlib.Core.Path.{◌≡◌, sym, ◌∙◌}
-use native.Mathlib.Omega.{arith}
+use mathlib.Core.Path.{◌≡◌}
 use lib.ListN.{length}
 use Rattle.dominance.specs.Join.{join}
 use Rattle.dominance.specs.Table.{dominates}
-use Rattle.dominance.proofs.Laws.Join.{not_joined, joined-pairs}
-use Rattle.dominance.proofs.Laws.Table.{partial_order}
 use Rattle.lattice.proofs.has_joins.Given as goal
 
 abbrev pub invariant-loop-b : goal.invariant-loop-b

@@ -1,12 +1,5 @@
-use Prim.Native.Nat.{ℕ, ◌≤◌, ◌<◌, ◌-◌}
-use mathlib.Core.Path.{◌≡◌, sym, ◌∙◌}
-use mathlib.Core.Bool.{false}
+use mathlib.Core.Path.{sym, ◌∙◌}
 use native.Mathlib.Omega.{arith}
-use borrow.Author.Count.{below_none, below_more}
-use borrow.Author.Rules.{rules}
-use lib.ListN.{length}
-use Rattle.dominance.specs.Meet.{is_lowest}
-use Rattle.dominance.specs.Table.{dominates}
 use Rattle.dominance.proofs.Laws.Table.{lowest_met, none_met}
 use Rattle.lattice.proofs.has_meets.Goals as goal
 

@@ -1,11 +1,9 @@
 use Prim.Native.Nat.{ℕ, ◌≤◌, ◌<◌, ◌-◌}
-use mathlib.Core.Path.{◌≡◌, sym, ◌∙◌}
+use mathlib.Core.Path.{◌≡◌}
 use mathlib.Core.Bool.{false}
-use native.Mathlib.Omega.{arith}
 use lib.ListN.{length}
 use Rattle.dominance.specs.Meet.{is_lowest}
 use Rattle.dominance.specs.Table.{dominates}
-use Rattle.dominance.proofs.Laws.Table.{lowest_met, none_met}
 use Rattle.lattice.proofs.has_meets.Given as goal
 
 abbrev pub invariant-loop-l : goal.invariant-loop-l

@@ -1,12 +1,9 @@
 use Prim.Native.Nat.{◌-◌}
-use mathlib.Core.Path.{refl, sym, ◌∙◌}
-use native.Mathlib.Omega.{arith}
 use lib.ListN.{length}
 use Rattle.lists.specs.Range.{implies}
 use Rattle.dominance.specs.Join.{is_upper}
 use Rattle.dominance.specs.Table.{dominates}
-use Rattle.lists.proofs.Laws.Range.{Tested, tested_none, tested_more, tested_fails, tested_all}
-use Rattle.dominance.proofs.Laws.Join.{least_no_upper, least_undercut, least_every}
+use Rattle.lists.proofs.Laws.Range.{Tested}
 use Rattle.lattice.proofs.is_least.Given as goal
 
 abbrev pub invariant-loop-v : goal.invariant-loop-v

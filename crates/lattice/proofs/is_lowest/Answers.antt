@@ -1,10 +1,5 @@
-use Prim.Native.Nat.{◌-◌}
-use native.Mathlib.Omega.{arith}
-use borrow.Author.Rules.{rules}
-use lib.ListN.{length}
 use Rattle.dominance.specs.Meet.{is_lowest}
-use Rattle.dominance.specs.Table.{dominates}
-use Rattle.lists.proofs.Laws.Range.{Tested, tested_none, tested_more, tested_fails, tested_all}
+use Rattle.lists.proofs.Laws.Range.{tested_none, tested_more, tested_fails, tested_all}
 use mathlib.Core.Path.{ap}
 use mathlib.Core.Bool.{not}
 use Rattle.lattice.proofs.is_lowest.Goals as goal

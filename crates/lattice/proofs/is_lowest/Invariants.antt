@@ -1,9 +1,7 @@
 use Prim.Native.Nat.{◌-◌}
-use native.Mathlib.Omega.{arith}
 use lib.ListN.{length}
-use Rattle.dominance.specs.Meet.{is_lowest}
 use Rattle.dominance.specs.Table.{dominates}
-use Rattle.lists.proofs.Laws.Range.{Tested, tested_none, tested_more, tested_fails, tested_all}
+use Rattle.lists.proofs.Laws.Range.{Tested}
 use Rattle.lattice.proofs.is_lowest.Given as goal
 
 abbrev pub invariant-loop-i : goal.invariant-loop-i

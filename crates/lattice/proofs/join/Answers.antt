@@ -1,6 +1,5 @@
 use mathlib.Core.Path.{◌≡◌, sym, ◌∙◌}
 use mathlib.Core.Bool.{true}
-use borrow.Author.Rules.{rules}
 use lib.ListN.{length}
 use Rattle.dominance.specs.Table.{dominates}
 use Rattle.dominance.proofs.Laws.Join.{join-left, join-right}

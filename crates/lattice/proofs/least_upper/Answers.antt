@@ -1,4 +1,3 @@
-use borrow.Author.Rules.{rules}
 use Rattle.dominance.specs.Join.{join}
 use Rattle.lattice.proofs.least_upper.Goals as goal
 

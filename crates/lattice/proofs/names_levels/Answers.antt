@@ -1,12 +1,8 @@
-use Prim.Native.Nat.{◌-◌, ◌^◌}
 use mathlib.Core.Path.{sym, ap}
-use native.Mathlib.Omega.{arith}
-use borrow.Author.Rules.{rules}
-use lib.Dec.{ltb}
-use lib.ListN.{length, get_or}
+use lib.ListN.{length}
 use Rattle.dominance.specs.Order.{reflexive}
 use Rattle.dominance.specs.Table.{dominates, names_present}
-use Rattle.lists.proofs.Laws.Range.{and_both, and_fails_left, and_fails_right, Tested, tested_none, tested_more, tested_fails, tested_all}
+use Rattle.lists.proofs.Laws.Range.{and_both, and_fails_left, and_fails_right, tested_none, tested_more, tested_fails, tested_all}
 use mathlib.Core.Bool.{not}
 use Rattle.lattice.proofs.names_levels.Goals as goal
 

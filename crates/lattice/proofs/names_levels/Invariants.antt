@@ -1,11 +1,8 @@
 use Prim.Native.Nat.{◌-◌, ◌^◌}
-use mathlib.Core.Path.{sym}
-use native.Mathlib.Omega.{arith}
 use lib.Dec.{ltb}
 use lib.ListN.{length, get_or}
-use Rattle.dominance.specs.Order.{reflexive}
-use Rattle.dominance.specs.Table.{dominates, names_present}
-use Rattle.lists.proofs.Laws.Range.{and_both, and_fails_left, and_fails_right, Tested, tested_none, tested_more, tested_fails, tested_all}
+use Rattle.dominance.specs.Table.{dominates}
+use Rattle.lists.proofs.Laws.Range.{Tested}
 use Rattle.lattice.proofs.names_levels.Given as goal
 
 abbrev pub invariant-loop-i : goal.invariant-loop-i

@@ -1,10 +1,8 @@
 use Prim.Native.Nat.{ℕ, ◌≤◌, ◌<◌, ◌-◌}
-use mathlib.Core.Path.{◌≡◌, sym, ◌∙◌}
+use mathlib.Core.Path.{◌≡◌}
 use mathlib.Core.Bool.{false, ◌&&◌}
-use native.Mathlib.Omega.{arith}
 use lib.ListN.{length}
 use Rattle.dominance.specs.Table.{dominates}
-use Rattle.dominance.proofs.Laws.Order.{antisymmetric_fails, antisymmetric_pairs}
 use Rattle.lattice.proofs.no_two_mutual.Given as goal
 
 abbrev pub invariant-loop-j : goal.invariant-loop-j

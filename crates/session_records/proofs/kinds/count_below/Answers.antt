@@ -1,7 +1,6 @@
 use Prim.Native.Nat.{◌≤◌, ◌<◌, ◌+◌, ◌-◌, ◌/◌}
 use native.Mathlib.Omega.{arith}
-use Rattle.session.specs.Record.{record_at, record_count, records_of, kind_of}
-use Rattle.lists.specs.Lists.{count_below}
+use Rattle.session.specs.Record.{record_at, kind_of}
 use Rattle.session.proofs.Laws.Parts.{below_le, kind_below, kind_above}
 use Rattle.session_records.proofs.kinds.count_below.Goals as goal
 

@@ -1,10 +1,10 @@
-use Prim.Native.Nat.{◌≤◌, ◌<◌, ◌-◌}
+use Prim.Native.Nat.{◌<◌}
 use mathlib.Core.Path.{◌≡◌, sym}
 use native.Mathlib.Omega.{arith}
 use Rattle.lists.proofs.Laws.Range.{refuted}
 use Rattle.session.specs.Record.{record_at, record_count, kind_of}
 use Rattle.session.specs.Questions.{kinds_rise}
-use Rattle.lists.proofs.Laws.Rising.{Climbed, climbed_none, climbed_more, climbed_fails}
+use Rattle.lists.proofs.Laws.Rising.{climbed_fails}
 use Rattle.session.proofs.Laws.Parts.{kind_least, kind_next, kinds_climbed}
 use Rattle.session_records.proofs.kinds.kinds_rise.Goals as goal
 

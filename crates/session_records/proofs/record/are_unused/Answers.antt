@@ -1,5 +1,4 @@
 use native.Mathlib.Omega.{arith}
-use borrow.Author.Rules.{rules}
 use Rattle.session.specs.Record.{record_at}
 use Rattle.session_records.proofs.Laws.Words.{record_small, first_used, second_says}
 use Rattle.session_records.proofs.record.are_unused.Goals as goal

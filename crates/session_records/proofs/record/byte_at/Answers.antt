@@ -1,5 +1,4 @@
 use mathlib.Core.Path.{sym}
-use borrow.Author.Rules.{rules}
 use Rattle.session.proofs.Laws.Record.{byte_is}
 use Rattle.session_records.proofs.record.byte_at.Goals as goal
 

@@ -1,4 +1,3 @@
-use borrow.Author.Rules.{rules}
 use Rattle.session.specs.Record.{record_at}
 use Rattle.session_records.proofs.Laws.Words.{long_words}
 use Rattle.session_records.proofs.record.long_at.Goals as goal

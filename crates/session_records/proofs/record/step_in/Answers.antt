@@ -1,5 +1,4 @@
 use mathlib.Core.Path.{sym, ◌∙◌}
-use borrow.Author.Rules.{rules}
 use Rattle.session.proofs.Laws.Record.{step_set, step_add, step_jump, step_read, step_write, step_send, step_quit, step_create, step_withdraw, step_end, no_operation}
 use Rattle.session_records.proofs.record.step_in.Goals as goal
 

@@ -1,5 +1,4 @@
 use native.Mathlib.Omega.{arith}
-use borrow.Author.Rules.{rules}
 use Rattle.session.specs.Record.{word_of}
 use Rattle.session_records.proofs.record.word_at.Goals as goal
 
