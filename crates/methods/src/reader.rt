@@ -10,7 +10,7 @@ ghost use Rattle.session.specs.Parts.{key_of};
 use session_records::record;
 
 // The session's bytes, as they were lent, and the number of the record that is read.
-#[derive(Drop)]
+#[derive(Clone, Copy)]
 pub struct Reader<'a> {
     pub session: &'a [u8],
     pub at: usize,
