@@ -3,7 +3,7 @@
 #![tactic(auto)]
 
 // What the page entry answers: its number, its place, the count of result bytes written, and that of the page.
-#[derive(Drop)]
+#[derive(Clone, Copy)]
 pub struct PageAnswer {
     pub number: u32,
     pub place: u32,

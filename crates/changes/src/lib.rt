@@ -15,7 +15,7 @@ use session::limits::{FIRST_MADE, MADE_OBJECTS};
 use session::{Step, Value};
 
 // What a CREATE or WITHDRAW does outside its manager.
-#[derive(Drop)]
+#[derive(Clone, Copy)]
 pub enum Change {
     Nothing,
     // An object of the manager's level is made, with a script. Its fields are registers 1, 2 and 3 of the top before
@@ -26,7 +26,7 @@ pub enum Change {
 }
 
 // A core after a CREATE or WITHDRAW, and what that does outside it.
-#[derive(Drop)]
+#[derive(Clone, Copy)]
 pub struct Changed {
     pub core: Core,
     pub change: Change,

@@ -18,7 +18,7 @@ use session_records::kinds;
 
 // What a check says of a session: the verdict, and how many levels its level table has, 0 where the
 // table is not made.
-#[derive(Drop)]
+#[derive(Clone, Copy)]
 pub struct Checked {
     pub verdict: Verdict,
     pub levels: usize,

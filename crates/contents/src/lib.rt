@@ -16,7 +16,7 @@ use session::{Message, Step, Value, Verdict};
 use session_records::{kinds, places, record};
 
 // Where the steps of a method stand: the record of the first, and how many there are.
-#[derive(Drop)]
+#[derive(Clone, Copy)]
 pub struct Method {
     pub start: usize,
     pub count: usize,

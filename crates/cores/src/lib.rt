@@ -16,7 +16,7 @@ use scripts::{Ended, Ending};
 use session::Value;
 
 // A manager but for the frames that wait below its top.
-#[derive(Drop)]
+#[derive(Clone, Copy)]
 pub struct Core {
     pub level: u8,
     // The write stamp at its start. Each fork made adds 1 to it.
@@ -36,7 +36,7 @@ pub struct Core {
 }
 
 // What a script step does outside its manager, asks before it is made, or leaves to do to the frames.
-#[derive(Drop)]
+#[derive(Clone, Copy)]
 pub enum Effect {
     Nothing,
     // The manager has ended.

@@ -3,7 +3,7 @@
 #![tactic(auto)]
 
 // What the questions about a level table say of it.
-#[derive(Drop)]
+#[derive(Clone, Copy)]
 pub enum Verdict {
     // Questions 4, 5 and 17 all say yes.
     Passed,

@@ -3,7 +3,7 @@
 #![tactic(auto)]
 
 // What becomes of a message.
-#[derive(Drop)]
+#[derive(Clone, Copy)]
 pub enum Fate {
     // The receiver's method runs as a frame, and its reply returns.
     Call,

@@ -10,7 +10,7 @@ use session::limits::FIRST_MADE;
 pub const UNKNOWN: u8 = 255;
 
 // What is found of a field.
-#[derive(Drop)]
+#[derive(Clone, Copy)]
 pub enum Found {
     // It is to be asked for, or its object's existence.
     Missing(u8),

@@ -20,7 +20,7 @@ use session::limits::{NAMES, REGISTERS};
 use session::{Step, Value};
 
 // The frame on top: a method that is running.
-#[derive(Drop)]
+#[derive(Clone, Copy)]
 pub struct Frame {
     pub object: usize,
     // Its method: 16 times its script, 0 where it runs none and else one more than the number of the object
@@ -44,7 +44,7 @@ pub struct Frame {
 pub const FIRST_ANSWER: u8 = REGISTERS;
 
 // A frame that waits for the reply of the one above it.
-#[derive(Drop)]
+#[derive(Clone, Copy)]
 pub struct Waiting {
     pub object: u8,
     pub answer: u8,

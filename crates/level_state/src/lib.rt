@@ -7,7 +7,7 @@
 // How the scheduler steps of a run end.
 #![tactic(auto)]
 
-#[derive(Drop)]
+#[derive(Clone, Copy)]
 pub enum RunEnd {
     Finished,
     // By a question, 12 to 15, and its place.

@@ -24,7 +24,7 @@ const TOP: usize = 1;
 const BELOW_TOP: usize = 2;
 
 // A message manager.
-#[derive(Drop)]
+#[derive(Clone, Copy)]
 pub struct Manager {
     pub core: Core,
     // The frames that wait below the top, the first first.
@@ -32,7 +32,7 @@ pub struct Manager {
 }
 
 // A manager after a CREATE or WITHDRAW, and what that does outside it.
-#[derive(Drop)]
+#[derive(Clone, Copy)]
 pub struct Changed {
     pub manager: Manager,
     pub change: Change,

@@ -10,7 +10,7 @@ ghost use Rattle.opening.specs.Opening.{Refused, Finished, Opens, LentRefusal};
 use model::{RESULT_BYTES, WORK_NUMBERS};
 
 // What a run answers: its number, its place, and the count of result bytes written.
-#[derive(Drop)]
+#[derive(Clone, Copy)]
 pub struct Answer {
     pub number: u32,
     pub place: u32,
@@ -19,7 +19,7 @@ pub struct Answer {
 
 // What Check's questions say of a session: the first that says no, or 0; and how many levels its level table has, 0 where
 // the table is not made.
-#[derive(Drop)]
+#[derive(Clone, Copy)]
 pub struct Opened {
     pub number: u32,
     pub levels: usize,

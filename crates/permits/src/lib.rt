@@ -8,7 +8,7 @@ ghost use Rattle.permits.specs.Permits.{lowest_of, free_of, ended_of, permit_of,
 use tallies::WAITING;
 
 // What questions 12 to 14 say of a scheduler step.
-#[derive(Drop)]
+#[derive(Clone, Copy)]
 pub enum Permit {
     Given,
     // Question 12: the level is not present.

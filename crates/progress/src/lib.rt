@@ -15,7 +15,7 @@ use tallies::NEXT;
 
 // A fork that is about to run, or runs: its level, its fork stamp, how many forks deep it is, and its
 // message.
-#[derive(Drop)]
+#[derive(Clone, Copy)]
 pub struct Fork {
     pub level: u8,
     pub stamp: u32,

@@ -18,7 +18,7 @@ pub const MAX_FORKS: u8 = 15;
 pub const GREATEST_NUMBER: u32 = 4_294_967_295;
 
 // How a manager stands.
-#[derive(Drop)]
+#[derive(Clone, Copy)]
 pub enum Ending {
     Running,
     // Ending 0: the stack is empty.
@@ -30,7 +30,7 @@ pub enum Ending {
 }
 
 // What is kept of a manager that has ended.
-#[derive(Drop)]
+#[derive(Clone, Copy)]
 pub struct Ended {
     pub ending: Ending,
     pub writes: u8,

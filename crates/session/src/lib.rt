@@ -5,14 +5,14 @@
 pub mod limits;
 
 // A field, a register, a parameter or a reply: NIL or a number.
-#[derive(Drop)]
+#[derive(Clone, Copy)]
 pub enum Value {
     Nil,
     Number(u32),
 }
 
 // A message: the object that it is sent to, its name and its parameter.
-#[derive(Drop)]
+#[derive(Clone, Copy)]
 pub struct Message {
     pub object: u8,
     pub name: u8,
@@ -21,7 +21,7 @@ pub struct Message {
 
 // One step of a script. `a` is a register; `b` is a register, a step number, a field or a message
 // name; `c` is an object.
-#[derive(Drop)]
+#[derive(Clone, Copy)]
 pub enum Step {
     // No step: the script's end.
     End,
@@ -38,7 +38,7 @@ pub enum Step {
 
 // What the questions that Check uses say of a session: that all say yes, or the first that says no, in
 // the order in which they are put.
-#[derive(Drop)]
+#[derive(Clone, Copy)]
 pub enum Verdict {
     Accepted,
     // Question 1: not 1 to 297 whole records.

@@ -8,7 +8,7 @@ pub mod record;
 
 // How many levels, objects and script steps a session has. Its records stand in that order, the
 // root message last.
-#[derive(Drop)]
+#[derive(Clone, Copy)]
 pub struct Layout {
     pub levels: usize,
     pub objects: usize,
