@@ -1,4 +1,3 @@
--- `frames::Frame::next_step` meets its contract. Assumes nothing.
 use Prim.Native.Nat.{ℕ, zero, suc}
 use mathlib.Core.Path.{◌≡◌, refl, ◌∙◌, ap}
 use mathlib.Core.List.{List}
@@ -13,12 +12,11 @@ use Rattle.scripts.specs.Manager.{script_step, next_step}
 use Rattle.scripts.specs.Valid.{script_method}
 use Rattle.frames.specs.Frames.{script_in, name_in, frame_of, Placed}
 use Rattle.frames.specs.declared.Frame.{Frame}
-use Rattle.frames.proofs.Frame.next_step.Statement.{statement}
-use Rattle.frames.proofs.Frame.next_step.Tie as tie
+use Rattle.frames.proofs.Frame.next_step.Goals as goal
 
 -- the steps that a frame knows of are those of a method, if there are any
-is-method : (s : List ℕ) (f : Frame) → Placed s f → IsMethod s f.start f.count
-is-method s f p h = by (script_in f.slot) refl
+is_method : (s : List ℕ) (f : Frame) → Placed s f → IsMethod s f.start f.count
+is_method s f p h = by (script_in f.slot) refl
   where
     by : (w : ℕ) → script_in f.slot ≡ w → (object : ℕ) × ((name : ℕ) × MethodAt s object name f.start f.count)
     by zero e = absurd (omega (arith, h, p.at.count_is, ap (λ w. length (script_method s w (name_in f.slot))) e))
@@ -33,13 +31,6 @@ step_is s f p r own none = by (script_in f.slot) refl
     by zero e = unfold program_of in rw e (none (p.at.count_is ∙ ap (λ w. length (script_method s w (name_in f.slot))) e))
     by (suc w) e = unfold program_of in rw e (own w (name_in f.slot) (p.at.own w e))
 
-step-in-method-requires : tie.Need-step-in-method-requires
-step-in-method-requires c κs = (c.before.requires.0, is-method _ _ c.before.requires.1)
-
-returns : tie.Need-returns
+pub returns : goal.returns
 returns c =
-    let s = c.before.before in
-    step_is s.args.session.now s.args.self s.requires.1 _ c.step-in-method.ensures.0 c.step-in-method.ensures.1
-
-pub next-step-spec : {M : Type 1} → statement M
-next-step-spec = tie.close (tie.spec step-in-method-requires returns)
+    step_is c.args.session.now c.args.self c.requires.placed _ c.step_in_method.ensures.0 c.step_in_method.ensures.1
