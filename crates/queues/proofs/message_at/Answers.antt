@@ -1,0 +1,10 @@
+use mathlib.Core.Path.{refl}
+use Rattle.lists.specs.Lists.{tab}
+use Rattle.rows.specs.Rows.{row_at}
+use Rattle.queues.specs.Queue.{fork_of_row, fork_at}
+use Rattle.queues.proofs.message_at.Goals as goal
+
+pub returns : goal.returns
+unfolding fork_at fork_of_row row_at tab
+returns c =
+    rw (c.value_of-parameter.ensures, c.place_of-at.ensures) (λ n. refl)
