@@ -7,7 +7,6 @@ use Rattle.session.specs.declared.Value.TheVariants.{Nil}
 use Rattle.scripts.specs.Limits.{max_script_steps}
 use Rattle.scripts.specs.Effect.{Written}
 use Rattle.scripts.specs.Ending.{is_running}
-use Rattle.scripts.specs.Effect as effect
 use Rattle.scripts.specs.State as defined
 use Rattle.scripts.specs.Frame.{with_register, at_step}
 use Rattle.scripts.specs.Manager.{top, counted}

@@ -267,7 +267,11 @@ unfolding comes_to popped concluded
 makes_finished P c n r a v able m one ev e =
     makes_over P c r n.top 0 Finished v _ able
     (e ∙ ap (λ y. finished_as y v) m.core_is) m.top_is.same m.near (omega arith) (λ some. absurd (some refl)) refl
-    (λ p gs tall. rw (alone gs (omega (arith, tall, one)), ev, able.runs))
+    bottom
+  where
+    bottom : (p : Program) (gs : List defined.Frame) → suc (length gs) ≡ c.height → comes_to p (over c n.top 0 Finished v) gs ≡ counting p (record { manager = popped (with_top (standing c gs) (passed (standing c gs))) (register (passed (standing c gs)) a); effect = effect.Nothing })
+    bottom p [] tall = rw (ev, able.runs)
+    bottom p (g ∷ gs) tall = absurd (omega (arith, tall, one))
 
 -- another frame is to pop with a reply
 pub makes_pop : (P : List ℕ → Type 0) (c n r : Core) (a : ℕ) (v : Value) → Able c → Moves c n (past_of c) → 1 < c.height → v ≡ register (frame_of c.top) a → r ≡ causing n (Pop v) → Makes P c r (λ m. record { manager = popped (with_top m (passed m)) (register (passed m) a); effect = effect.Nothing })
