@@ -13,7 +13,6 @@ use Rattle.fates.specs.declared.Fate.{Fate}
 use Rattle.fates.specs.declared.Fate.TheVariants as fate
 use Rattle.scripts.specs.Existence.{existence}
 use Rattle.scripts.specs.Limits.{max_script_steps}
-use Rattle.scripts.specs.Effect as effect
 use Rattle.scripts.specs.State as defined
 use Rattle.scripts.specs.Manager.{is_end, next_step, operated, stepped}
 use Rattle.scripts.specs.Valid.{Leveled}
