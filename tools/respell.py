@@ -18,7 +18,8 @@ NAME = r"[^\s(){}\[\].,;:λ\"`|·@]+"
 TOKEN = re.compile(NAME)
 MODIFIERS = r"(?:(?:unfoldable|abbrev|pub|axiom|record|data|open)\s+)*"
 TOP = re.compile(r"^" + MODIFIERS + r"([A-Za-z_]" + NAME[:-1] + r"*)\s*:\s(.*)$")
-FIELD = re.compile(r"^  (?:pub )?([a-z_]" + NAME[:-1] + r"*)\s*:\s(.*)$")
+INNER = re.compile(r"^\s+(?:(?:pub|abbrev|unfoldable)\s+)*([a-z_]" + NAME[:-1] + r"*)\s*:\s(.*)$")
+LET = re.compile(r"\blet ([a-z_]" + NAME[:-1] + r"*)\s*[:=]\s")
 
 # Names that would fall together with another, and what stands for them.
 CHOSEN = {"found_in": "found_in_lem", "one_more": "one_more_step"}
@@ -38,19 +39,16 @@ def snake(word):
 def declared():
     found = collections.defaultdict(list)
     for path in own_files():
-        inside = False
         for line in open(path, encoding="utf-8"):
+            line = re.sub(r"--.*", "", line)
             top = TOP.match(line)
+            inner = INNER.match(line)
             if top:
-                inside = bool(re.match(r"^(?:pub |abbrev )*(record|data)\b|.*\bwhere$", line))
                 found[top.group(1)].append((path, top.group(2).strip(), False))
-                continue
-            if re.match(r"^\S", line):
-                inside = bool(re.match(r".*\b(record|data|module|mutual)\b", line))
-                continue
-            field = FIELD.match(line)
-            if field and inside:
-                found[field.group(1)].append((path, field.group(2).strip(), True))
+            elif inner:
+                found[inner.group(1)].append((path, inner.group(2).strip(), True))
+            for name in LET.findall(line):
+                found[name].append((path, "", True))
     return found
 
 

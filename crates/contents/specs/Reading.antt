@@ -1,6 +1,6 @@
 -- How the code finds its way through an accepted session: where the steps of each method stand. No meaning rests on these. Assumes nothing.
 -- Laws (`proofs/Laws/Methods`): the steps of a method of which it is known where they stand are within the session
--- (`method-ends`); which step is there (`step-there`), and that the script's end is behind them (`step-over`).
+-- (`method_ends`); which step is there (`step_there`), and that the script's end is behind them (`step_over`).
 use Rattle.std.specs.Prelude.{ℕ, ◌+◌, ◌/◌, ◌%◌, ◌<◌, ◌≡◌, List, length}
 use Rattle.session.specs.Limits.{names, max_methods}
 use Rattle.lists.specs.Lists.{tab, count_below}

@@ -3,7 +3,7 @@
 -- Laws (`proofs/Laws/Join`): `has_joins` says yes exactly where each pair has a least upper bound (`joined`, `all-joined`), and no where some pair has
 -- none (`unjoined`); what passes
 -- questions 4 and 5 is a join semilattice (`semilattice`). A least upper bound is unique (`unique`, `join_is`), and the join commutes
--- (`join_comm`). The join of m and l is m exactly where m dominates l (`join-same`), and else lies strictly above m (`join-strict`). A
+-- (`join_comm`). The join of m and l is m exactly where m dominates l (`join_same`), and else lies strictly above m (`join_strict`). A
 -- level dominates a join exactly where it dominates both levels (`join-below`).
 use Rattle.std.specs.Prelude.{ℕ, ◌<◌, ◌≡◌, Bool, true, ◌&&◌, ltb}
 use Rattle.lists.specs.Range.{implies, all, first}

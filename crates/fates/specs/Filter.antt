@@ -1,5 +1,5 @@
 -- The message filter: what becomes of a message. Assumes nothing.
--- Laws (`proofs/Laws/Fate`): the cases one by one (`fate_called`, `fate-blocked`, `fate-discarded`, `fate-forked`); a fork goes to a
+-- Laws (`proofs/Laws/Fate`): the cases one by one (`fate_called`, `fate_blocked`, `fate_discarded`, `fate_forked`); a fork goes to a
 -- present level strictly above the manager's (`fate_rises`); a message upward from an object at the manager's level is forked at the
 -- receiver's (`fate_own`); the receiver lies under the sender, the manager or the level of the fork (`fate_covers`).
 use Rattle.std.specs.Prelude.{ℕ, cond, eqb}

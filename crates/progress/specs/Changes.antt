@@ -1,5 +1,5 @@
 -- What a CREATE or WITHDRAW writes to the words of a depth-first run. No meaning rests on these. Assumes nothing.
--- Laws (`proofs/Laws/Changes`): what it concerns is there (`change-there`); it is done to the words as the definition does it (`change-done`).
+-- Laws (`proofs/Laws/Changes`): what it concerns is there (`change_there`); it is done to the words as the definition does it (`change_done`).
 use Rattle.std.specs.Prelude.{ℕ, ◌≤◌, ◌<◌, ◌≡◌, List, [], ◌∷◌, length}
 use Rattle.session.specs.Limits.{max_levels, max_numbers}
 use Rattle.session.specs.Program.{program_of}

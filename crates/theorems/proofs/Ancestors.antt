@@ -20,7 +20,7 @@ use Rattle.lists.specs.Each.{Each}
 use Rattle.theorems.proofs.Laws.Invariant.Ways.{ancestor_along, HasWay, root_way, child_way, step_ways}
 use Rattle.theorems.proofs.Laws.Order.Accepted.{sound}
 use Rattle.theorems.proofs.Laws.Deep.Root.{each_level}
-use Rattle.theorems.proofs.Laws.Code.Reached.{ReachedState, present, live_start, live-step}
+use Rattle.theorems.proofs.Laws.Code.Reached.{ReachedState, present, live_start, live_step}
 use Rattle.theorems.proofs.Laws.Code.Progress.{allowed}
 
 module _ (s : List ℕ) (a : verdict_of s ≡ Accepted) where
@@ -38,7 +38,7 @@ module _ (s : List ℕ) (a : verdict_of s ≡ Accepted) where
   leads_led st [] t i w b = rw (sym b) w
   leads_led st (l ∷ ls) t i w b =
       let h = (allowed question14 (program_of s) st l b.0).0 in
-      leads_led (step_at (program_of s) l st) ls t (live-step s a st i l (unfold program_of in h) b.0)
+      leads_led (step_at (program_of s) l st) ls t (live_step s a st i l (unfold program_of in h) b.0)
       (step_ways (program_of s) (sound s a) st i.reachable.steady.fork_invariant w l h) b.1
 
 each_way : (xs : List Fork) → Each HasWay xs → EachWay xs

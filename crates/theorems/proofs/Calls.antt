@@ -77,12 +77,12 @@ plain_listed s c bytes x =
       count = x.count;
       work = x.work;
       buffer = x.buffer;
-      answers = x.answers ∙ plain-is x.request x.session_is;
+      answers = x.answers ∙ plain_is x.request x.session_is;
       written = x.written;
     }
   where
-    plain-is : (q : Request) → q.session ≡ s → plain q ≡ timetabled q (plain_order (program_of s) (root_of s))
-    plain-is q e = rw (sym e) (unfold plain in refl)
+    plain_is : (q : Request) → q.session ≡ s → plain q ≡ timetabled q (plain_order (program_of s) (root_of s))
+    plain_is q e = rw (sym e) (unfold plain in refl)
 
 -- any such call as a timetabled run with its bytes
 pub record Listed (s : List ℕ) (c : ℕ) (bytes : List ℕ) : Type 0 where

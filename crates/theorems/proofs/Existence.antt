@@ -27,7 +27,7 @@ use Rattle.model.specs.Result.{object_record, numbers_of, is_shown, objects_show
 use Rattle.theorems.specs.Existence.{stepped_at, AllowedSteps, level_after, is_making, numbers_made, NumbersHandedOut, NumbersApart, VersionsLimited, Among, ShownAreThere, WithdrawnNotShown, ThereAreShown}
 use Rattle.theorems.proofs.Laws.Invariant.State.{StateInvariant}
 use Rattle.theorems.proofs.Laws.Invariant.Handed.{makings, Handed, handed_out, step_handed}
-use Rattle.theorems.proofs.Laws.Invariant.AnySteps.{any-steps}
+use Rattle.theorems.proofs.Laws.Invariant.AnySteps.{any_steps}
 use Rattle.theorems.proofs.Laws.Order.Accepted.{sound}
 use Rattle.theorems.proofs.Laws.Deep.Root.{each_level, root_steady}
 use Rattle.theorems.proofs.Laws.Reader.Bytes.{objects_found}
@@ -70,7 +70,7 @@ module _ (s : List ℕ) (a : verdict_of s ≡ Accepted) where
 
   kept : (ls : List ℕ) → StateInvariant (program_of s) (stepped_at (program_of s) ls (read_in (program_of s) (root_of s))) × Kept (program_of s) (stepped_at (program_of s) ls (read_in (program_of s) (root_of s)))
   kept ls =
-      any-steps (program_of s) (sound s a) (Kept (program_of s)) kept_step ls (read_in (program_of s) (root_of s))
+      any_steps (program_of s) (sound s a) (Kept (program_of s)) kept_step ls (read_in (program_of s) (root_of s))
       (root_steady (program_of s) (sound s a) levels (root_of s)) kept_start
 
 pub numbers_handed_out : NumbersHandedOut

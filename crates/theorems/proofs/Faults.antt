@@ -114,10 +114,10 @@ deep-first q = sym (checked q.session (asks 9 (question9 q) ∷ asks 11 (questio
 
 check_first : (s : List ℕ) → number_of_verdict (verdict_of s) ≡ first_of (check_asks s)
 unfolding first_of
-check_first s = past-zero (number_of_verdict (verdict_of s)) ∙ sym (checked s [])
+check_first s = past_zero (number_of_verdict (verdict_of s)) ∙ sym (checked s [])
   where
-    past-zero : (n : ℕ) → n ≡ past n 0
-    past-zero n = elim (truth (eqb n 0)) [
+    past_zero : (n : ℕ) → n ≡ past n 0
+    past_zero n = elim (truth (eqb n 0)) [
       | holds h ↦ rw h (eqb-true n 0 h)
       | fails h ↦ rw h refl
     ]

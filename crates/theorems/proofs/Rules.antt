@@ -19,7 +19,7 @@ use Rattle.model.specs.Rules.{conservative}
 use Rattle.theorems.specs.Rules.{StillAllowed, StillFinishes, DepthFirstOrderFinishes}
 use Rattle.theorems.proofs.Laws.Order.Accepted.{sound}
 use Rattle.theorems.proofs.Laws.Order.DepthFirst.{depth_first_run}
-use Rattle.theorems.proofs.Laws.Code.Reached.{ReachedState, live_start, live-step}
+use Rattle.theorems.proofs.Laws.Code.Reached.{ReachedState, live_start, live_step}
 use Rattle.theorems.proofs.Laws.Code.Progress as laws
 
 pub still_allowed : StillAllowed
@@ -37,7 +37,7 @@ run_before s a i (l ∷ ls) st t r e = elim (truth (eqb (refusal_under conservat
   | holds q ↦
       let ok = laws.still_allowed s a st r l (eqb-true (refusal_under conservative (program_of s) st l) 0 q) in
       laws.run_made i (program_of s) l ls st ok
-      ∙ run_before s a (suc i) ls (step_at (program_of s) l st) t (live-step s a st r l (unfold program_of in (laws.allowed question14 (program_of s) st l ok).0) ok) (rw q at e)
+      ∙ run_before s a (suc i) ls (step_at (program_of s) l st) t (live_step s a st r l (unfold program_of in (laws.allowed question14 (program_of s) st l ok).0) ok) (rw q at e)
   | fails q ↦ absurd (not_both false (ap is_finished (rw q at e)) refl)
 ]
 

@@ -101,11 +101,11 @@ module _ (s : List ℕ) (a : verdict_of s ≡ Accepted) where
   method_step o m j hm h =
       let k = key o m in
       let below = count_below key_of k (step_records s) in
-      let in-range : below + j < step_count s =
+      let in_range : below + j < step_count s =
       omega (arith, count_more key_of k (step_records s), select-length (λ rec. ltb (key_of rec) (suc k)) (step_records s)) in
       let z : level_count s + object_count s + (below + j) ≡ level_count s + object_count s + below + j = omega arith in
       sym (get_or-map step_of (method_records s k) j []
-      ∙ ap step_of (among_at key_of [] k 0 (step_records s) keys_rise j h ∙ step_is s (rises s a) (below + j) in-range ∙ ap (record_at s) z))
+      ∙ ap step_of (among_at key_of [] k 0 (step_records s) keys_rise j h ∙ step_is s (rises s a) (below + j) in_range ∙ ap (record_at s) z))
       ∙ ap (λ l. get_or l j End) (sym (method_is s yes_to_all o m (omega arith)))
 
   -- the method index
@@ -146,19 +146,19 @@ module _ (s : List ℕ) (a : verdict_of s ≡ Accepted) where
 
   -- where the steps of a method stand: within the session, at most 16, each so far behind the first as its number says
   module _ (o m start count : ℕ) (x : MethodAt s o m start count) where
-    pub method-ends : start + count < record_count s
-    method-ends = elim (dec_lt 0 count) [
+    pub method_ends : start + count < record_count s
+    method_ends = elim (dec_lt 0 count) [
       | yes h ↦
           let n = method_length s a o m (method_named s a o m (omega (arith, x.count_is))) in
           omega (arith, n, x.start_is, x.count_is, method_within o m)
       | no g ↦ omega (arith, x.start_is, start_last (key o m), counts s a)
     ]
 
-    pub step-there : (j : ℕ) → j < count → step_of (record_at s (start + j)) ≡ step_at s o m j
-    step-there j h =
+    pub step_there : (j : ℕ) → j < count → step_of (record_at s (start + j)) ≡ step_at s o m j
+    step_there j h =
         let (_, named) = method_owned s a o m (omega (arith, x.count_is)) in
         let n = method_length s a o m (omega arith) in
         ap (λ r. step_of (record_at s (r + j))) x.start_is ∙ method_step o m j named (omega (arith, x.count_is))
 
-    pub step-over : (j : ℕ) → count ≤ j → End ≡ step_at s o m j
-    step-over j h = sym (get_or-eq_default (method_of s o m) End (omega (arith, x.count_is)))
+    pub step_over : (j : ℕ) → count ≤ j → End ≡ step_at s o m j
+    step_over j h = sym (get_or-eq_default (method_of s o m) End (omega (arith, x.count_is)))

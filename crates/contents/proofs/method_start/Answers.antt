@@ -15,17 +15,17 @@ pub returns-then-key-key_at : goal.returns-then-key-key_at
 returns-then-key-key_at c =
     let t = c.args.session.now in
     let at = c.loop-r in
-    let in-range : at.r < level_count t + object_count t + step_count t = omega (arith, c.requires.end_value) in
+    let in_range : at.r < level_count t + object_count t + step_count t = omega (arith, c.requires.end_value) in
     let high : c.args.key ≤ key_at t at.r = rw c.key_at.ensures at c.if-key-key_at.true in
-    le_antisymm at.invariant.1 (from_start t c.requires.session_value c.args.key at.r at.invariant.0 in-range high)
+    le_antisymm at.invariant.1 (from_start t c.requires.session_value c.args.key at.r at.invariant.0 in_range high)
 
 pub loop-r-preserved : goal.loop-r-preserved
 loop-r-preserved c =
     let t = c.args.session.now in
     let at = c.loop-r in
-    let in-range : at.r < level_count t + object_count t + step_count t = omega (arith, c.requires.end_value) in
+    let in_range : at.r < level_count t + object_count t + step_count t = omega (arith, c.requires.end_value) in
     let low : key_at t at.r < c.args.key = rw c.key_at.ensures at c.if-key-key_at.false in
-    (omega arith, omega (arith, before_start t c.requires.session_value c.args.key at.r at.invariant.0 in-range low))
+    (omega arith, omega (arith, before_start t c.requires.session_value c.args.key at.r at.invariant.0 in_range low))
 
 pub returns : goal.returns
 returns c =

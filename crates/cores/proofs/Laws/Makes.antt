@@ -211,15 +211,15 @@ unfolding comes_to called
 makes_call c n r o w b a returns slot answer way v able m low ev small named is says on e =
     let f = n.top in
     let few : answer < answers = rw says (answer_few a returns small) in
-    let slot-on : slot_on way ≡ slot = rw on (way_slot slot answer few) in
-    let answer-on : answer_on way ≡ answer = rw on (way_answer slot answer few) in
+    let slot_on_lem : slot_on way ≡ slot = rw on (way_slot slot answer few) in
+    let answer_on_lem : answer_on way ≡ answer = rw on (way_answer slot answer few) in
     makes_going (λ s. Numbered s o × (w ≤ object_count s)) c r f c.writes c.forks (Call o way v) _ able
     (e ∙ ap (λ y. causing y (Call o way v)) m.core_is) m.top_is.same m.near refl refl
     (λ s sits. (sits.wrote, (sits.forked, low)))
-    (λ s h. (h.0, rw (slot-on, is, slot_script w b named) h.1))
+    (λ s h. (h.0, rw (slot_on_lem, is, slot_script w b named) h.1))
     (λ p gs tall.
     ap (λ g. record { manager = concluded p (bare (next_top c f) (frame_for o (script_in (slot_on way)) (name_in (slot_on way)) (into_of (answer_on way)) (returns_of (answer_on way)) v ∷ g ∷ gs)); effect = effect.Nothing }) m.top_is.frame
-    ∙ rw (ev, slot-on, answer-on, says, is, slot_script w b named, slot_name w b named, answer_into a returns small, answer_returns a returns small, lt-ltb (suc (length gs)) max_frames (omega (arith, tall, low)), able.runs))
+    ∙ rw (ev, slot_on_lem, answer_on_lem, says, is, slot_script w b named, slot_name w b named, answer_into a returns small, answer_returns a returns small, lt-ltb (suc (length gs)) max_frames (omega (arith, tall, low)), able.runs))
 
 -- a manager is forked, and the sender gets NIL
 pub makes_fork : (c n r : Core) (o b a u : ℕ) (v : Value) → Able c → Moves c n (with_register (past_of c) a Nil) → c.forks < max_forks → v ≡ register (frame_of c.top) a → r ≡ effecting n n.writes (n.forks + 1) (Fork u o b v) → Makes (λ s. (u < level_count s) × Method o b s) c r (λ m. forked m (passed m) a u (record { object = o; name = b; parameter = register (passed m) a }))

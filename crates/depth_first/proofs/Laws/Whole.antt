@@ -55,15 +55,15 @@ module _ (s masks index : List ℕ) (a : Tables s masks index) where
         (λ o k n h. q.field o k (number_few s a.accepted o n) (omega (arith, h)))
         (λ l h _. same_ended l h)
 
-    bytes-few : length (bytes_in s (result_of_depth_first p g) c (level_of s (root_object s))) ≤ result_bytes
-    bytes-few =
+    bytes_few : length (bytes_in s (result_of_depth_first p g) c (level_of s (root_object s))) ≤ result_bytes
+    bytes_few =
         bytes_fit p (result_of_depth_first p g) c (level_of s (root_object s)) (rw levels_are (level_limit s a.accepted)) (rw objects_are (object_limit s a.accepted))
         (λ l h. (q.counted l (rw (sym levels_are) h)).few)
 
   -- the root's fork runs
   module _ (f : Fork) (r : RootFork s f) where
-    pub root-runnable : Runnable s (length masks) f
-    root-runnable =
+    pub root_runnable : Runnable s (length masks) f
+    root_runnable =
         record {
           placed = rw r.level root_level;
           present = rw r.message (number_own s (root_object s) (root_present s a.accepted));
@@ -72,11 +72,11 @@ module _ (s masks index : List ℕ) (a : Tables s masks index) where
           fits = rw (r.stamp, r.depth) (omega arith);
         }
 
-    root-same : Same f (model.root_fork (level_count s) (root_of s))
-    root-same = record { stamp = sym r.stamp; depth = sym r.depth; message = sym r.message }
+    root_same : Same f (model.root_fork (level_count s) (root_of s))
+    root_same = record { stamp = sym r.stamp; depth = sym r.depth; message = sym r.message }
 
-    pub root-room : (w : Words) → Represents s (initial_progress s) w → get_or w.tallies f.level 0 < max_managers
-    root-room w q =
+    pub root_room : (w : Words) → Represents s (initial_progress s) w → get_or w.tallies f.level 0 < max_managers
+    root_room w q =
         let h : f.level < level_count s = rw r.level root_level in
         let e = start_tally s a.accepted f.level h in
         omega (arith, (q.counted f.level h).count, ap (λ t. length t.ended) e)
@@ -86,14 +86,14 @@ module _ (s masks index : List ℕ) (a : Tables s masks index) where
     run_is = rw (table_length, r.level) refl
 
     -- the words then say the whole run
-    pub run-represents : (w w' : Words) (h : Ended) → Represents s (initial_progress s) w → RunDone s (length masks) f w w' h → Represents s (depth_first p (root_of s)) w'
-    run-represents w w' h q d =
-        rw (sym run_is) (d.1 (initial_progress s) (model.root_fork (level_count s) (root_of s)) q root-same).0
+    pub run_represents : (w w' : Words) (h : Ended) → Represents s (initial_progress s) w → RunDone s (length masks) f w w' h → Represents s (depth_first p (root_of s)) w'
+    run_represents w w' h q d =
+        rw (sym run_is) (d.1 (initial_progress s) (model.root_fork (level_count s) (root_of s)) q root_same).0
 
     module _ (w w' : Words) (h : Ended) (q : Represents s (initial_progress s) w) (d : RunDone s (length masks) f w w' h) where
-      pub write-ready : (buffer : List ℕ) → result_bytes ≤ length buffer → Ready s masks w'.current w'.ended w'.tallies f.level buffer
-      write-ready buffer room =
-          let k = run-represents w w' h q d in
+      pub write_ready : (buffer : List ℕ) → result_bytes ≤ length buffer → Ready s masks w'.current w'.ended w'.tallies f.level buffer
+      write_ready buffer room =
+          let k = run_represents w w' h q d in
           record {
             fields_ready = record { accepted = a.accepted; table = a.masks_are; room = k.fields_there };
             histories_ready = record {
@@ -105,14 +105,14 @@ module _ (s masks index : List ℕ) (a : Tables s masks index) where
             room = room;
           }
 
-      pub run-shown : (c count : ℕ) (before after : List ℕ) → Written (bytes_in s (result_in w'.current w'.ended w'.tallies) c f.level) before after count → RanOver s c w w' before after count
-      run-shown c count before after t =
-          let k = run-represents w w' h q d in
+      pub run_shown : (c count : ℕ) (before after : List ℕ) → Written (bytes_in s (result_in w'.current w'.ended w'.tallies) c f.level) before after count → RanOver s c w w' before after count
+      run_shown c count before after t =
+          let k = run_represents w w' h q d in
           let e : bytes_in s (result_in w'.current w'.ended w'.tallies) c f.level ≡ bytes_shown s c =
           ap (bytes_in s (result_in w'.current w'.ended w'.tallies) c) r.level ∙ same_bytes (depth_first p (root_of s)) w' k c in
           let t' : Written (bytes_shown s c) before after count = rw e at t in
           record {
             represents = k;
             spared = d.0;
-            shown = record { written = t'; fits = omega (arith, t'.number, bytes-few (depth_first p (root_of s)) w' k c) };
+            shown = record { written = t'; fits = omega (arith, t'.number, bytes_few (depth_first p (root_of s)) w' k c) };
           }

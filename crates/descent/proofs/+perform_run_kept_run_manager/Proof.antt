@@ -18,8 +18,8 @@ use Rattle.cores.specs.contracts.Effect.{the_type}
 use Rattle.managers.specs.declared.Manager.{Manager}
 use Rattle.managers.specs.Steps.{Advanced}
 use Rattle.progress.specs.Representation.{Words}
-use Rattle.descent.proofs.Laws.Perform.{perform_nothing, write-there, perform-writes, fork-some, fork-stamps, fork-runs, perform-forks}
-use Rattle.descent.proofs.Laws.Run.{Looped, steps_left, level_small, fork_starts, fork_kept, fork_dropped, run_none, last_fits, run_starts, run-preserves, run-able, run-performable, run-again, run-less, run-changeable, run-changed, run-changed-less, run_room, run_ends}
+use Rattle.descent.proofs.Laws.Perform.{perform_nothing, write_there, perform_writes, fork_some, fork_stamps, fork_runs, perform_forks}
+use Rattle.descent.proofs.Laws.Run.{Looped, steps_left, level_small, fork_starts, fork_kept, fork_dropped, run_none, last_fits, run_starts, run_preserves, run_able, run_performable, run_again, run_less, run_changeable, run_changed, run_changed_less, run_room, run_ends}
 use borrow.Author.Rules.{rules}
 use borrow.Fn.Kinds.{In}
 use borrow.Fn.PlainCycle.{Measures, is, falls, and}
@@ -145,7 +145,7 @@ perform-cast-set-2 t c = search rules
 perform-set-requires : (t : ℕ) → perform-lts.Need-set-requires (perform-claims t) (perform-at t) perform.Post
 perform-set-requires t c κs =
     let z = c.before.before.before.before.before.before.before.before.before.before in
-    write-there z.requires.1.0 z.requires.1.1.1 c.before.before.effect.given.1 z.requires.1.1.0
+    write_there z.requires.1.0 z.requires.1.1.1 c.before.before.effect.given.1 z.requires.1.1.0
 
 perform-enum-known-effect-2 : (t : ℕ) → perform-lts.Need-enum-known-effect-2 (perform-claims t) (perform-at t) perform.Post
 perform-enum-known-effect-2 t c = search rules
@@ -153,12 +153,12 @@ perform-enum-known-effect-2 t c = search rules
 perform-sub-child-stamp : (t : ℕ) → perform-lts.Need-overflow-sub-child-stamp (perform-claims t) (perform-at t) perform.Post
 perform-sub-child-stamp t c =
     let z = c.before.before.before.before.before.before.before.before.before in
-    omega (arith, fork-some z.requires.1.0 z.requires.1.1.1 c.before.effect2.given.1)
+    omega (arith, fork_some z.requires.1.0 z.requires.1.1.1 c.before.effect2.given.1)
 
 perform-child-stamp-requires : (t : ℕ) → perform-lts.Need-child-stamp-requires (perform-claims t) (perform-at t) perform.Post
 perform-child-stamp-requires t c κs =
     let z = c.before.before.before.before.before.before.before.before.before in
-    fork-stamps z.requires.1.0 z.requires.1.1.1 c.before.effect2.given.1
+    fork_stamps z.requires.1.0 z.requires.1.1.1 c.before.effect2.given.1
 
 perform-add-depth : (t : ℕ) → perform-lts.Need-overflow-add-depth (perform-claims t) (perform-at t) perform.Post
 perform-add-depth t c =
@@ -167,7 +167,7 @@ perform-add-depth t c =
 perform-run-kept-requires : (t : ℕ) → perform-lts.Need-run-kept-requires (perform-claims t) (perform-at t) perform.Post
 perform-run-kept-requires t c κs =
     let z = c.before.before.before.before.before.before.before.before.before.before.before.before.before.before in
-    (omega (arith, z.requires.0), (z.requires.1.0, (z.requires.1.1.0, fork-runs z.requires.1.0 z.requires.1.1.1 c.before.before.before.before.before.before.effect2.given.1 c.before.before.before.before.child_stamp_lem.ensures)))
+    (omega (arith, z.requires.0), (z.requires.1.0, (z.requires.1.1.0, fork_runs z.requires.1.0 z.requires.1.1.1 c.before.before.before.before.before.before.effect2.given.1 c.before.before.before.before.child_stamp_lem.ensures)))
 
 perform-same-length : (t : ℕ) → perform-lts.Need-same-length (perform-claims t) (perform-at t) perform.Post
 perform-same-length t c = search rules
@@ -176,7 +176,7 @@ perform-returns : (t : ℕ) → perform-lts.Need-returns (perform-claims t) (per
 perform-returns t c =
     let z = c.before.before.before.before.before.before.before.before.before.before.before.before.before in
     let w = words z.args.current.now z.args.ended.now z.args.tallies.now in
-    perform-writes z.requires.1.0 z.requires.1.1.1 c.before.before.before.before.before.effect.given.1 w c.before.before.set.new.0 c.before.before.set.ensures
+    perform_writes z.requires.1.0 z.requires.1.1.1 c.before.before.before.before.before.effect.given.1 w c.before.before.set.new.0 c.before.before.set.ensures
 
 perform-same-length-2 : (t : ℕ) → perform-lts.Need-same-length-2 (perform-claims t) (perform-at t) perform.Post
 perform-same-length-2 t c = search rules
@@ -193,7 +193,7 @@ perform-returns-2 t c =
     let w = words z.args.current.now z.args.ended.now z.args.tallies.now in
     let r = c.before.before.before.before.before.before.run-kept in
     let w' = words r.new.1.1.1.0 r.new.1.1.1.1.0 r.new.1.1.1.1.1.0 in
-    perform-forks z.requires.1.0 z.requires.1.1.1 c.before.before.before.before.before.before.before.before.before.before.before.before.before.effect2.given.1 c.before.before.before.before.before.before.before.before.before.before.before.child_stamp_lem.ensures w w' r.ensures
+    perform_forks z.requires.1.0 z.requires.1.1.1 c.before.before.before.before.before.before.before.before.before.before.before.before.before.effect2.given.1 c.before.before.before.before.before.before.before.before.before.before.before.child_stamp_lem.ensures w w' r.ensures
 
 perform-returns-3 : (t : ℕ) → perform-lts.Need-returns-3 (perform-claims t) (perform-at t) perform.Post
 perform-returns-3 t c =
@@ -291,13 +291,13 @@ run-manager-is-unchanged-requires : (t : ℕ) → run-manager-lts.Need-is-unchan
 run-manager-is-unchanged-requires t c κs =
     let z = c.before.before.before.before.before.before.before.before.before.before.before.before.before.before.before.before in
     let l = c.before.before.before.loop in
-    (run-preserves z.requires.1.0 z.requires.1.1.1.0 c.before.before.before.before.if1.false l.invariant.1 z.requires.1.1.0).1.tallies_there
+    (run_preserves z.requires.1.0 z.requires.1.1.1.0 c.before.before.before.before.if1.false l.invariant.1 z.requires.1.1.0).1.tallies_there
 
 run-manager-advance-requires : (t : ℕ) → run-manager-lts.Need-advance-requires (run-manager-claims t) (run-manager-at t) run-manager.Post run-manager-Inv-loop run-manager-μ-loop
 run-manager-advance-requires t c κs =
     let z = c.before.before.before.before.before.before.before.before.before.before.before.before.before.before.before.before.before.before in
     let l = c.before.before.before.before.before.loop in
-    run-able z.requires.1.0 z.requires.1.1.1.0 c.before.before.before.before.before.before.if1.false l.invariant.1 z.requires.1.1.0 (ap is_running (sym l.invariant.0) ∙ sym c.before.before.before.before.is-running.ensures ∙ c.before.before.before.if2.true)
+    run_able z.requires.1.0 z.requires.1.1.1.0 c.before.before.before.before.before.before.if1.false l.invariant.1 z.requires.1.1.0 (ap is_running (sym l.invariant.0) ∙ sym c.before.before.before.before.is-running.ensures ∙ c.before.before.before.if2.true)
 
 run-manager-enum-told : (t : ℕ) → run-manager-lts.Need-enum-told (run-manager-claims t) (run-manager-at t) run-manager.Post run-manager-Inv-loop run-manager-μ-loop
 run-manager-enum-told t c = search rules
@@ -307,14 +307,14 @@ run-manager-change-requires t c κs =
     let z = c.before.before.before.before.before.before.before.before.before.before.before.before.before.before.before.before.before.before.before.before.before.before.before.before in
     let l = c.before.before.before.before.before.before.before.before.before.before.before.loop in
     let x = c.before.before.before.before.before.advance in
-    run-changeable z.requires.1.0 z.requires.1.1.1.0 c.before.before.before.before.before.before.before.before.before.before.before.before.if1.false l.invariant.1 z.requires.1.1.0 (told c.before.before.before.before.before.before.before.is_unchanged.ensures x.ensures) (changes x.result.core.effect c.before.before.before.match.keys1)
+    run_changeable z.requires.1.0 z.requires.1.1.1.0 c.before.before.before.before.before.before.before.before.before.before.before.before.if1.false l.invariant.1 z.requires.1.1.0 (told c.before.before.before.before.before.before.before.is_unchanged.ensures x.ensures) (changes x.result.core.effect c.before.before.before.match.keys1)
 
 run-manager-loop-less : (t : ℕ) → run-manager-lts.Need-loop-smaller (run-manager-claims t) (run-manager-at t) run-manager.Post run-manager-Inv-loop run-manager-μ-loop
 run-manager-loop-less t c =
     let z = c.before.before.before.before.before.before.before.before.before.before.before.before.before.before.before.before.before.before.before.before.before.before.before.before.before.before.before.before.before.before in
     let l = c.before.before.before.before.before.before.before.before.before.before.before.before.before.before.before.before.before.loop in
     let x = c.before.before.before.before.before.before.before.before.before.before.before.advance in
-    run-changed-less z.requires.1.0 z.requires.1.1.1.0 c.before.before.before.before.before.before.before.before.before.before.before.before.before.before.before.before.before.before.if1.false l.invariant.1 z.requires.1.1.0 (told c.before.before.before.before.before.before.before.before.before.before.before.before.before.is_unchanged.ensures x.ensures) (changes x.result.core.effect c.before.before.before.before.before.before.before.before.before.match.keys1) c.before.before.before.before.before.change.ensures (ap is_running (sym l.invariant.0) ∙ sym c.before.before.before.before.before.before.before.before.before.before.before.before.before.before.before.before.is-running.ensures ∙ c.before.before.before.before.before.before.before.before.before.before.before.before.before.before.before.if2.true)
+    run_changed_less z.requires.1.0 z.requires.1.1.1.0 c.before.before.before.before.before.before.before.before.before.before.before.before.before.before.before.before.before.before.if1.false l.invariant.1 z.requires.1.1.0 (told c.before.before.before.before.before.before.before.before.before.before.before.before.before.is_unchanged.ensures x.ensures) (changes x.result.core.effect c.before.before.before.before.before.before.before.before.before.match.keys1) c.before.before.before.before.before.change.ensures (ap is_running (sym l.invariant.0) ∙ sym c.before.before.before.before.before.before.before.before.before.before.before.before.before.before.before.before.is-running.ensures ∙ c.before.before.before.before.before.before.before.before.before.before.before.before.before.before.before.if2.true)
 
 run-manager-loop-again : (t : ℕ) → run-manager-lts.Need-loop-preserved (run-manager-claims t) (run-manager-at t) run-manager.Post run-manager-Inv-loop run-manager-μ-loop
 run-manager-loop-again t c =
@@ -322,7 +322,7 @@ run-manager-loop-again t c =
     let l = c.before.before.before.before.before.before.before.before.before.before.before.before.before.before.before.before.before.loop in
     let x = c.before.before.before.before.before.before.before.before.before.before.before.advance in
     let r = c.before.before.before.before.before.change in
-    (refl, run-changed z.requires.1.0 z.requires.1.1.1.0 c.before.before.before.before.before.before.before.before.before.before.before.before.before.before.before.before.before.before.if1.false l.invariant.1 z.requires.1.1.0 (told c.before.before.before.before.before.before.before.before.before.before.before.before.before.is_unchanged.ensures x.ensures) (changes x.result.core.effect c.before.before.before.before.before.before.before.before.before.match.keys1) r.ensures, r.auto.1.1.1.0 ∙ l.invariant.2, l.invariant.3, r.auto.1.1.1.1.0 ∙ l.invariant.4)
+    (refl, run_changed z.requires.1.0 z.requires.1.1.1.0 c.before.before.before.before.before.before.before.before.before.before.before.before.before.before.before.before.before.before.if1.false l.invariant.1 z.requires.1.1.0 (told c.before.before.before.before.before.before.before.before.before.before.before.before.before.is_unchanged.ensures x.ensures) (changes x.result.core.effect c.before.before.before.before.before.before.before.before.before.match.keys1) r.ensures, r.auto.1.1.1.0 ∙ l.invariant.2, l.invariant.3, r.auto.1.1.1.1.0 ∙ l.invariant.4)
 
 run-manager-sub-perform : (t : ℕ) → run-manager-lts.Need-overflow-sub-perform (run-manager-claims t) (run-manager-at t) run-manager.Post run-manager-Inv-loop run-manager-μ-loop
 run-manager-sub-perform t c = omega (arith, c.before.before.before.before.before.before.before.before.before.before.before.before.if1.false)
@@ -331,14 +331,14 @@ run-manager-perform-requires : (t : ℕ) → run-manager-lts.Need-perform-requir
 run-manager-perform-requires t c κs =
     let z = c.before.before.before.before.before.before.before.before.before.before.before.before.before.before.before.before.before.before.before.before.before.before.before.before in
     let l = c.before.before.before.before.before.before.before.before.before.before.before.loop in
-    (omega (arith, z.requires.0, c.before.before.before.before.before.before.before.before.before.before.before.before.if1.false), (z.requires.1.0, (run-preserves z.requires.1.0 z.requires.1.1.1.0 c.before.before.before.before.before.before.before.before.before.before.before.before.if1.false l.invariant.1 z.requires.1.1.0, run-performable z.requires.1.0 z.requires.1.1.1.0 c.before.before.before.before.before.before.before.before.before.before.before.before.if1.false l.invariant.1 z.requires.1.1.0 (told c.before.before.before.before.before.before.before.is_unchanged.ensures c.before.before.before.before.before.advance.ensures))))
+    (omega (arith, z.requires.0, c.before.before.before.before.before.before.before.before.before.before.before.before.if1.false), (z.requires.1.0, (run_preserves z.requires.1.0 z.requires.1.1.1.0 c.before.before.before.before.before.before.before.before.before.before.before.before.if1.false l.invariant.1 z.requires.1.1.0, run_performable z.requires.1.0 z.requires.1.1.1.0 c.before.before.before.before.before.before.before.before.before.before.before.before.if1.false l.invariant.1 z.requires.1.1.0 (told c.before.before.before.before.before.before.before.is_unchanged.ensures c.before.before.before.before.before.advance.ensures))))
 
 run-manager-loop-less-2 : (t : ℕ) → run-manager-lts.Need-loop-smaller-2 (run-manager-claims t) (run-manager-at t) run-manager.Post run-manager-Inv-loop run-manager-μ-loop
 run-manager-loop-less-2 t c =
     let z = c.before.before.before.before.before.before.before.before.before.before.before.before.before.before.before.before.before.before.before.before.before.before.before.before.before.before.before.before.before.before.before in
     let l = c.before.before.before.before.before.before.before.before.before.before.before.before.before.before.before.before.before.before.loop in
     let x = c.before.before.before.before.before.before.before.before.before.before.before.before.advance in
-    run-less z.requires.1.0 z.requires.1.1.1.0 c.before.before.before.before.before.before.before.before.before.before.before.before.before.before.before.before.before.before.before.if1.false l.invariant.1 z.requires.1.1.0 (told c.before.before.before.before.before.before.before.before.before.before.before.before.before.before.is_unchanged.ensures x.ensures) (ap is_running (sym l.invariant.0) ∙ sym c.before.before.before.before.before.before.before.before.before.before.before.before.before.before.before.before.before.is-running.ensures ∙ c.before.before.before.before.before.before.before.before.before.before.before.before.before.before.before.before.if2.true) (no_change x.result.core.effect c.before.before.before.before.before.before.before.before.before.before.match.keys2)
+    run_less z.requires.1.0 z.requires.1.1.1.0 c.before.before.before.before.before.before.before.before.before.before.before.before.before.before.before.before.before.before.before.if1.false l.invariant.1 z.requires.1.1.0 (told c.before.before.before.before.before.before.before.before.before.before.before.before.before.before.is_unchanged.ensures x.ensures) (ap is_running (sym l.invariant.0) ∙ sym c.before.before.before.before.before.before.before.before.before.before.before.before.before.before.before.before.before.is-running.ensures ∙ c.before.before.before.before.before.before.before.before.before.before.before.before.before.before.before.before.if2.true) (no_change x.result.core.effect c.before.before.before.before.before.before.before.before.before.before.match.keys2)
 
 run-manager-loop-again-2 : (t : ℕ) → run-manager-lts.Need-loop-preserved-2 (run-manager-claims t) (run-manager-at t) run-manager.Post run-manager-Inv-loop run-manager-μ-loop
 run-manager-loop-again-2 t c =
@@ -346,7 +346,7 @@ run-manager-loop-again-2 t c =
     let l = c.before.before.before.before.before.before.before.before.before.before.before.before.before.before.before.before.before.before.loop in
     let r = c.before.before.before.before.before.before.perform in
     let w' = words r.new.1.1.1.0 r.new.1.1.1.1.0 r.new.1.1.1.1.1.0 in
-    (refl, run-again z.requires.1.0 z.requires.1.1.1.0 c.before.before.before.before.before.before.before.before.before.before.before.before.before.before.before.before.before.before.before.if1.false l.invariant.1 z.requires.1.1.0 (told c.before.before.before.before.before.before.before.before.before.before.before.before.before.before.is_unchanged.ensures c.before.before.before.before.before.before.before.before.before.before.before.before.advance.ensures) w' r.ensures, r.auto.1.1.1.0 ∙ l.invariant.2, r.auto.1.1.1.1.0 ∙ l.invariant.3, r.auto.1.1.1.1.1.0 ∙ l.invariant.4)
+    (refl, run_again z.requires.1.0 z.requires.1.1.1.0 c.before.before.before.before.before.before.before.before.before.before.before.before.before.before.before.before.before.before.before.if1.false l.invariant.1 z.requires.1.1.0 (told c.before.before.before.before.before.before.before.before.before.before.before.before.before.before.is_unchanged.ensures c.before.before.before.before.before.before.before.before.before.before.before.before.advance.ensures) w' r.ensures, r.auto.1.1.1.0 ∙ l.invariant.2, r.auto.1.1.1.1.0 ∙ l.invariant.3, r.auto.1.1.1.1.1.0 ∙ l.invariant.4)
 
 run-manager-ended-requires-2 : (t : ℕ) → run-manager-lts.Need-ended-requires-2 (run-manager-claims t) (run-manager-at t) run-manager.Post run-manager-Inv-loop run-manager-μ-loop
 run-manager-ended-requires-2 t c κs = omega (arith, last_fits c.before.before.before.loop.invariant.1.held)

@@ -45,17 +45,17 @@ module _ {s masks index : List ℕ} (a : Tables s masks index) {left : ℕ} {f :
     there : Present s (Write o i v)
     there = subst (Present s) is can.present
 
-    pub write-there : {c h t : List ℕ} → RepresentsSome s c h t → FieldThere c o i
-    write-there q =
+    pub write_there : {c h t : List ℕ} → RepresentsSome s c h t → FieldThere c o i
+    write_there q =
         record {
           room = q.1.fields_there;
           object = number_few s a.accepted o there.0;
           field = omega (arith, there.1);
         }
 
-    pub perform-writes : (w : Words) (c' : List ℕ) → FieldSet w.current c' o i v → Performed s left f forks e w (record { current = c'; ended = w.ended; tallies = w.tallies })
+    pub perform_writes : (w : Words) (c' : List ℕ) → FieldSet w.current c' o i v → Performed s left f forks e w (record { current = c'; ended = w.ended; tallies = w.tallies })
     unfolding effected
-    perform-writes w c' set = (
+    perform_writes w c' set = (
       spared_write s a.accepted w c' o i v there.0 (omega (arith, there.1)) set,
       λ g x n represents same forking.
           rw is (kept_write s g w.current c' w.ended w.tallies o i v represents set there.1 (few_levels s (accepted s a.accepted).three)),
@@ -69,27 +69,27 @@ module _ {s masks index : List ℕ} (a : Tables s masks index) {left : ℕ} {f :
     some : forks ≡ forks - 1 + 1
     some = can.forking u o b v is
 
-    pub fork-some : 1 ≤ forks
-    fork-some = omega (arith, some)
+    pub fork_some : 1 ≤ forks
+    fork_some = omega (arith, some)
 
-    pub fork-stamps : (f.depth ≤ 7) × (forks - 1 < 15) × (f.stamp + 16 ^ (8 - f.depth) ≤ 2 ^ 32)
-    fork-stamps = (omega (arith, can.fork.shallow), omega (arith, some, can.forked), can.fork.fits)
+    pub fork_stamps : (f.depth ≤ 7) × (forks - 1 < 15) × (f.stamp + 16 ^ (8 - f.depth) ≤ 2 ^ 32)
+    fork_stamps = (omega (arith, can.fork.shallow), omega (arith, some, can.forked), can.fork.fits)
 
     module _ {stamp : ℕ} (stamped : stamp ≡ model.child_stamp f.stamp f.depth (forks - 1 + 1)) where
-      pub fork-runs : Runnable s left (child f u stamp message)
-      fork-runs =
+      pub fork_runs : Runnable s left (child f u stamp message)
+      fork_runs =
           let there : Present s (Fork u o b v) = subst (Present s) is can.present in
           record {
             placed = there.0;
             present = there.1.0;
             named = there.1.1;
             shallow = omega (arith, can.fork.shallow);
-            fits = rw stamped (omega (arith, child_within f.stamp f.depth (forks - 1) fork-stamps.0 fork-stamps.1, can.fork.fits));
+            fits = rw stamped (omega (arith, child_within f.stamp f.depth (forks - 1) fork_stamps.0 fork_stamps.1, can.fork.fits));
           }
 
-      same-child : (x : model.Fork) (n : Manager) → Same f x → forks ≡ n.forks + 1 → Same (child f u stamp message) (model.child_of f.level x n message)
+      same_child : (x : model.Fork) (n : Manager) → Same f x → forks ≡ n.forks + 1 → Same (child f u stamp message) (model.child_of f.level x n message)
       unfolding model.child_of
-      same-child x n same one =
+      same_child x n same one =
           let k : forks - 1 + 1 ≡ n.forks + 1 = omega (arith, one) in
           record {
             stamp = rw (same.stamp, same.depth, sym k) (sym stamped);
@@ -97,9 +97,9 @@ module _ {s masks index : List ℕ} (a : Tables s masks index) {left : ℕ} {f :
             message = refl;
           }
 
-      pub perform-forks : (w w' : Words) → ForkDone s left (child f u stamp message) w w' → Performed s left f forks e w w'
+      pub perform_forks : (w w' : Words) → ForkDone s left (child f u stamp message) w w' → Performed s left f forks e w w'
       unfolding effected
-      perform-forks w w' done = (
+      perform_forks w w' done = (
         done.0,
-        λ g x n represents same forking. rw is (done.1 g (model.child_of f.level x n message) represents (same-child x n same (forking u o b v is))),
+        λ g x n represents same forking. rw is (done.1 g (model.child_of f.level x n message) represents (same_child x n same (forking u o b v is))),
       )

@@ -172,11 +172,11 @@ module _ {s masks index : List ℕ} (a : Tables s masks index) {left : ℕ} {f :
     here : Ahead s left f (manager_of m) w q.0 (bare f)
     here = l.ahead q.0 (bare f) q.1 (bare_same f)
 
-    pub run-preserves : RepresentsSome s w.current w.ended w.tallies
-    run-preserves = (here.now, here.represents)
+    pub run_preserves : RepresentsSome s w.current w.ended w.tallies
+    run_preserves = (here.now, here.represents)
 
-    pub run-able : is_running m.core.ending ≡ true → Advanceable s masks index w.current w.current m × ((m.core.steps < max_script_steps) × (max_script_steps ≤ max_script_steps))
-    run-able run = (
+    pub run_able : is_running m.core.ending ≡ true → Advanceable s masks index w.current w.current m × ((m.core.steps < max_script_steps) × (max_script_steps ≤ max_script_steps))
+    run_able run = (
       record {
         indexed = record { accepted = a.accepted; index_is = a.index_is };
         leveled = record { accepted = a.accepted; masks_are = a.masks_are };
@@ -195,8 +195,8 @@ module _ {s masks index : List ℕ} (a : Tables s masks index) {left : ℕ} {f :
       leads : (g : Progress) → Represents s g w → Leads p (field_now p g) (manager_of m) (stepped_of n)
       leads g represents = ad.leads (field_now p g) (agrees a.accepted g represents w.current m.core.level)
 
-      pub run-performable : Performable s (left - 1) f n.core.forks n.core.effect
-      run-performable =
+      pub run_performable : Performable s (left - 1) f n.core.forks n.core.effect
+      run_performable =
           let levels : left - 1 + 1 ≡ left = omega (arith, above) in
           record {
             fork = rw levels r;
@@ -205,8 +205,8 @@ module _ {s masks index : List ℕ} (a : Tables s masks index) {left : ℕ} {f :
             forking = led_forking s a.accepted (field_now p here.now) (manager_of m) n (leads here.now here.represents);
           }
 
-      pub run-again : (w' : Words) → Performed s (left - 1) f n.core.forks n.core.effect w w' → Looped s left f w₀ w' n
-      run-again w' done =
+      pub run_again : (w' : Words) → Performed s (left - 1) f n.core.forks n.core.effect w w' → Looped s left f w₀ w' n
+      run_again w' done =
           record {
             held = ad.held;
             level = ad.level_is ∙ l.level;
@@ -255,16 +255,16 @@ module _ {s masks index : List ℕ} (a : Tables s masks index) {left : ℕ} {f :
         | some less ↦ less
       ]
 
-      pub run-less : is_running m.core.ending ≡ true → (n.core.effect ≡ Change → ⊥) → steps_left n < steps_left m
-      run-less run other = steps_less l.held ad.held run (more run other)
+      pub run_less : is_running m.core.ending ≡ true → (n.core.effect ≡ Change → ⊥) → steps_left n < steps_left m
+      run_less run other = steps_less l.held ad.held run (more run other)
 
       -- a CREATE or WITHDRAW is next
       module _ (is : n.core.effect ≡ Change) where
         asks : (is_running n.core.ending ≡ true) × (pause_of s w.current w.current true (unchanged w.tallies) n.core ≡ change)
         asks = ((ad.asks (ap is_asking is)).0, (ad.asks (ap is_asking is)).1 ∙ ap asking is)
 
-        pub run-changeable : Changeable s masks index w.current n × (tally_numbers ≤ length w.tallies)
-        run-changeable = (
+        pub run_changeable : Changeable s masks index w.current n × (tally_numbers ≤ length w.tallies)
+        run_changeable = (
           record {
             indexed = record { accepted = a.accepted; index_is = a.index_is };
             leveled = record { accepted = a.accepted; masks_are = a.masks_are };
@@ -279,14 +279,14 @@ module _ {s masks index : List ℕ} (a : Tables s masks index) {left : ℕ} {f :
 
         -- so far nothing was done outside
         before : Looped s left f w₀ w n
-        before = run-again w (perform_nothing a run-performable w (ap effect_of is))
+        before = run_again w (perform_nothing a run_performable w (ap effect_of is))
 
         module _ {k : Manager} {c' t' : List ℕ} (done : ChangeDone s n k w.current w.tallies c' t') where
           abbrev w' : Words
           w' = record { current = c'; ended = w.ended; tallies = t' }
 
-          pub run-changed : Looped s left f w₀ w' k
-          run-changed =
+          pub run_changed : Looped s left f w₀ w' k
+          run_changed =
               record {
                 held = done.held;
                 level = done.level_is ∙ before.level;
@@ -308,21 +308,21 @@ module _ {s masks index : List ℕ} (a : Tables s masks index) {left : ℕ} {f :
           one =
               ap (λ m. m.steps) (done.is w.ended here.now here.represents) ∙ step_counted p (field_now p here.now) (manager_of n)
 
-          not-fewer : m.core.steps ≤ n.core.steps
+          not_fewer : m.core.steps ≤ n.core.steps
           unfolding manager_of
-          not-fewer = elim made [
+          not_fewer = elim made [
             | none e ↦ let steps : n.core.steps ≡ m.core.steps = ap (λ d. d.manager.steps) e in omega (arith, steps)
             | some less ↦ omega (arith, less)
           ]
 
-          pub run-changed-less : is_running m.core.ending ≡ true → steps_left k < steps_left m
-          run-changed-less run = steps_less l.held done.held run (omega (arith, one, not-fewer))
+          pub run_changed_less : is_running m.core.ending ≡ true → steps_left k < steps_left m
+          run_changed_less run = steps_less l.held done.held run (omega (arith, one, not_fewer))
 
     -- the end: the history is kept, and the counts grow
     module _ (room : get_or w₀.tallies f.level 0 < max_managers) (over : is_running m.core.ending ≡ false) {h : Ended} (is : h ≡ kept_of m.core f.stamp) where
       -- as many managers of its level have ended as at its start
-      few-ended : {g₀ : Progress} {x : model.Fork} → Represents s g₀ w₀ → (b : Ahead s left f (manager_of m) w g₀ x) → length (tally_at b.now f.level).ended < max_managers
-      few-ended represents b =
+      few_ended : {g₀ : Progress} {x : model.Fork} → Represents s g₀ w₀ → (b : Ahead s left f (manager_of m) w g₀ x) → length (tally_at b.now f.level).ended < max_managers
+      few_ended represents b =
           rw (ap (λ t. t.ended) b.own) (omega (arith, (represents.counted f.level r.placed).count, room))
 
       pub run_room : HistoryRoom w.ended f.level (get_or w.tallies f.level 0) h × (tally_numbers ≤ length w.tallies)
@@ -331,7 +331,7 @@ module _ {s masks index : List ℕ} (a : Tables s masks index) {left : ℕ} {f :
             record {
               room = here.represents.histories_there;
               level = level_small a f.level r.placed;
-              more = omega (arith, t.count, few-ended q.1 here);
+              more = omega (arith, t.count, few_ended q.1 here);
               rises = rw (t.count, t.histories) t.rises;
               ended = ap (λ h. is_running h.ending) is ∙ over;
             },
@@ -349,7 +349,7 @@ module _ {s masks index : List ℕ} (a : Tables s masks index) {left : ℕ} {f :
             let run : run_fork left p f.level x g ≡ close f.level x n b.now =
             sym b.ends ∙ finish_over (run_fork (left - 1) p) (max_script_steps - n.steps) p f.level x n b.now over in
             let history_is : history_of h ≡ history.history_of x n = ap history_of is ∙ rw same.stamp refl in
-            let more = few-ended represents b in
+            let more = few_ended represents b in
             let pace : n.stamp ≤ (tally_at b.now f.level).next + max_forks =
             rw (ap (λ t. t.next) b.own) (omega (arith, l.held.forked, l.first, at.next)) in
             let counted : t' ≡ tallied f.level (get_or w.tallies f.level 0 + 1) (n.stamp + 1) w.tallies =

@@ -59,28 +59,28 @@ module _ (s : List ℕ) (a : verdict_of s ≡ Accepted) where
     abbrev pub ends : Manager → Progress → Progress
     ends m g = finish (run_fork left p) (max_script_steps - m.steps) p l x m g
 
-    step-ends : (m : Manager) (g : Progress) → m.steps < max_script_steps → is_running m.ending ≡ true → ends m g ≡ ends (stepped p (field_now p g) m).manager (effected (run_fork left p) l x m (stepped p (field_now p g) m).effect g)
-    step-ends m g few run =
+    step_ends : (m : Manager) (g : Progress) → m.steps < max_script_steps → is_running m.ending ≡ true → ends m g ≡ ends (stepped p (field_now p g) m).manager (effected (run_fork left p) l x m (stepped p (field_now p g) m).effect g)
+    step_ends m g few run =
         let n = (stepped p (field_now p g) m).manager in
         let less : max_script_steps - m.steps ≡ suc (max_script_steps - n.steps) = omega (arith, step_counted p (field_now p g) m, few) in
         ap (λ k. finish (run_fork left p) k p l x m g) less
         ∙ finish_step (run_fork left p) (max_script_steps - n.steps) p l x m g run
 
     -- a step that is known
-    step-does : (m : Manager) (d : Stepped) (g : Progress) → m.steps < max_script_steps → is_running m.ending ≡ true → l < p.levels → m.level ≡ l → stepped p (field_now p g) m ≡ d → (ends m g ≡ ends d.manager (effected (run_fork left p) l x m d.effect g)) × (tally_at (effected (run_fork left p) l x m d.effect g) l ≡ tally_at g l)
-    step-does m d g few run placed at e =
-        rw (sym e) (step-ends m g few run, effected_own p (program_sound s a) (run_fork left p) (run_fork_leaves p (program_sound s a) left) l placed x m g at)
+    step_does : (m : Manager) (d : Stepped) (g : Progress) → m.steps < max_script_steps → is_running m.ending ≡ true → l < p.levels → m.level ≡ l → stepped p (field_now p g) m ≡ d → (ends m g ≡ ends d.manager (effected (run_fork left p) l x m d.effect g)) × (tally_at (effected (run_fork left p) l x m d.effect g) l ≡ tally_at g l)
+    step_does m d g few run placed at e =
+        rw (sym e) (step_ends m g few run, effected_own p (program_sound s a) (run_fork left p) (run_fork_leaves p (program_sound s a) left) l placed x m g at)
 
     -- steps that concern nobody else
-    internal-ends : (k : ℕ) (m b : Manager) (g : Progress) → b.steps ≤ max_script_steps → InternalSteps p (field_now p g) k m b → ends m g ≡ ends b g
+    internal_ends : (k : ℕ) (m b : Manager) (g : Progress) → b.steps ≤ max_script_steps → InternalSteps p (field_now p g) k m b → ends m g ≡ ends b g
     unfolding InternalSteps effected
-    internal-ends zero m b g few e = ap (λ n. ends n g) e
-    internal-ends (suc k) m b g few (run, (none, q)) =
+    internal_ends zero m b g few e = ap (λ n. ends n g) e
+    internal_ends (suc k) m b g few (run, (none, q)) =
         let n = (stepped p (field_now p g) m).manager in
         let made = internal_steps p (field_now p g) k n b q in
-        step-ends m g (omega (arith, few, made, step_counted p (field_now p g) m)) run
+        step_ends m g (omega (arith, few, made, step_counted p (field_now p g) m)) run
         ∙ ap (λ e. ends n (effected (run_fork left p) l x m e g)) none
-        ∙ internal-ends k n b g few q
+        ∙ internal_ends k n b g few q
 
   -- from the words w and the manager m the run of the fork ends as from w' and m'
   abbrev pub SameEnd : ℕ → fork.Fork → Words → Words → Manager → Manager → Progress → model.Fork → Type 0
@@ -94,14 +94,14 @@ module _ (s : List ℕ) (a : verdict_of s ≡ Accepted) where
   unfolding effected manager_of
   led_ends left f w w' m r few placed at does g x represents same (internal k q none) =
       let represented = does.1 g x m represents same (internal_forking r.core.effect m.forks r.core.forks none) in
-      (g, (subst (λ e. Represents s (effected (run_fork left p) f.level x m e g) w') none represented, (internal-ends left f.level x k m (manager_of r) g few q, refl)))
+      (g, (subst (λ e. Represents s (effected (run_fork left p) f.level x m e g) w') none represented, (internal_ends left f.level x k m (manager_of r) g few q, refl)))
   led_ends left f w w' m r few placed at does g x represents same (last k n q run e) =
       let read = field_now p g in
       let there : f.level < p.levels = unfold program_of in placed in
       let made : n.steps + 1 ≡ r.core.steps = sym (step_counted p read n) ∙ ap (λ d. d.manager.steps) e in
-      let step = step-does left f.level x n (stepped_of r) g (omega (arith, made, few)) run there ((internal_alike p read k m n q).0 ∙ at) e in (
+      let step = step_does left f.level x n (stepped_of r) g (omega (arith, made, few)) run there ((internal_alike p read k m n q).0 ∙ at) e in (
         effected (run_fork left p) f.level x n (effect_of r.core.effect) g,
-        (does.1 g x n represents same (step_forking p read n r e), (internal-ends left f.level x k m n g (omega (arith, made, few)) q ∙ step.0, step.1)),
+        (does.1 g x n represents same (step_forking p read n r e), (internal_ends left f.level x k m n g (omega (arith, made, few)) q ∙ step.0, step.1)),
       )
 
   -- a CREATE or WITHDRAW
@@ -111,7 +111,7 @@ module _ (s : List ℕ) (a : verdict_of s ≡ Accepted) where
       let n = manager_of m in
       let d = stepped p (field_now p g) n in
       let there : f.level < p.levels = unfold program_of in placed in
-      let step = step-does left f.level x n d g few run there at refl in (
+      let step = step_does left f.level x n d g few run there at refl in (
         effected (run_fork left p) f.level x n d.effect g,
         (
           subst (λ y. Represents s (effected (run_fork left p) y x n d.effect g) (record { current = c'; ended = h; tallies = t' })) at (done.does h g (run_fork left p) x represents),

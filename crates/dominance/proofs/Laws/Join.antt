@@ -118,17 +118,17 @@ module _ (n : ℕ) (dom : Dominance) where
     join_is a b u lu = unique a b (join n dom a b) u (join_least a b (join_found a b u lu)) lu
 
     -- of two levels one of which dominates the other, the join is the upper one
-    pub join-left : (a b : ℕ) → a < n → dom a b ≡ true → join n dom a b ≡ a
-    join-left a b h e =
+    pub join_left : (a b : ℕ) → a < n → dom a b ≡ true → join n dom a b ≡ a
+    join_left a b h e =
         join_is a b a (record { present = h; above_left = po.itself a h; above_right = e; least = λ v l p q. p })
 
-    pub join-right : (a b : ℕ) → b < n → dom b a ≡ true → join n dom a b ≡ b
-    join-right a b h e = join_comm a b ∙ join-left b a h e
+    pub join_right : (a b : ℕ) → b < n → dom b a ≡ true → join n dom a b ≡ b
+    join_right a b h e = join_comm a b ∙ join_left b a h e
 
     -- so question 5 is answered by the pairs of a level and a lower-numbered one
-    pub joined-pairs : ((a : ℕ) → a < n → (b : ℕ) → b < a → join n dom a b ≡ n → ⊥) → has_joins n dom ≡ true
+    pub joined_pairs : ((a : ℕ) → a < n → (b : ℕ) → b < a → join n dom a b ≡ n → ⊥) → has_joins n dom ≡ true
     unfolding has_joins
-    joined-pairs f =
+    joined_pairs f =
         all-every n _ λ a ha. all-every n _ λ b hb. lt-ltb (join n dom a b) n (pair a b ha hb (dec_lt b a) (dec_lt a b))
       where
         pair : (a b : ℕ) → a < n → b < n → Dec (b < a) → Dec (a < b) → join n dom a b < n
@@ -136,16 +136,16 @@ module _ (n : ℕ) (dom : Dominance) where
         pair a b ha hb (no l) (yes g) = rw (join_comm a b) (omega (arith, join_le b a, f b hb a g))
         pair a b ha hb (no l) (no g) =
             let e : b ≡ a = omega arith in
-            rw e (rw (join-left a a ha (po.itself a ha)) ha)
+            rw e (rw (join_left a a ha (po.itself a ha)) ha)
 
   module _ (sl : JoinSemilattice n dom) (m l : ℕ) (hm : m < n) (hl : l < n) where
     -- the join of m and l is m exactly when m dominates l
-    pub join-same : (join n dom m l ≡ m) ↔ (dom m l ≡ true)
-    join-same = (λ e. rw e at (sl.least m l hm hl).above_right, join-left sl.order m l hm)
+    pub join_same : (join n dom m l ≡ m) ↔ (dom m l ≡ true)
+    join_same = (λ e. rw e at (sl.least m l hm hl).above_right, join_left sl.order m l hm)
 
     -- a join that is not m lies strictly above m
-    pub join-strict : (join n dom m l ≡ m → ⊥) → strictly dom (join n dom m l) m ≡ true
-    join-strict ne =
+    pub join_strict : (join n dom m l ≡ m → ⊥) → strictly dom (join n dom m l) m ≡ true
+    join_strict ne =
         and_both (dom (join n dom m l) m) (not (eqb (join n dom m l) m)) (sl.least m l hm hl).above_left
         (rw (ne_eqb (join n dom m l) m ne))
 

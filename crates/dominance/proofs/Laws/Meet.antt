@@ -72,19 +72,19 @@ module _ (n : ℕ) (dom : Dominance) (sl : JoinSemilattice n dom) where
           over = λ v h. absurd (omega arith);
         }
 
-    one-over : (k : ℕ) → k < n → Under n dom a b k → Under n dom a b (suc k)
-    one-over k hk u = go (dec_lower (dom a k) (dom b k))
+    one_over : (k : ℕ) → k < n → Under n dom a b k → Under n dom a b (suc k)
+    one_over k hk u = go (dec_lower (dom a k) (dom b k))
       where
-        level-joined : ℕ
-        level-joined = join n dom u.level k
+        level_joined : ℕ
+        level_joined = join n dom u.level k
 
-        below : (c : ℕ) → c < n → dom c u.level ≡ true → dom c k ≡ true → dom c level-joined ≡ true
+        below : (c : ℕ) → c < n → dom c u.level ≡ true → dom c k ≡ true → dom c level_joined ≡ true
         below c hc p q = (join-below n dom sl u.level k u.present hk c hc).1 (p, q)
 
-        over : (v : ℕ) → v < suc k → dom a v ≡ true → dom b v ≡ true → dom level-joined v ≡ true
+        over : (v : ℕ) → v < suc k → dom a v ≡ true → dom b v ≡ true → dom level_joined v ≡ true
         over v h p q = elim (dec_lt v k) [
           | yes g ↦
-              sl.order.through level-joined u.level v (sl.least u.level k u.present hk).present u.present (omega arith)
+              sl.order.through level_joined u.level v (sl.least u.level k u.present hk).present u.present (omega arith)
               (sl.least u.level k u.present hk).above_left (u.over v g p q)
           | no g ↦ let z : v ≡ k = omega arith in rw z (sl.least u.level k u.present hk).above_right
         ]
@@ -92,7 +92,7 @@ module _ (n : ℕ) (dom : Dominance) (sl : JoinSemilattice n dom) where
         go : Lower (dom a k) (dom b k) → Under n dom a b (suc k)
         go (both p q) =
             record {
-              level = level-joined;
+              level = level_joined;
               present = (sl.least u.level k u.present hk).present;
               left = below a ha u.left p;
               right = below b hb u.right q;
@@ -110,13 +110,13 @@ module _ (n : ℕ) (dom : Dominance) (sl : JoinSemilattice n dom) where
               ];
             }
 
-    all-over : (k : ℕ) → k ≤ n → Under n dom a b k
-    all-over zero h = none_over
-    all-over (suc k) h = one-over k (omega arith) (all-over k (omega arith))
+    all_over : (k : ℕ) → k ≤ n → Under n dom a b k
+    all_over zero h = none_over
+    all_over (suc k) h = one_over k (omega arith) (all_over k (omega arith))
 
     greatest : (u : ℕ) × GreatestLower n dom a b u
     greatest =
-        let u = all-over n (omega arith) in (
+        let u = all_over n (omega arith) in (
           u.level,
           record { present = u.present; above_left = u.left; above_right = u.right; least = u.over },
         )
@@ -126,15 +126,15 @@ module _ (n : ℕ) (dom : Dominance) (sl : JoinSemilattice n dom) where
     lower : (l k : ℕ) → l < n → k < n → GreatestLower n dom l k (meet n dom l k)
     lower l k hl hk = join_least n (reversed dom) l k (joined n (reversed dom) m l k hl hk)
 
-    low-to : (k : ℕ) → k < n → Low n dom (suc k)
-    low-to zero h =
+    low_to : (k : ℕ) → k < n → Low n dom (suc k)
+    low_to zero h =
         record {
           level = zero;
           present = h;
           under = λ i g. let z : i ≡ zero = omega arith in rw z (sl.order.itself zero h);
         }
-    low-to (suc k) h =
-        let w = low-to k (omega arith) in
+    low_to (suc k) h =
+        let w = low_to k (omega arith) in
         let u = lower w.level (suc k) w.present h in
         record {
           level = meet n dom w.level (suc k);
@@ -154,7 +154,7 @@ module _ (n : ℕ) (dom : Dominance) (sl : JoinSemilattice n dom) where
   meets_lowest : (k : ℕ) → suc k ≡ n → has_meets n dom ≡ true → has_lowest n dom ≡ true
   unfolding is_lowest
   meets_lowest k z m =
-      let w = low-to m k (omega arith) in
+      let w = low_to m k (omega arith) in
       lowest_found n dom w.level w.present (all-every n (λ i. dom i w.level) (λ i h. w.under i (omega arith)))
 
   -- where there is a level, question 17 says yes exactly where some level is dominated by all

@@ -29,13 +29,13 @@ bit_beyond mask k h = rw (div-eq_of_lt h)
 pub names-below : (mask n : ℕ) → eqb (mask / 2 ^ n) 0 ≡ ltb mask (2 ^ n)
 names-below mask n = go (dec_lt mask (2 ^ n))
   where
-    quotient-zero : mask / 2 ^ n ≡ 0 → mask < 2 ^ n
-    quotient-zero e = rw one-mul at ((div-lt_iff_lt-mul {x = mask} {y = 1} (pow_pos n)).0 (rw e (omega arith)))
+    quotient_zero : mask / 2 ^ n ≡ 0 → mask < 2 ^ n
+    quotient_zero e = rw one-mul at ((div-lt_iff_lt-mul {x = mask} {y = 1} (pow_pos n)).0 (rw e (omega arith)))
 
     go : Dec (mask < 2 ^ n) → eqb (mask / 2 ^ n) 0 ≡ ltb mask (2 ^ n)
     go (yes h) = rw (div-eq_of_lt h) (sym (lt-ltb mask (2 ^ n) h))
     go (no g) =
-        ne_eqb (mask / 2 ^ n) 0 (λ e. g (quotient-zero e))
+        ne_eqb (mask / 2 ^ n) 0 (λ e. g (quotient_zero e))
         ∙ sym (le-ltb mask (2 ^ n) (omega arith))
 
 -- a level that is not in the table dominates none

@@ -7,7 +7,7 @@ use lib.Dec.{eqb}
 use Rattle.dominance.specs.Order.{Dominance, strictly, PartialOrder}
 use Rattle.dominance.specs.Join.{JoinSemilattice, join}
 use Rattle.lists.proofs.Laws.Range.{not_both}
-use Rattle.dominance.proofs.Laws.Join.{join-right, join-same, join-strict}
+use Rattle.dominance.proofs.Laws.Join.{join_right, join_same, join_strict}
 use Rattle.fates.specs.Filter.{fate_of}
 use Rattle.fates.specs.declared.Fate.{Fate}
 use Rattle.fates.specs.declared.Fate.TheVariants.{Call, Discard, Block, Fork}
@@ -32,7 +32,7 @@ module _ (n : ℕ) (dom : Dominance) (sl : JoinSemilattice n dom) where
   rises m l2 hm h2 false false c e = tt
   rises m l2 hm h2 false true true e = tt
   rises m l2 hm h2 false true false e =
-      ((sl.least m l2 hm h2).present, join-strict n dom sl m l2 hm h2 (eqb-false (join n dom m l2) m e))
+      ((sl.least m l2 hm h2).present, join_strict n dom sl m l2 hm h2 (eqb-false (join n dom m l2) m e))
 
   pub fate_rises : (m l1 l2 : ℕ) → m < n → l2 < n → Rises n dom m (fate_of n dom m l1 l2)
   unfolding fate_of
@@ -41,7 +41,7 @@ module _ (n : ℕ) (dom : Dominance) (sl : JoinSemilattice n dom) where
   covers : (m l1 l2 : ℕ) → m < n → l2 < n → (a b c : Bool) → dom l1 l2 ≡ a → eqb (join n dom m l2) m ≡ c → Covers dom m l1 l2 (cond a Call (cond b (cond c Discard (Fork (join n dom m l2))) Block))
   covers m l1 l2 hm h2 true b c d e = d
   covers m l1 l2 hm h2 false false c d e = tt
-  covers m l1 l2 hm h2 false true true d e = (join-same n dom sl m l2 hm h2).0 (eqb-true (join n dom m l2) m e)
+  covers m l1 l2 hm h2 false true true d e = (join_same n dom sl m l2 hm h2).0 (eqb-true (join n dom m l2) m e)
   covers m l1 l2 hm h2 false true false d e = (sl.least m l2 hm h2).above_right
 
   pub fate_covers : (m l1 l2 : ℕ) → m < n → l2 < n → Covers dom m l1 l2 (fate_of n dom m l1 l2)
@@ -56,21 +56,21 @@ module _ (n : ℕ) (dom : Dominance) (m l1 l2 : ℕ) where
   fate_called d = rw d refl
 
   module _ (d : dom l1 l2 ≡ false) where
-    pub fate-blocked : dom l2 l1 ≡ false → Block ≡ fate_of n dom m l1 l2
+    pub fate_blocked : dom l2 l1 ≡ false → Block ≡ fate_of n dom m l1 l2
     unfolding fate_of
-    fate-blocked e = rw (d, e) refl
+    fate_blocked e = rw (d, e) refl
 
     module _ (e : dom l2 l1 ≡ true) (u : ℕ) (is : u ≡ join n dom m l2) where
-      pub fate-discarded : u ≡ m → Discard ≡ fate_of n dom m l1 l2
+      pub fate_discarded : u ≡ m → Discard ≡ fate_of n dom m l1 l2
       unfolding fate_of
-      fate-discarded own = rw (d, e, sym is, eq-eqb u m own) refl
+      fate_discarded own = rw (d, e, sym is, eq-eqb u m own) refl
 
-      pub fate-forked : (u ≡ m → ⊥) → Fork u ≡ fate_of n dom m l1 l2
+      pub fate_forked : (u ≡ m → ⊥) → Fork u ≡ fate_of n dom m l1 l2
       unfolding fate_of
-      fate-forked apart = rw (d, e, sym is, ne_eqb u m apart) refl
+      fate_forked apart = rw (d, e, sym is, ne_eqb u m apart) refl
 
 -- a message upward from the manager's own level is forked at the receiver's
 pub fate_own : (n : ℕ) (dom : Dominance) → PartialOrder n dom → (m l2 : ℕ) → l2 < n → dom m l2 ≡ false → dom l2 m ≡ true → fate_of n dom m m l2 ≡ Fork l2
 unfolding fate_of
 fate_own n dom po m l2 h d u =
-    rw (d, u, join-right n dom po m l2 h u, ne_eqb l2 m (λ e. not_both (dom m l2) (rw e (rw e at u)) d))
+    rw (d, u, join_right n dom po m l2 h u, ne_eqb l2 m (λ e. not_both (dom m l2) (rw e (rw e at u)) d))

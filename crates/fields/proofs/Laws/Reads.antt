@@ -48,15 +48,15 @@ own_known current cache unchanged o small h =
 -- a found script is that of an object of the session, or none
 pub found_scripted : (s current cache : List ℕ) (own unchanged : Bool) (o : ℕ) → Scripted s current → Scripted s cache → own_script_of o ≤ object_count s → o < max_numbers → eqb (script_found current cache own unchanged o) unknown ≡ false → script_found current cache own unchanged o ≤ object_count s
 unfolding script_found
-found_scripted s current cache own true o f g own-low h e = own-low
-found_scripted s current cache true false o f g own-low h e = f o h
-found_scripted s current cache false false o f g own-low h e = elim (truth (known_at cache o existence)) [
+found_scripted s current cache own true o f g own_low h e = own_low
+found_scripted s current cache true false o f g own_low h e = f o h
+found_scripted s current cache false false o f g own_low h e = elim (truth (known_at cache o existence)) [
   | holds k ↦ rw k (g o h)
-  | fails k ↦ absurd (unknown-is (rw k at e))
+  | fails k ↦ absurd (unknown_is (rw k at e))
 ]
   where
-    unknown-is : true ≡ false → ⊥
-    unknown-is q = not_both true refl q
+    unknown_is : true ≡ false → ⊥
+    unknown_is q = not_both true refl q
 
 -- what is missing is the field, or existence
 same_missing : (j k : ℕ) → Missing j ≡ Missing k → j ≡ k

@@ -3,7 +3,7 @@ use mathlib.Core.Bool.{true, false}
 use lib.ListN.{length}
 use Rattle.dominance.specs.Table.{dominates}
 use Rattle.dominance.proofs.Laws.Table.{partial_order, upper_present}
-use Rattle.fates.proofs.Laws.Fate.{fate_called, fate-blocked, fate-discarded, fate-forked, fate_own}
+use Rattle.fates.proofs.Laws.Fate.{fate_called, fate_blocked, fate_discarded, fate_forked, fate_own}
 use Rattle.filter.proofs.fate_of.Goals as goal
 
 pub returns-then-dominates : goal.returns-then-dominates
@@ -16,7 +16,7 @@ pub returns-then-not-dominates : goal.returns-then-not-dominates
 returns-then-not-dominates c =
     let g = c.args in
     let masks = g.masks.now in
-    fate-blocked (length masks) (dominates masks) g.manager g.sender g.receiver
+    fate_blocked (length masks) (dominates masks) g.manager g.sender g.receiver
     (sym c.dominates.ensures ∙ c.if-dominates.false)
     (sym c.dominates-2.ensures ∙ c.if-not-dominates.true)
 
@@ -32,7 +32,7 @@ pub returns-then-bound-manager : goal.returns-then-bound-manager
 returns-then-bound-manager c =
     let g = c.args in
     let masks = g.masks.now in
-    fate-discarded (length masks) (dominates masks) g.manager g.sender g.receiver
+    fate_discarded (length masks) (dominates masks) g.manager g.sender g.receiver
     (sym c.dominates.ensures ∙ c.if-dominates.false)
     (sym c.dominates-2.ensures ∙ c.if-not-dominates.false)
     c.join-bound.result
@@ -43,7 +43,7 @@ pub returns-else-bound-manager : goal.returns-else-bound-manager
 returns-else-bound-manager c =
     let g = c.args in
     let masks = g.masks.now in
-    fate-forked (length masks) (dominates masks) g.manager g.sender g.receiver
+    fate_forked (length masks) (dominates masks) g.manager g.sender g.receiver
     (sym c.dominates.ensures ∙ c.if-dominates.false)
     (sym c.dominates-2.ensures ∙ c.if-not-dominates.false)
     c.join-bound.result

@@ -30,7 +30,7 @@ use Rattle.managers.specs.declared.Manager as code
 use Rattle.managers.proofs.Laws.Advance.{stack_some}
 use Rattle.tallies.specs.Places.{unchanged}
 use Rattle.level_state.specs.Representation.{Words}
-use Rattle.level_state.proofs.Laws.Pauses.{Reason, of-existence, of_field, pause_reason, same_target, field_told, existence-told, script_same}
+use Rattle.level_state.proofs.Laws.Pauses.{Reason, of_existence, of_field, pause_reason, same_target, field_told, existence_told, script_same}
 
 -- what a step that waits asks for still: existence, then a field
 abbrev pub questions_of : Pause → ℕ
@@ -64,7 +64,7 @@ module _ (s current cache : List ℕ) (u : Bool) (level o : ℕ) (i : Step) (x k
       here = eq-eqb (level_of s x) level own
 
       by : Reason s current cache u level i x k → ⊥
-      by (of-existence is e) = not_both (eqb (script_found current cache true u x) unknown) (rw here at e) (own_known current cache u x small few)
+      by (of_existence is e) = not_both (eqb (script_found current cache true u x) unknown) (rw here at e) (own_known current cache u x small few)
       by (of_field a is e apart shut) = not_both (is_own s false level x) here apart
 
   -- once it is told it asks for less
@@ -78,7 +78,7 @@ module _ (s current cache : List ℕ) (u : Bool) (level o : ℕ) (i : Step) (x k
         | yes z ↦
             let seen : known_at cache' x existence ≡ true = rw (sym z) kept.known in
             let same = same_target s current cache cache' u u level o i x k x' k' first e in
-            let field = existence-told s current cache cache' u u level o i x k x' k' first e small small' (rw same few) seen in
+            let field = existence_told s current cache cache' u u level o i x k x' k' first e small small' (rw same few) seen in
             rw (eq-eqb k existence z, ne_eqb k' existence field) (omega arith)
         | no z ↦
             let apart : x ≡ x → existence ≡ k → ⊥ = λ _ y. z (sym y) in

@@ -64,22 +64,22 @@ module _ (s : List ℕ) (a : verdict_of s ≡ Accepted) (l : ℕ) (h : l < level
     abbrev st : State
     st = g.state
 
-    pub drain-represents : LevelRepresents (level_count s) w l m (level_at st l)
-    drain-represents =
+    pub drain_represents : LevelRepresents (level_count s) w l m (level_at st l)
+    drain_represents =
         represents_placed (level_count s) w l m (placed l m (λ _. m) l) (level_at st l) (placed_own l m (λ _. m)) ((g.invariant (λ _. m)).represents.level l h)
 
-    pub drain-has : managed w.tallies l ≡ has_manager (level_at st l)
-    drain-has = represents_managed (level_count s) w l m (level_at st l) drain-represents
+    pub drain_has : managed w.tallies l ≡ has_manager (level_at st l)
+    drain_has = represents_managed (level_count s) w l m (level_at st l) drain_represents
 
-    pub drain-live : ReachedState s st
-    drain-live = invariant_live s a w (placed l m (λ _. m)) st (g.invariant (λ _. m))
+    pub drain_live : ReachedState s st
+    drain_live = invariant_live s a w (placed l m (λ _. m)) st (g.invariant (λ _. m))
 
     -- there is a manager: the level may step
     module _ (e : managed w.tallies l ≡ true) where
-      pub drain-allowed : step_refusal (program_of s) st l ≡ 0
-      drain-allowed =
-          still_allowed s a st drain-live l
-          (refusal_none conservative (program_of s) st l (lt-ltb l (program_of s).levels (present s l h)) (sym drain-has ∙ e) g.quiet)
+      pub drain_allowed : step_refusal (program_of s) st l ≡ 0
+      drain_allowed =
+          still_allowed s a st drain_live l
+          (refusal_none conservative (program_of s) st l (lt-ltb l (program_of s).levels (present s l h)) (sym drain_has ∙ e) g.quiet)
 
       twice : (r : Manager) (ms : ℕ → Manager) (k : ℕ) → placed l r ms k ≡ placed l r (placed l m ms) k
       twice r ms k = elim (ℕ_discrete k l) [
@@ -88,24 +88,24 @@ module _ (s : List ℕ) (a : verdict_of s ≡ Accepted) (l : ℕ) (h : l < level
       ]
 
       -- a step of the level, whose words say the state after it
-      pub drain-on : (w' : Words) (r : Manager) → ((ms : ℕ → Manager) → RunInvariant s w' (placed l r (placed l m ms)) (step_at (program_of s) l st)) → Draining s from w' l r
-      drain-on w' r invariant =
+      pub drain_on : (w' : Words) (r : Manager) → ((ms : ℕ → Manager) → RunInvariant s w' (placed l r (placed l m ms)) (step_at (program_of s) l st)) → Draining s from w' l r
+      drain_on w' r invariant =
           record {
             state = step_at (program_of s) l st;
             list = g.list ++ (l ∷ []);
-            leads = leads_more (program_of s) from g.list st l g.leads drain-allowed;
+            leads = leads_more (program_of s) from g.list st l g.leads drain_allowed;
             invariant = λ ms. invariant_held s w' (placed l r (placed l m ms)) (placed l r ms) (step_at (program_of s) l st) (twice r ms) (invariant ms);
-            others = λ k hk z. activity_stays (program_of s) (sound s a) st drain-live.reachable.steady.fork_invariant l k (present s l h) z ∙ g.others k hk z;
-            quiet = quiet_stays (program_of s) (sound s a) st drain-live.reachable.steady.fork_invariant l l (present s l h) g.quiet (present s l h) (sym drain-has ∙ e);
+            others = λ k hk z. activity_stays (program_of s) (sound s a) st drain_live.reachable.steady.fork_invariant l k (present s l h) z ∙ g.others k hk z;
+            quiet = quiet_stays (program_of s) (sound s a) st drain_live.reachable.steady.fork_invariant l l (present s l h) g.quiet (present s l h) (sym drain_has ∙ e);
           }
 
-      pub drain-on-state : (w' : Words) (r : Manager) (invariant : (ms : ℕ → Manager) → RunInvariant s w' (placed l r (placed l m ms)) (step_at (program_of s) l st)) → (drain-on w' r invariant).state ≡ step_at (program_of s) l st
-      unfolding drain-on
-      drain-on-state w' r invariant = refl
+      pub drain_on_state : (w' : Words) (r : Manager) (invariant : (ms : ℕ → Manager) → RunInvariant s w' (placed l r (placed l m ms)) (step_at (program_of s) l st)) → (drain_on w' r invariant).state ≡ step_at (program_of s) l st
+      unfolding drain_on
+      drain_on_state w' r invariant = refl
 
     -- there is none any more
-    pub drain-end : managed w.tallies l ≡ false → LevelRun s w l from
-    drain-end e =
+    pub drain_end : managed w.tallies l ≡ false → LevelRun s w l from
+    drain_end e =
         record {
           state = st;
           list = g.list;
@@ -115,14 +115,14 @@ module _ (s : List ℕ) (a : verdict_of s ≡ Accepted) (l : ℕ) (h : l < level
         }
       where
         none : has_manager (level_at st l) ≡ false
-        none = sym drain-has ∙ e
+        none = sym drain_has ∙ e
 
-        quiescent-own : (level_at st l).activity ≡ idle
-        quiescent-own = unmanaged_idle (level_at st l) none
+        quiescent_own : (level_at st l).activity ≡ idle
+        quiescent_own = unmanaged_idle (level_at st l) none
 
         idle_all : (k : ℕ) → k < level_count s → (level_at st k).activity ≡ idle
         idle_all k hk = elim (ℕ_discrete k l) [
-          | yes q ↦ rw q quiescent-own
+          | yes q ↦ rw q quiescent_own
           | no q ↦ g.others k hk q
         ]
 
@@ -171,6 +171,6 @@ module _ (s : List ℕ) (a : verdict_of s ≡ Accepted) (w₀ : Words) (l : ℕ)
     abbrev g : Draining s q.0 w l m
     g = i.drains q.0 q.1.0 q.1.1
 
-    pub level-done : managed w.tallies l ≡ false → LevelDone s w₀ w l
-    level-done e =
-        record { ran = λ st x ok. drain-end s a l ready_present st w m (i.drains st x ok) e; rest = i.rest }
+    pub level_done : managed w.tallies l ≡ false → LevelDone s w₀ w l
+    level_done e =
+        record { ran = λ st x ok. drain_end s a l ready_present st w m (i.drains st x ok) e; rest = i.rest }

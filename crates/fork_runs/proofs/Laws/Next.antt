@@ -41,12 +41,12 @@ use Rattle.level_state.specs.Ends.{SameRest}
 use Rattle.fork_runs.specs.Levels.{LevelReady, LevelDone}
 use Rattle.fork_runs.specs.Running.{Draining, KnownIsRead, NextReady, NextDone}
 use Rattle.level_state.proofs.Laws.Ready.{represents_quiescent, waits_some, start_ready}
-use Rattle.level_state.proofs.Laws.Step.{invariant-start}
+use Rattle.level_state.proofs.Laws.Step.{invariant_start}
 use Rattle.level_state.proofs.Laws.Made.{parts_of, core_on, settled_of_lem, held_fits}
 use Rattle.level_state.proofs.Laws.Seen.{blank_zeros}
-use Rattle.fork_runs.proofs.Laws.Level.{any_manager, LevelLoop, drain-represents, drain-has, drain-live, drain-allowed, drain-on, level_start, level-done}
+use Rattle.fork_runs.proofs.Laws.Level.{any_manager, LevelLoop, drain_represents, drain_has, drain_live, drain_allowed, drain_on, level_start, level_done}
 use Rattle.fork_runs.proofs.Laws.Left.{steps_left}
-use Rattle.fork_runs.proofs.Laws.Running.{RunningManager, Turn, turn_known, able-now, able_more, turn-reads, turn-performs, turn-performed, turn-asked, turn-remembers, turn-told, turn-made, turn-changing, turn-changed, turn-counted}
+use Rattle.fork_runs.proofs.Laws.Running.{RunningManager, Turn, turn_known, able_now, able_more, turn_reads, turn_performs, turn_performed, turn_asked, turn_remembers, turn_told, turn_made, turn_changing, turn_changed, turn_counted}
 
 -- a manager has ended: none runs at its level then, and one more has ended there
 closed_counts : (ended ended' tallies tallies' queue : List ℕ) (l : ℕ) (m : Manager) → l < max_levels → tally_numbers ≤ length tallies → Closed ended ended' tallies tallies' queue l m → (get_or tallies' (busy_place l) 0 ≡ 0) × (get_or tallies' l 0 ≡ get_or tallies l 0 + 1)
@@ -113,23 +113,23 @@ module _ {s masks index : List ℕ} (rd : Tables s masks index) {w₀ : Words} {
   module _ {from : State} {held : Manager} (g : Draining s from w₀ l held) where
     quiescent : (level_at g.state l).activity ≡ idle
     quiescent =
-        represents_quiescent (level_count s) w₀ l held (level_at g.state l) (drain-represents s a l z.placed_there from w₀ held g) z.quiescent
+        represents_quiescent (level_count s) w₀ l held (level_at g.state l) (drain_represents s a l z.placed_there from w₀ held g) z.quiescent
 
     has : has_manager (level_at g.state l) ≡ true
-    has = sym (drain-has s a l z.placed_there from w₀ held g) ∙ waits
+    has = sym (drain_has s a l z.placed_there from w₀ held g) ∙ waits
 
     -- it starts
     began : (ended' tallies' : List ℕ) (m : Manager) → Started s w₀ ended' tallies' l m → Draining s from (record { current = w₀.current; ended = ended'; tallies = tallies'; queue = w₀.queue; work = w₀.work }) l m
     began ended' tallies' m d =
         let (x, (xs, e)) = waits_some (level_at g.state l) has quiescent in
-        drain-on s a l z.placed_there from w₀ held g waits (record { current = w₀.current; ended = ended'; tallies = tallies'; queue = w₀.queue; work = w₀.work }) m
-        (λ ms. invariant-start s a few w₀ (placed l held ms) g.state (g.invariant ms) l z.placed_there (drain-allowed s a l z.placed_there from w₀ held g waits) x xs quiescent e ended' tallies' m d)
+        drain_on s a l z.placed_there from w₀ held g waits (record { current = w₀.current; ended = ended'; tallies = tallies'; queue = w₀.queue; work = w₀.work }) m
+        (λ ms. invariant_start s a few w₀ (placed l held ms) g.state (g.invariant ms) l z.placed_there (drain_allowed s a l z.placed_there from w₀ held g waits) x xs quiescent e ended' tallies' m d)
 
   pub starts : StartReady s masks index w₀ l
   starts =
       let g = z.drains in
       let y = g.invariant (λ _. z.held) in
-      start_ready s a few (object_limit s a) w₀ (placed l z.held (λ _. z.held)) g.state y.represents (drain-live s a l z.placed_there z.from w₀ z.held g) l z.placed_there masks index rd y (quiescent g) (has g)
+      start_ready s a few (object_limit s a) w₀ (placed l z.held (λ _. z.held)) g.state y.represents (drain_live s a l z.placed_there z.from w₀ z.held g) l z.placed_there masks index rd y (quiescent g) (has g)
 
   -- what is counted once it has started
   begun_busy : get_or (begun_tallies w₀.tallies l) (busy_place l) 0 ≡ 1
@@ -152,8 +152,8 @@ module _ {s masks index : List ℕ} (rd : Tables s masks index) {w₀ : Words} {
       length-set (set t (waiting_place l) less) (busy_place l) 1 ∙ length-set t (waiting_place l) less
 
   module _ {ended' tallies' : List ℕ} {m : code.Manager} (d : Started s w₀ ended' tallies' l (manager_of m)) (held : WellFormed s m) where
-    abbrev begunWords : Words
-    begunWords =
+    abbrev begun_words : Words
+    begun_words =
         record { current = w₀.current; ended = ended'; tallies = tallies'; queue = w₀.queue; work = w₀.work }
 
     level_is : m.core.level ≡ l
@@ -162,13 +162,13 @@ module _ {s masks index : List ℕ} (rd : Tables s masks index) {w₀ : Words} {
         let read : ℕ → ℕ → Value = λ o k. Number d.script in
         ap (λ n. n.level) (d.manager read refl) ∙ ap (λ c. c.level) (started_counts (program_of s) read l _ _)
 
-    nothing_known : KnownIsRead s begunWords l (replicate field_words 0)
+    nothing_known : KnownIsRead s begun_words l (replicate field_words 0)
     nothing_known o k ho hk known = absurd (not_both _ known (blank_zeros field_words o k hk))
 
-    begun-counts : (get_or tallies' (busy_place l) 0 ≡ bit m) × (get_or tallies' l 0 + bit m ≡ get_or (begun_tallies w₀.tallies l) l 0 + 1)
-    begun-counts = settled_counts m small (rw begun_long roomy.tallies) begun_busy d.settled
+    begun_counts : (get_or tallies' (busy_place l) 0 ≡ bit m) × (get_or tallies' l 0 + bit m ≡ get_or (begun_tallies w₀.tallies l) l 0 + 1)
+    begun_counts = settled_counts m small (rw begun_long roomy.tallies) begun_busy d.settled
 
-    pub next_start : NextLoop s begunWords begunWords l m m (replicate field_words 0)
+    pub next_start : NextLoop s begun_words begun_words l m m (replicate field_words 0)
     next_start =
         record {
           drains = λ from g. g;
@@ -176,11 +176,11 @@ module _ {s masks index : List ℕ} (rd : Tables s masks index) {w₀ : Words} {
             held = held;
             running = run;
             level = level_is;
-            busy_there = begun-counts.0 ∙ rw run refl;
+            busy_there = begun_counts.0 ∙ rw run refl;
             known_read = nothing_known;
             cache_there = rw (length-replicate {A = ℕ} field_words 0) (omega arith);
           };
-          busy = begun-counts.0;
+          busy = begun_counts.0;
           count = refl;
           rest = refl;
           cache_long = length-replicate {A = ℕ} field_words 0;
@@ -191,33 +191,33 @@ module _ {s masks index : List ℕ} (rd : Tables s masks index) {w₀ : Words} {
           work_long = refl;
         }
 
-    module _ {w : Words} {m' : code.Manager} {cache : List ℕ} (i : NextLoop s begunWords w l m m' cache) where
+    module _ {w : Words} {m' : code.Manager} {cache : List ℕ} (i : NextLoop s begun_words w l m m' cache) where
       -- at the end
-      pub next-done : is_running m'.core.ending ≡ false → NextDone s w₀ w l
-      next-done over =
+      pub next_done : is_running m'.core.ending ≡ false → NextDone s w₀ w l
+      next_done over =
           let busy : get_or w.tallies (busy_place l) 0 ≡ 0 = i.busy ∙ rw over refl in
           let count : get_or w.tallies l 0 + 0 ≡ get_or tallies' l 0 + bit m = rw over at i.count in
           record {
             last = manager_of m';
             drains = λ from held g. i.drains from (began g ended' tallies' (manager_of m) d);
             quiescent = busy;
-            count = omega (arith, count, begun-counts.1, begun_count);
+            count = omega (arith, count, begun_counts.1, begun_count);
             rest = i.rest;
           }
 
-      pub next-drains : Draining s z.from w l (manager_of m')
-      next-drains = i.drains z.from (began z.drains ended' tallies' (manager_of m) d)
+      pub next_drains : Draining s z.from w l (manager_of m')
+      next_drains = i.drains z.from (began z.drains ended' tallies' (manager_of m) d)
 
       -- it runs on
       module _ (run : is_running m'.core.ending ≡ true) where
         go : RunningManager s w l m' cache
         go = i.runs_on run
 
-        pub next-able : Advanceable s masks index w.current cache m' × ((m'.core.steps < max_script_steps) × (max_script_steps ≤ max_script_steps))
-        next-able = (able-now rd go next-drains, able_more rd go)
+        pub next_able : Advanceable s masks index w.current cache m' × ((m'.core.steps < max_script_steps) × (max_script_steps ≤ max_script_steps))
+        next_able = (able_now rd go next_drains, able_more rd go)
 
-        pub next-flags : tally_numbers ≤ length w.tallies
-        next-flags = (next-drains.invariant (λ _. manager_of m')).represents.roomy.tallies
+        pub next_flags : tally_numbers ≤ length w.tallies
+        next_flags = (next_drains.invariant (λ _. manager_of m')).represents.roomy.tallies
 
         -- a turn of it leads to r, and its history is kept where it has ended
         module _ {r : code.Manager} (held' : WellFormed s r) (level' : r.core.level ≡ m'.core.level) {q : Parts} (t : Turn s w q l (manager_of m') (manager_of r)) (cache' : List ℕ) (known : KnownIsRead s w l cache') {ended'' tallies'' : List ℕ} (e : CoreSettled w.ended ended'' q.tallies tallies'' q.queue l r.core) where
@@ -225,16 +225,16 @@ module _ {s masks index : List ℕ} (rd : Tables s masks index) {w₀ : Words} {
           then =
               record { current = q.current; ended = ended''; tallies = tallies''; queue = q.queue; work = q.work }
 
-          counts-then : (get_or tallies'' (busy_place l) 0 ≡ bit r) × (get_or tallies'' l 0 + bit r ≡ get_or q.tallies l 0 + 1)
-          counts-then = settled_counts r small t.settles.counted t.busy (settled_of_lem r e)
+          counts_then : (get_or tallies'' (busy_place l) 0 ≡ bit r) × (get_or tallies'' l 0 + bit r ≡ get_or q.tallies l 0 + 1)
+          counts_then = settled_counts r small t.settles.counted t.busy (settled_of_lem r e)
 
-          known-then : is_running r.core.ending ≡ true → KnownIsRead s then l cache'
-          known-then on =
+          known_then : is_running r.core.ending ≡ true → KnownIsRead s then l cache'
+          known_then on =
               let same = (e []).0 on in
               rw (same.0, same.1) (turn_known cache' t known)
 
-          next-again : length cache' ≡ length cache → length q.current ≡ length w.current → length ended'' ≡ length w.ended → length tallies'' ≡ length w.tallies → length q.queue ≡ length w.queue → length q.work ≡ length w.work → NextLoop s begunWords then l m r cache'
-          next-again c0 c1 c2 c3 c4 c5 =
+          next_again : length cache' ≡ length cache → length q.current ≡ length w.current → length ended'' ≡ length w.ended → length tallies'' ≡ length w.tallies → length q.queue ≡ length w.queue → length q.work ≡ length w.work → NextLoop s begun_words then l m r cache'
+          next_again c0 c1 c2 c3 c4 c5 =
               let before : get_or w.tallies l 0 + 1 ≡ get_or tallies' l 0 + bit m = rw run at i.count in
               record {
                 drains = λ from g. t.unsettled from (i.drains from g) ended'' tallies'' (settled_of_lem r e);
@@ -242,12 +242,12 @@ module _ {s masks index : List ℕ} (rd : Tables s masks index) {w₀ : Words} {
                   held = held';
                   running = on;
                   level = level' ∙ go.level;
-                  busy_there = counts-then.0 ∙ rw on refl;
-                  known_read = known-then on;
+                  busy_there = counts_then.0 ∙ rw on refl;
+                  known_read = known_then on;
                   cache_there = rw c0 go.cache_there;
                 };
-                busy = counts-then.0;
-                count = counts-then.1 ∙ ap (λ n. n + 1) t.count ∙ before;
+                busy = counts_then.0;
+                count = counts_then.1 ∙ ap (λ n. n + 1) t.count ∙ before;
                 rest = t.rest ∙ i.rest;
                 cache_long = c0 ∙ i.cache_long;
                 current_long = c1 ∙ i.current_long;
@@ -262,15 +262,15 @@ module _ {s masks index : List ℕ} (rd : Tables s masks index) {w₀ : Words} {
           ad : Advanced s w.current cache false (unchanged w.tallies) max_script_steps m' r
           ad = subst (λ y. Advanced s w.current cache false y max_script_steps m' r) flag steps
 
-          pub next-reads : {o k : ℕ} → r.core.effect ≡ outside.Read o k → Readable s w l × ReadReady s cache o k
-          next-reads is = turn-reads rd go ad next-drains is
+          pub next_reads : {o k : ℕ} → r.core.effect ≡ outside.Read o k → Readable s w l × ReadReady s cache o k
+          next_reads is = turn_reads rd go ad next_drains is
 
           -- existence is asked for, or a field
           pub asks-existence : {o k : ℕ} → r.core.effect ≡ outside.Read o k → k ≡ existence → r.core.effect ≡ outside.Read o existence
           asks-existence {o} is e = is ∙ ap (outside.Read o) e
 
-          pub asks-field : {o k : ℕ} → r.core.effect ≡ outside.Read o k → (k ≡ existence → ⊥) → k < fields
-          asks-field {o} {k} is no' = below k (next-reads is).1.named.field no'
+          pub asks_field : {o k : ℕ} → r.core.effect ≡ outside.Read o k → (k ≡ existence → ⊥) → k < fields
+          asks_field {o} {k} is no' = below k (next_reads is).1.named.field no'
             where
               below : (k : ℕ) → k ≤ existence → (k ≡ existence → ⊥) → k < fields
               below k h d = elim (ℕ_discrete k existence) [
@@ -278,54 +278,54 @@ module _ {s masks index : List ℕ} (rd : Tables s masks index) {w₀ : Words} {
                 | no z ↦ omega (arith, h, z)
               ]
 
-          pub next-performs : PerformReady w.current w.tallies w.queue w.work l r.core.first r.core.forks (effect_of r.core.effect)
-          next-performs = turn-performs rd go ad next-drains
+          pub next_performs : PerformReady w.current w.tallies w.queue w.work l r.core.first r.core.forks (effect_of r.core.effect)
+          next_performs = turn_performs rd go ad next_drains
 
           -- what its next step asks for was read: the manager stands before that step, and runs
           module _ {o k : ℕ} (is : r.core.effect ≡ outside.Read o k) {cache' : List ℕ} (q : Answered s w cache cache' l o k) where
             pub told_less : steps_left s w cache' r < steps_left s w cache m'
-            told_less = turn-told rd go ad next-drains is q
+            told_less = turn_told rd go ad next_drains is q
 
-            pub told-again : length cache' ≡ length cache → NextLoop s begunWords w l m r cache'
-            told-again c0 =
-                next-again ad.held ad.level_is (turn-asked rd go ad next-drains is) cache' (turn-remembers rd go ad next-drains is q)
+            pub told_again : length cache' ≡ length cache → NextLoop s begun_words w l m r cache'
+            told_again c0 =
+                next_again ad.held ad.level_is (turn_asked rd go ad next_drains is) cache' (turn_remembers rd go ad next_drains is q)
                 (core_on w.ended w.tallies w.queue l r.core (ad.asks (ap is_asking is)).0)
                 c0 refl refl refl refl refl
 
           -- what its last step did outside it is done
           module _ (not_asks : is_asking r.core.effect ≡ false) (q : Parts) (x : Performed (parts_of w) q l r.core.first r.core.forks (effect_of r.core.effect)) where
             abbrev turn : Turn s w q l (manager_of m') (manager_of r)
-            turn = turn-performed rd go ad next-drains x
+            turn = turn_performed rd go ad next_drains x
 
             pub done_settles : SettleReady w.ended q.tallies q.queue l × (r.core.first + r.core.forks < 2 ^ 16)
             done_settles = (turn.settles, held_fits ad.held)
 
-            pub done-less : (w' : Words) → steps_left s w' cache r < steps_left s w cache m'
-            done-less w' = turn-made rd go ad not_asks w' cache
+            pub done_less : (w' : Words) → steps_left s w' cache r < steps_left s w cache m'
+            done_less w' = turn_made rd go ad not_asks w' cache
 
             -- and its history is kept where it has ended
-            pub done-again : {ended'' tallies'' : List ℕ} → CoreSettled w.ended ended'' q.tallies tallies'' q.queue l r.core → length q.current ≡ length w.current → length ended'' ≡ length w.ended → length tallies'' ≡ length w.tallies → length q.queue ≡ length w.queue → length q.work ≡ length w.work → NextLoop s begunWords (record { current = q.current; ended = ended''; tallies = tallies''; queue = q.queue; work = q.work }) l m r cache
-            done-again e = next-again ad.held ad.level_is turn cache go.known_read e refl
+            pub done_again : {ended'' tallies'' : List ℕ} → CoreSettled w.ended ended'' q.tallies tallies'' q.queue l r.core → length q.current ≡ length w.current → length ended'' ≡ length w.ended → length tallies'' ≡ length w.tallies → length q.queue ≡ length w.queue → length q.work ≡ length w.work → NextLoop s begun_words (record { current = q.current; ended = ended''; tallies = tallies''; queue = q.queue; work = q.work }) l m r cache
+            done_again e = next_again ad.held ad.level_is turn cache go.known_read e refl
 
           -- its next step is a CREATE or WITHDRAW
           module _ (is : r.core.effect ≡ outside.Change) where
-            pub next-changing : Changing s masks index w.current w.tallies w.work l r
-            next-changing = turn-changing rd go ad next-drains is
+            pub next_changing : Changing s masks index w.current w.tallies w.work l r
+            next_changing = turn_changing rd go ad next_drains is
 
             -- which is made
             module _ {current' tallies₁ work' : List ℕ} {r' : code.Manager} (made : ChangedBy s w.current current' w.tallies tallies₁ w.work work' l r r') where
-              abbrev changed-turn : Turn s w (record { current = current'; tallies = tallies₁; queue = w.queue; work = work' }) l (manager_of m') (manager_of r')
-              changed-turn = turn-changed rd go ad next-drains is made
+              abbrev changed_turn : Turn s w (record { current = current'; tallies = tallies₁; queue = w.queue; work = work' }) l (manager_of m') (manager_of r')
+              changed_turn = turn_changed rd go ad next_drains is made
 
-              pub changed-settles : SettleReady w.ended tallies₁ w.queue l × (r'.core.first + r'.core.forks < 2 ^ 16)
-              changed-settles = (changed-turn.settles, held_fits made.held)
+              pub changed_settles : SettleReady w.ended tallies₁ w.queue l × (r'.core.first + r'.core.forks < 2 ^ 16)
+              changed_settles = (changed_turn.settles, held_fits made.held)
 
-              pub changed-less : (w' : Words) → steps_left s w' cache r' < steps_left s w cache m'
-              changed-less w' = turn-counted rd go ad next-drains is made w' cache
+              pub changed_less : (w' : Words) → steps_left s w' cache r' < steps_left s w cache m'
+              changed_less w' = turn_counted rd go ad next_drains is made w' cache
 
-              pub changed-again : {ended'' tallies'' : List ℕ} → CoreSettled w.ended ended'' tallies₁ tallies'' w.queue l r'.core → length current' ≡ length w.current → length ended'' ≡ length w.ended → length tallies'' ≡ length w.tallies → length work' ≡ length w.work → NextLoop s begunWords (record { current = current'; ended = ended''; tallies = tallies''; queue = w.queue; work = work' }) l m r' cache
-              changed-again e c1 c2 c3 c5 =
-                  next-again made.held (made.level_is ∙ ad.level_is) changed-turn cache go.known_read e refl c1 c2 c3 refl c5
+              pub changed_again : {ended'' tallies'' : List ℕ} → CoreSettled w.ended ended'' tallies₁ tallies'' w.queue l r'.core → length current' ≡ length w.current → length ended'' ≡ length w.ended → length tallies'' ≡ length w.tallies → length work' ≡ length w.work → NextLoop s begun_words (record { current = current'; ended = ended''; tallies = tallies''; queue = w.queue; work = work' }) l m r' cache
+              changed_again e c1 c2 c3 c5 =
+                  next_again made.held (made.level_is ∙ ad.level_is) changed_turn cache go.known_read e refl c1 c2 c3 refl c5
 
 -- the managers in turn
 pub record Turns (s : List ℕ) (w₀ w : Words) (l : ℕ) : Type 0 where
@@ -352,21 +352,21 @@ module _ (s : List ℕ) (a : verdict_of s ≡ Accepted) (w₀ : Words) (l : ℕ)
     drains : Draining s q.0 w l i.held
     drains = i.loop.drains q.0 q.1.0 q.1.1
 
-    pub turns-counted : waiting_place l < length w.tallies
-    turns-counted = omega (arith, turns_small, (drains.invariant (λ _. any_manager)).represents.roomy.tallies)
+    pub turns_counted : waiting_place l < length w.tallies
+    turns_counted = omega (arith, turns_small, (drains.invariant (λ _. any_manager)).represents.roomy.tallies)
 
     pub turns_next : 0 < get_or w.tallies (waiting_place l) 0 → NextReady s w l
     turns_next waits =
         record { from = q.0; held = i.held; drains = drains; placed_there = there; waits = waits; quiescent = i.quiescent }
 
     module _ (w' : Words) (d : NextDone s w w' l) where
-      pub turns-less : max_managers - get_or w'.tallies l 0 < max_managers - get_or w.tallies l 0
-      turns-less =
+      pub turns_less : max_managers - get_or w'.tallies l 0 < max_managers - get_or w.tallies l 0
+      turns_less =
           let few = ((d.drains q.0 i.held drains).invariant (λ _. any_manager)).represents.counts_few l turns_small in
           omega (arith, d.count, few)
 
-      pub turns-again : length w'.current ≡ length w.current → length w'.ended ≡ length w.ended → length w'.tallies ≡ length w.tallies → length w'.queue ≡ length w.queue → length w'.work ≡ length w.work → Turns s w₀ w' l
-      turns-again c1 c2 c3 c4 c5 =
+      pub turns_again : length w'.current ≡ length w.current → length w'.ended ≡ length w.ended → length w'.tallies ≡ length w.tallies → length w'.queue ≡ length w.queue → length w'.work ≡ length w.work → Turns s w₀ w' l
+      turns_again c1 c2 c3 c4 c5 =
           record {
             held = d.last;
             loop = record {
@@ -381,6 +381,6 @@ module _ (s : List ℕ) (a : verdict_of s ≡ Accepted) (w₀ : Words) (l : ℕ)
             quiescent = d.quiescent;
           }
 
-    pub turns-done : get_or w.tallies (waiting_place l) 0 ≤ 0 → LevelDone s w₀ w l
-    turns-done no_manager_lem =
-        level-done s a w₀ l q w i.held i.loop (rw (i.quiescent, le-ltb 0 (get_or w.tallies (waiting_place l) 0) no_manager_lem) refl)
+    pub turns_done : get_or w.tallies (waiting_place l) 0 ≤ 0 → LevelDone s w₀ w l
+    turns_done no_manager_lem =
+        level_done s a w₀ l q w i.held i.loop (rw (i.quiescent, le-ltb 0 (get_or w.tallies (waiting_place l) 0) no_manager_lem) refl)

@@ -47,12 +47,12 @@ use Rattle.level_state.specs.Ends.{SameRest}
 use Rattle.fork_runs.specs.Running.{Draining, KnownIsRead}
 use Rattle.level_state.proofs.Laws.Reads.{found_in_lem, read_few}
 use Rattle.level_state.proofs.Laws.Seen.{Kept, Seeing, kept_answered}
-use Rattle.level_state.proofs.Laws.Script.{able, readable, sees, small-current, small-cache}
-use Rattle.level_state.proofs.Laws.Changes.{change_ready, changed_done, changed-is}
-use Rattle.level_state.proofs.Laws.Ready.{busy-settles, settle_after}
+use Rattle.level_state.proofs.Laws.Script.{able, readable, sees, small_current, small_cache}
+use Rattle.level_state.proofs.Laws.Changes.{change_ready, changed_done, changed_is}
+use Rattle.level_state.proofs.Laws.Ready.{busy_settles, settle_after}
 use Rattle.level_state.proofs.Laws.Step.{invariant_live, rest_effect}
 use Rattle.level_state.proofs.Laws.Made.{parts_of, performs, performed, fielded_of, held_fits}
-use Rattle.fork_runs.proofs.Laws.Unsettled.{Unsettled, Running, running-busy, running-effect, running-step, running_internal, running_leads, runs-at, unsettled_internal, unsettled_none, running_start}
+use Rattle.fork_runs.proofs.Laws.Unsettled.{Unsettled, Running, running_busy, running_effect, running_step, running_internal, running_leads, runs_at, unsettled_internal, unsettled_none, running_start}
 use Rattle.fork_runs.proofs.Laws.Outside.{with_parts, effect_count, effect_busy, effect_found}
 use Rattle.fork_runs.proofs.Laws.Left.{questions_of, pause_apart, told_less, pause_same, steps_left, ended_less, later_less, asked_less}
 
@@ -145,30 +145,30 @@ module _ {s masks index : List ℕ} (rd : Tables s masks index) {w : Words} {l :
     begun = record { drain = begins.1.drain; runs = begins.1.runs; reads = λ o k. refl }
 
     abbrev here : RunsAt s w l m
-    here = runs-at s acc l h from m begun
+    here = runs_at s acc l h from m begun
 
-    pub able-now : Advanceable s masks index w.current cache m
-    able-now = able rd here seeing go.held
+    pub able_now : Advanceable s masks index w.current cache m
+    able_now = able rd here seeing go.held
 
     room : SettleReady w.ended w.tallies w.queue l
     room =
         let b = here in
-        busy-settles s acc (level_limit s acc) (object_limit s acc) w b.running b.state b.busy.invariant.represents (invariant_live s acc w b.running b.state b.busy.invariant) l h b.fork (manager_of m) b.busy.runs
+        busy_settles s acc (level_limit s acc) (object_limit s acc) w b.running b.state b.busy.invariant.represents (invariant_live s acc w b.running b.state b.busy.invariant) l h b.fork (manager_of m) b.busy.runs
 
     -- its fork, and what it reads
     module _ {x : Fork} {read : ℕ → ℕ → Value} where
       -- one more step
-      came-step : (n m' : Manager) (e : Effect) → Running s acc l h from w n x read → stepped p read n ≡ record { manager = m'; effect = e } → Came s from w l m' e
-      came-step n m' e there is =
-          let ready = running-effect s acc l h from w n x read there e (ap (λ d. d.effect) is) in
-          let busy = running-busy s acc l h from w n x read there (λ _. n) in
+      came_step : (n m' : Manager) (e : Effect) → Running s acc l h from w n x read → stepped p read n ≡ record { manager = m'; effect = e } → Came s from w l m' e
+      came_step n m' e there is =
+          let ready = running_effect s acc l h from w n x read there e (ap (λ d. d.effect) is) in
+          let busy = running_busy s acc l h from w n x read there (λ _. n) in
           let st = there.drain.state in
           let live = invariant_live s acc w (placed l n (λ _. n)) st busy.invariant in
           record {
             stamp = n.stamp;
             made = n.forks;
             ready = ready;
-            unsettled = λ q d. running-step s acc l h from w n x read there (record { manager = m'; effect = e }) is q d;
+            unsettled = λ q d. running_step s acc l h from w n x read there (record { manager = m'; effect = e }) is q d;
             found = λ q d o k apart.
                 effect_found s acc w l small o k apart (parts_of w) q n.stamp n.forks e (read_few rd.leveled busy.invariant o) ready
                 (λ i message fork up. (live-fork s acc st live l h x n there.runs read i message (ap (λ d. d.effect) is ∙ fork)).1.0 (sym up))
@@ -176,7 +176,7 @@ module _ {s masks index : List ℕ} (rd : Tables s masks index) {w : Words} {l :
           }
 
       comes : {r : code.Manager} → Running s acc l h from w (manager_of m) x read → WellFormed s r → Present s r.core.effect → Leads p read (manager_of m) (stepped_of r) → CamePerforms s from w l r
-      unfolding came-step
+      unfolding came_step
       comes {r} begun held present (internal k q e) =
           record {
             came = record {
@@ -196,8 +196,8 @@ module _ {s masks index : List ℕ} (rd : Tables s masks index) {w : Words} {l :
           }
       comes {r} begun held present (last k n q run is) =
           let there = running_internal s acc l h from w x read k (manager_of m) n begun q run in
-          let c = came-step n (manager_of r) (effect_of r.core.effect) there is in
-          let busy = running-busy s acc l h from w n x read there (λ _. n) in
+          let c = came_step n (manager_of r) (effect_of r.core.effect) there is in
+          let busy = running_busy s acc l h from w n x read there (λ _. n) in
           let st = there.drain.state in
           let live = invariant_live s acc w (placed l n (λ _. n)) st busy.invariant in
           let stamped = (live-runs s acc st live l h x n there.runs).0.stamped in
@@ -208,8 +208,8 @@ module _ {s masks index : List ℕ} (rd : Tables s masks index) {w : Words} {l :
           }
 
     -- what the last step did is done
-    turn-of : {m' : Manager} {q : Parts} {e : Effect} → ((from' : State) → Draining s from' w l (manager_of m) → CameDone s from' w l m' q e) → Turn s w q l (manager_of m) m'
-    turn-of {m'} {q} {e} out =
+    turn_of : {m' : Manager} {q : Parts} {e : Effect} → ((from' : State) → Draining s from' w l (manager_of m) → CameDone s from' w l m' q e) → Turn s w q l (manager_of m) m'
+    turn_of {m'} {q} {e} out =
         let (c, d) = out from g in
         record {
           unsettled = λ from' g'. let z = out from' g' in z.0.unsettled q z.1;
@@ -229,8 +229,8 @@ module _ {s masks index : List ℕ} (rd : Tables s masks index) {w : Words} {l :
       came : CamePerforms s from w l r
       came = comes g (begun g) ad.held ad.present reads_so
 
-      pub turn-performs : PerformReady w.current w.tallies w.queue w.work l r.core.first r.core.forks (effect_of r.core.effect)
-      turn-performs = came.performs
+      pub turn_performs : PerformReady w.current w.tallies w.queue w.work l r.core.first r.core.forks (effect_of r.core.effect)
+      turn_performs = came.performs
 
       -- it stands before a step that waits
       module _ (ask : is_asking r.core.effect ≡ true) where
@@ -252,11 +252,11 @@ module _ {s masks index : List ℕ} (rd : Tables s masks index) {w : Words} {l :
             (ad.asks ask).0
 
         abbrev stands_at : RunsAt s w l r
-        stands_at = runs-at s acc l h from r stands
+        stands_at = runs_at s acc l h from r stands
 
     -- what it did outside is done
-    pub turn-performed : {from : State} → Draining s from w l (manager_of m) → {q : Parts} → Performed (parts_of w) q l r.core.first r.core.forks (effect_of r.core.effect) → Turn s w q l (manager_of m) (manager_of r)
-    turn-performed g {q} x = turn-of g (λ from' g'. ((came g').came, (came g').done q x))
+    pub turn_performed : {from : State} → Draining s from w l (manager_of m) → {q : Parts} → Performed (parts_of w) q l r.core.first r.core.forks (effect_of r.core.effect) → Turn s w q l (manager_of m) (manager_of r)
+    turn_performed g {q} x = turn_of g (λ from' g'. ((came g').came, (came g').done q x))
 
     -- it asks for value k of object o
     module _ {from : State} (g : Draining s from w l (manager_of m)) {o k : ℕ} (is : r.core.effect ≡ outside.Read o k) where
@@ -272,20 +272,20 @@ module _ {s masks index : List ℕ} (rd : Tables s masks index) {w : Words} {l :
       waits : pause_of s w.current cache false u r.core ≡ on o k
       waits = (ad.asks ask).1 ∙ ap asking is
 
-      pub turn-reads : Readable s w l × ReadReady s cache o k
-      turn-reads =
+      pub turn_reads : Readable s w l × ReadReady s cache o k
+      turn_reads =
           (readable rd (here g), record { named = record { number = present.0; field = present.1 }; there = go.cache_there })
 
-      pub turn-asked : Turn s w (parts_of w) l (manager_of m) (manager_of r)
-      turn-asked = turn-performed g (rw is (λ made counted. refl))
+      pub turn_asked : Turn s w (parts_of w) l (manager_of m) (manager_of r)
+      turn_asked = turn_performed g (rw is (λ made counted. refl))
 
       apart : level_of s o ≡ l → ⊥
-      apart e = pause_apart s w.current cache u r.core.level r.core.top.object (next_step p (frame_of r.core.top)) o k (small-current rd (here g) seeing) few waits (e ∙ sym (ad.level_is ∙ go.level))
+      apart e = pause_apart s w.current cache u r.core.level r.core.top.object (next_step p (frame_of r.core.top)) o k (small_current rd (here g) seeing) few waits (e ∙ sym (ad.level_is ∙ go.level))
 
       module _ {cache' : List ℕ} (q : Answered s w cache cache' l o k) where
         -- what was read is kept, beside what was kept before
-        pub turn-remembers : KnownIsRead s w l cache'
-        turn-remembers o' k' ho hk known = by (ℕ_discrete o' o) (ℕ_discrete k' k)
+        pub turn_remembers : KnownIsRead s w l cache'
+        turn_remembers o' k' ho hk known = by (ℕ_discrete o' o) (ℕ_discrete k' k)
           where
             other : (o' ≡ o → k' ≡ k → ⊥) → (level_of s o' ≡ l → ⊥) × (field_at cache' o' k' ≡ found_in s w l o' k')
             other d =
@@ -300,16 +300,16 @@ module _ {s masks index : List ℕ} (rd : Tables s masks index) {w : Words} {l :
             by (no x) d = other (λ z _. x z)
             by (yes x) (no y) = other (λ _ z. y z)
 
-        pub turn-told : steps_left s w cache' r < steps_left s w cache m
+        pub turn_told : steps_left s w cache' r < steps_left s w cache m
         unfolding manager_of
-        turn-told =
+        turn_told =
             by (leads_steps p (saying_of s w.current cache false u m.core.level) (manager_of m) (stepped_of r) (ad.leads (saying_of s w.current cache false u m.core.level) (saying_agrees s w.current cache false u m.core.level)))
           where
             told : Seeing s w l cache' u
             told = record { kept = kept_answered seeing.kept q; there = rw q.kept.field.outside.length_same go.cache_there; flag = seeing.flag }
 
             less : questions_of (pause_of s w.current cache' false u r.core) < questions_of (on o k)
-            less = told_less s w.current cache u r.core.level r.core.top.object (next_step p (frame_of r.core.top)) o k (small-current rd (here g) seeing) few waits cache' (small-cache rd (here g) told) q.kept
+            less = told_less s w.current cache u r.core.level r.core.top.object (next_step p (frame_of r.core.top)) o k (small_current rd (here g) seeing) few waits cache' (small_cache rd (here g) told) q.kept
 
             by : Steps (manager_of m) (stepped_of r) → steps_left s w cache' r < steps_left s w cache m
             by (none e) =
@@ -333,9 +333,9 @@ module _ {s masks index : List ℕ} (rd : Tables s masks index) {w : Words} {l :
       stays (outside.Call o way v) is run same done internal-then ask = not_both false done refl
       stays (outside.Pop v) is run same done internal-then ask = not_both false done refl
 
-      pub turn-made : (w' : Words) (cache' : List ℕ) → steps_left s w' cache' r < steps_left s w cache m
+      pub turn_made : (w' : Words) (cache' : List ℕ) → steps_left s w' cache' r < steps_left s w cache m
       unfolding manager_of
-      turn-made w' cache' = elim (truth (is_running r.core.ending)) [
+      turn_made w' cache' = elim (truth (is_running r.core.ending)) [
         | fails over ↦ ended_less s w cache m go.running w' cache' r over
         | holds run ↦ by run (leads_steps p (saying_of s w.current cache false u m.core.level) (manager_of m) (stepped_of r) (ad.leads (saying_of s w.current cache false u m.core.level) (saying_agrees s w.current cache false u m.core.level)))
       ]
@@ -347,8 +347,8 @@ module _ {s masks index : List ℕ} (rd : Tables s masks index) {w : Words} {l :
 
     -- it stands before a CREATE or WITHDRAW
     module _ {from : State} (g : Draining s from w l (manager_of m)) (is : r.core.effect ≡ outside.Change) where
-      pub turn-changing : Changing s masks index w.current w.tallies w.work l r
-      turn-changing = change_ready rd (stands_at g (ap is_asking is)) cache u ad.held ((ad.asks (ap is_asking is)).1 ∙ ap asking is)
+      pub turn_changing : Changing s masks index w.current w.tallies w.work l r
+      turn_changing = change_ready rd (stands_at g (ap is_asking is)) cache u ad.held ((ad.asks (ap is_asking is)).1 ∙ ap asking is)
 
       module _ {current' tallies' work' : List ℕ} {r' : code.Manager} (made : ChangedBy s w.current current' w.tallies tallies' w.work work' l r r') where
         abbrev parts : Parts
@@ -357,19 +357,19 @@ module _ {s masks index : List ℕ} (rd : Tables s masks index) {w : Words} {l :
         step_is : {from' : State} (g' : Draining s from' w l (manager_of m)) → stepped p (read_at p (stands_at g' (ap is_asking is)).state l (fork g')) (manager_of r) ≡ record { manager = manager_of r'; effect = made.effect }
         step_is g' =
             let b = stands_at g' (ap is_asking is) in
-            changed-is rd b made b.running b.state b.fork b.busy
+            changed_is rd b made b.running b.state b.fork b.busy
 
-        pub turn-changed : Turn s w parts l (manager_of m) (manager_of r')
-        unfolding came-step
-        turn-changed =
-            turn-of g
+        pub turn_changed : Turn s w parts l (manager_of m) (manager_of r')
+        unfolding came_step
+        turn_changed =
+            turn_of g
             (λ from' g'.
             let there = stands g' (ap is_asking is) in
-            (came-step g' (manager_of r) (manager_of r') made.effect (record { drain = there.drain; runs = there.runs; reads = λ o k. refl }) (step_is g'), changed_done rd (stands_at g' (ap is_asking is)) made))
+            (came_step g' (manager_of r) (manager_of r') made.effect (record { drain = there.drain; runs = there.runs; reads = λ o k. refl }) (step_is g'), changed_done rd (stands_at g' (ap is_asking is)) made))
 
-        pub turn-counted : (w' : Words) (cache' : List ℕ) → steps_left s w' cache' r' < steps_left s w cache m
+        pub turn_counted : (w' : Words) (cache' : List ℕ) → steps_left s w' cache' r' < steps_left s w cache m
         unfolding manager_of
-        turn-counted w' cache' =
+        turn_counted w' cache' =
             let b = stands_at g (ap is_asking is) in
             let one : r'.core.steps ≡ r.core.steps + 1 = sym (ap (λ d. d.manager.steps) (step_is g)) ∙ step_counted p (read_at p b.state l b.fork) (manager_of r) in
             later_less s w cache m go.running w' cache' r' made.held (omega (arith, one, grown))

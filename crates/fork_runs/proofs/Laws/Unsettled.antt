@@ -36,10 +36,10 @@ use Rattle.level_state.specs.Steps.{Busy, Parts, EffectReady, EffectDone, Settle
 use Rattle.level_state.specs.Script.{RunsAt}
 use Rattle.fork_runs.specs.Running.{Draining}
 use Rattle.level_state.proofs.Laws.Made.{parts_of, settled_on}
-use Rattle.level_state.proofs.Laws.Ready.{represents_runs, effect-ready}
+use Rattle.level_state.proofs.Laws.Ready.{represents_runs, effect_ready}
 use Rattle.level_state.proofs.Laws.Settle.{placed_own}
-use Rattle.level_state.proofs.Laws.Step.{invariant_live, invariant-advance}
-use Rattle.fork_runs.proofs.Laws.Level.{drain-on, drain-on-state, drain-allowed}
+use Rattle.level_state.proofs.Laws.Step.{invariant_live, invariant_advance}
+use Rattle.fork_runs.proofs.Laws.Level.{drain_on, drain_on_state, drain_allowed}
 
 -- the level is being run, but that the history of m, if m has ended, is not kept yet
 abbrev pub Unsettled : List ℕ → State → Words → ℕ → Manager → Type 0
@@ -81,41 +81,41 @@ module _ (s : List ℕ) (a : verdict_of s ≡ Accepted) (l : ℕ) (h : l < level
     represents : LevelRepresents (level_count s) w l m (level_at st l)
     represents = subst (λ y. LevelRepresents (level_count s) w l y (level_at st l)) (placed_own l m (λ _. m)) ((invariant (λ _. m)).represents.level l h)
 
-    counted-busy : get_or w.tallies (busy_place l) 0 ≡ 1
-    counted-busy = by (level_at st l).activity g.runs represents.activity
+    counted_busy : get_or w.tallies (busy_place l) 0 ≡ 1
+    counted_busy = by (level_at st l).activity g.runs represents.activity
       where
         by : (y : Activity) → y ≡ busy x m → Runs (level_count s) w l m (length (level_at st l).ended) y → get_or w.tallies (busy_place l) 0 ≡ 1
         by y e r = (subst (Runs (level_count s) w l m (length (level_at st l).ended)) e r).0
 
     has : managed w.tallies l ≡ true
-    has = rw counted-busy refl
+    has = rw counted_busy refl
 
-    pub running-busy : (ms : ℕ → Manager) → Busy s w l (placed l m ms) st x m
-    running-busy ms = record { invariant = invariant ms; present = h; runs = g.runs }
+    pub running_busy : (ms : ℕ → Manager) → Busy s w l (placed l m ms) st x m
+    running_busy ms = record { invariant = invariant ms; present = h; runs = g.runs }
 
-    pub running-reads : stepped p (read_at p st l x) m ≡ stepped p read m
-    running-reads = stepped_reads p (read_at p st l x) read g.reads m
+    pub running_reads : stepped p (read_at p st l x) m ≡ stepped p read m
+    running_reads = stepped_reads p (read_at p st l x) read g.reads m
 
-    pub running-effect : (e : Effect) → (stepped p read m).effect ≡ e → EffectReady w.current w.tallies w.queue w.work l m.forks e
-    running-effect e is =
-        effect-ready s a few (object_limit s a) w (placed l m (λ _. m)) st (invariant (λ _. m)).represents live l h x m g.runs read e is
+    pub running_effect : (e : Effect) → (stepped p read m).effect ≡ e → EffectReady w.current w.tallies w.queue w.work l m.forks e
+    running_effect e is =
+        effect_ready s a few (object_limit s a) w (placed l m (λ _. m)) st (invariant (λ _. m)).represents live l h x m g.runs read e is
 
     -- a step that it makes, whatever it does
-    pub running-step : (n : Stepped) → stepped p read m ≡ n → (q : Parts) → EffectDone (parts_of w) q l m.stamp m.forks n.effect → Unsettled s from (record { current = q.current; ended = w.ended; tallies = q.tallies; queue = q.queue; work = q.work }) l n.manager
-    running-step n is q d ended' tallies' z =
-        drain-on s a l h from w m g.drain has (record { current = q.current; ended = ended'; tallies = tallies'; queue = q.queue; work = q.work }) n.manager
-        (λ ms. invariant-advance s a few w (placed l m ms) st (invariant ms) l h (drain-allowed s a l h from w m g.drain has) x m g.runs n (running-reads ∙ is) q ended' tallies' d z)
+    pub running_step : (n : Stepped) → stepped p read m ≡ n → (q : Parts) → EffectDone (parts_of w) q l m.stamp m.forks n.effect → Unsettled s from (record { current = q.current; ended = w.ended; tallies = q.tallies; queue = q.queue; work = q.work }) l n.manager
+    running_step n is q d ended' tallies' z =
+        drain_on s a l h from w m g.drain has (record { current = q.current; ended = ended'; tallies = tallies'; queue = q.queue; work = q.work }) n.manager
+        (λ ms. invariant_advance s a few w (placed l m ms) st (invariant ms) l h (drain_allowed s a l h from w m g.drain has) x m g.runs n (running_reads ∙ is) q ended' tallies' d z)
 
-    pub running-step-state : (n : Stepped) (is : stepped p read m ≡ n) (q : Parts) (d : EffectDone (parts_of w) q l m.stamp m.forks n.effect) (ended' tallies' : List ℕ) (z : Settled w.ended ended' q.tallies tallies' q.queue l n.manager) → (running-step n is q d ended' tallies' z).state ≡ step_at p l st
-    unfolding running-step
-    running-step-state n is q d ended' tallies' z = drain-on-state s a l h from w m g.drain has _ n.manager _
+    pub running_step_state : (n : Stepped) (is : stepped p read m ≡ n) (q : Parts) (d : EffectDone (parts_of w) q l m.stamp m.forks n.effect) (ended' tallies' : List ℕ) (z : Settled w.ended ended' q.tallies tallies' q.queue l n.manager) → (running_step n is q d ended' tallies' z).state ≡ step_at p l st
+    unfolding running_step
+    running_step_state n is q d ended' tallies' z = drain_on_state s a l h from w m g.drain has _ n.manager _
 
     -- one that concerns nobody else, after which it runs on: nothing else of the state changes
     module _ (m' : Manager) (is : stepped p read m ≡ record { manager = m'; effect = effect.Nothing }) (run : is_running m'.ending ≡ true) where
-      state-is : step_at p l st ≡ modify l (λ _. after (level_at st l) (level_at st l).waiting (level_at st l).versions x m') st
+      state_is : step_at p l st ≡ modify l (λ _. after (level_at st l) (level_at st l).waiting (level_at st l).versions x m') st
       unfolding delivered
-      state-is =
-          step_advance p (sound s a) st live.reachable.steady.fork_invariant live.reachable.steady.contained l (present s l h) x m (record { manager = m'; effect = effect.Nothing }) g.runs (running-reads ∙ is)
+      state_is =
+          step_advance p (sound s a) st live.reachable.steady.fork_invariant live.reachable.steady.contained l (present s l h) x m (record { manager = m'; effect = effect.Nothing }) g.runs (running_reads ∙ is)
 
       there : l < length st
       there = rw (invariant (λ _. m)).represents.levels h
@@ -123,13 +123,13 @@ module _ (s : List ℕ) (a : verdict_of s ≡ Accepted) (l : ℕ) (h : l < level
       own : level_at (step_at p l st) l ≡ record { waiting = (level_at st l).waiting; activity = busy x m'; ended = (level_at st l).ended; next = (level_at st l).next; versions = (level_at st l).versions }
       unfolding after
       own =
-          ap (λ z. level_at z l) state-is
+          ap (λ z. level_at z l) state_is
           ∙ modify_at new_level l (λ _. after (level_at st l) (level_at st l).waiting (level_at st l).versions x m') st there
           ∙ rw run refl
 
       other : (j : ℕ) → (l ≡ j → ⊥) → level_at (step_at p l st) j ≡ level_at st j
       other j d =
-          ap (λ z. level_at z j) state-is
+          ap (λ z. level_at z j) state_is
           ∙ modify_other new_level l j (λ _. after (level_at st l) (level_at st l).waiting (level_at st l).versions x m') st d
 
       versions_same : (j : ℕ) → (level_at (step_at p l st) j).versions ≡ (level_at st j).versions
@@ -148,13 +148,13 @@ module _ (s : List ℕ) (a : verdict_of s ≡ Accepted) (l : ℕ) (h : l < level
       unfolding read_at
       reads_same o k = rw (versions_same (p.level o), ended_same (p.level o)) refl
 
-      pub running-on : Running w m' x read
-      running-on =
+      pub running_on_lem : Running w m' x read
+      running_on_lem =
           let z = settled_on w.ended w.tallies w.queue l m' run in
           let n : Stepped = record { manager = m'; effect = effect.Nothing } in
-          let at = running-step-state n is (parts_of w) refl w.ended w.tallies z in
+          let at = running_step_state n is (parts_of w) refl w.ended w.tallies z in
           record {
-            drain = running-step n is (parts_of w) refl w.ended w.tallies z;
+            drain = running_step n is (parts_of w) refl w.ended w.tallies z;
             runs = ap (λ y. (level_at y l).activity) at ∙ ap (λ v. v.activity) own;
             reads = λ o k. ap (λ y. read_at p y l x o k) at ∙ reads_same o k ∙ g.reads o k;
           }
@@ -165,7 +165,7 @@ module _ (s : List ℕ) (a : verdict_of s ≡ Accepted) (l : ℕ) (h : l < level
   running_internal w x read zero m b g e r = subst (λ y. Running w y x read) e g
   running_internal w x read (suc k) m b g (run, (none, q)) r =
       running_internal w x read k (stepped p read m).manager b
-      (running-on w m x read g (stepped p read m).manager (ap (λ e. record { manager = (stepped p read m).manager; effect = e }) none) (internal_runs p read k (stepped p read m).manager b q r))
+      (running_on_lem w m x read g (stepped p read m).manager (ap (λ e. record { manager = (stepped p read m).manager; effect = e }) none) (internal_runs p read k (stepped p read m).manager b q r))
       q r
 
   -- and up to any
@@ -176,8 +176,8 @@ module _ (s : List ℕ) (a : verdict_of s ≡ Accepted) (l : ℕ) (h : l < level
       let m' = (stepped p read m).manager in
       let is : stepped p read m ≡ record { manager = m'; effect = effect.Nothing } = ap (λ e. record { manager = (stepped p read m).manager; effect = e }) none in
       unsettled_internal w x read k m' b
-      (running-step w m x read (g run) (record { manager = m'; effect = effect.Nothing }) is (parts_of w) refl)
-      (λ r. running-on w m x read (g run) m' is r)
+      (running_step w m x read (g run) (record { manager = m'; effect = effect.Nothing }) is (parts_of w) refl)
+      (λ r. running_on_lem w m x read (g run) m' is r)
       q
 
   -- the words of a manager that runs do not lag
@@ -194,14 +194,14 @@ module _ (s : List ℕ) (a : verdict_of s ≡ Accepted) (l : ℕ) (h : l < level
   -- where steps have led with nothing done outside, it runs on
   pub running_leads : (w : Words) (x : Fork) (read : ℕ → ℕ → Value) (m b : Manager) → Running w m x read → Leads p read m (record { manager = b; effect = effect.Nothing }) → is_running b.ending ≡ true → Running w b x read
   running_leads w x read m b g (internal k q e) run = running_internal w x read k m b g q run
-  running_leads w x read m b g (last k n q on is) run = running-on w n x read (running_internal w x read k m n g q on) b is run
+  running_leads w x read m b g (last k n q on is) run = running_on_lem w n x read (running_internal w x read k m n g q on) b is run
 
   -- one of the code's runs there
-  abbrev pub runs-at : {w : Words} (m : code.Manager) {x : Fork} {read : ℕ → ℕ → Value} → Running w (manager_of m) x read → RunsAt s w l m
-  runs-at {w} m {x} {read} g =
+  abbrev pub runs_at : {w : Words} (m : code.Manager) {x : Fork} {read : ℕ → ℕ → Value} → Running w (manager_of m) x read → RunsAt s w l m
+  runs_at {w} m {x} {read} g =
       record {
         running = placed l (manager_of m) (λ _. manager_of m);
         state = g.drain.state;
         fork = x;
-        busy = running-busy w (manager_of m) x read g (λ _. manager_of m);
+        busy = running_busy w (manager_of m) x read g (λ _. manager_of m);
       }

@@ -6,7 +6,7 @@ use borrow.Author.Rules.{rules}
 use Rattle.scripts.specs.Ending.{is_running}
 use Rattle.level_state.proofs.Laws.Asks.{asks_nothing}
 use Rattle.fork_runs.proofs.Laws.Left.{steps_left}
-use Rattle.fork_runs.proofs.Laws.Next.{NextLoop, starts, next_start, next-able, next-flags, next-reads, asks-existence, asks-field, next-performs, told_less, told-again, done_settles, done-less, done-again, next-changing, changed-settles, changed-less, changed-again, next-done}
+use Rattle.fork_runs.proofs.Laws.Next.{NextLoop, starts, next_start, next_able, next_flags, next_reads, asks-existence, asks_field, next_performs, told_less, told_again, done_settles, done_less, done_again, next_changing, changed_settles, changed_less, changed_again, next_done}
 use Rattle.fork_runs.proofs.run_next.Statement.{statement}
 use Rattle.fork_runs.proofs.run_next.Tie as tie
 
@@ -34,7 +34,7 @@ is-unchanged-requires c κs =
     let b = c.before.before.before.before.before.before.before.before.before in
     let z = b.before.before.before.before.before.before.before.before.before.before.before.before.before.before in
     let i = c.before.before.before.loop.invariant in
-    next-flags z.requires.0 z.requires.1 b.start.ensures.0 b.start.ensures.1 i.0 (ap is_running (sym i.1) ∙ sym c.before.before.is-running.ensures ∙ c.before.if1.true)
+    next_flags z.requires.0 z.requires.1 b.start.ensures.0 b.start.ensures.1 i.0 (ap is_running (sym i.1) ∙ sym c.before.before.is-running.ensures ∙ c.before.if1.true)
 
 slice-aggregate-advance : tie.Need-slice-aggregate-advance invariant-loop decreases-loop
 slice-aggregate-advance c = search (rules, c.before.before.before.before.before.before.loop.invariant.0.cache_long)
@@ -44,7 +44,7 @@ advance-requires c κs =
     let b = c.before.before.before.before.before.before.before.before.before.before.before.before in
     let z = b.before.before.before.before.before.before.before.before.before.before.before.before.before.before in
     let i = c.before.before.before.before.before.before.loop.invariant in
-    next-able z.requires.0 z.requires.1 b.start.ensures.0 b.start.ensures.1 i.0 (ap is_running (sym i.1) ∙ sym c.before.before.before.before.before.is-running.ensures ∙ c.before.before.before.before.if1.true)
+    next_able z.requires.0 z.requires.1 b.start.ensures.0 b.start.ensures.1 i.0 (ap is_running (sym i.1) ∙ sym c.before.before.before.before.before.is-running.ensures ∙ c.before.before.before.before.if1.true)
 
 -- it ran when it advanced
 abbrev runs : (a : tie.After-advance invariant-loop decreases-loop) → is_running a.before.before.before.before.before.before.before.loop.m.core.ending ≡ true
@@ -60,7 +60,7 @@ answer-existence-requires c κs =
     let a = c.before.before.before.before.before.before.before.before.before.before.before in
     let b = a.before.before.before.before.before.before.before.before.before.before.before.before.before in
     let z = b.before.before.before.before.before.before.before.before.before.before.before.before.before.before in
-    let q = next-reads z.requires.0 z.requires.1 b.start.ensures.0 b.start.ensures.1 a.before.before.before.before.before.before.before.loop.invariant.0 (runs a) a.before.before.before.is_unchanged.ensures a.advance.ensures (asks-existence z.requires.0 z.requires.1 b.start.ensures.0 b.start.ensures.1 a.before.before.before.before.before.before.before.loop.invariant.0 (runs a) a.before.before.before.is_unchanged.ensures a.advance.ensures c.before.before.before.before.before.before.before.before.effect.given.1 c.before.before.before.before.before.before.if2.true) in
+    let q = next_reads z.requires.0 z.requires.1 b.start.ensures.0 b.start.ensures.1 a.before.before.before.before.before.before.before.loop.invariant.0 (runs a) a.before.before.before.is_unchanged.ensures a.advance.ensures (asks-existence z.requires.0 z.requires.1 b.start.ensures.0 b.start.ensures.1 a.before.before.before.before.before.before.before.loop.invariant.0 (runs a) a.before.before.before.is_unchanged.ensures a.advance.ensures c.before.before.before.before.before.before.before.before.effect.given.1 c.before.before.before.before.before.before.if2.true) in
     (z.requires.0.leveled, (q.0, q.1))
 
 loop-less : tie.Need-loop-smaller invariant-loop decreases-loop
@@ -75,7 +75,7 @@ loop-again c =
     let a = c.before.before.before.before.before.before.before.before.before.before.before.before.before in
     let b = a.before.before.before.before.before.before.before.before.before.before.before.before.before in
     let z = b.before.before.before.before.before.before.before.before.before.before.before.before.before.before in
-    (told-again z.requires.0 z.requires.1 b.start.ensures.0 b.start.ensures.1 a.before.before.before.before.before.before.before.loop.invariant.0 (runs a) a.before.before.before.is_unchanged.ensures a.advance.ensures (asks-existence z.requires.0 z.requires.1 b.start.ensures.0 b.start.ensures.1 a.before.before.before.before.before.before.before.loop.invariant.0 (runs a) a.before.before.before.is_unchanged.ensures a.advance.ensures c.before.before.before.before.before.before.before.before.before.before.effect.given.1 c.before.before.before.before.before.before.before.before.if2.true) c.before.answer-existence.ensures c.before.answer-existence.auto.1.1.1.1.1.1.1.0, refl)
+    (told_again z.requires.0 z.requires.1 b.start.ensures.0 b.start.ensures.1 a.before.before.before.before.before.before.before.loop.invariant.0 (runs a) a.before.before.before.is_unchanged.ensures a.advance.ensures (asks-existence z.requires.0 z.requires.1 b.start.ensures.0 b.start.ensures.1 a.before.before.before.before.before.before.before.loop.invariant.0 (runs a) a.before.before.before.is_unchanged.ensures a.advance.ensures c.before.before.before.before.before.before.before.before.before.before.effect.given.1 c.before.before.before.before.before.before.before.before.if2.true) c.before.answer-existence.ensures c.before.answer-existence.auto.1.1.1.1.1.1.1.0, refl)
 
 -- it asks for a field
 slice-aggregate-answer-read : tie.Need-slice-aggregate-answer-read invariant-loop decreases-loop
@@ -87,8 +87,8 @@ answer-read-requires c κs =
     let b = a.before.before.before.before.before.before.before.before.before.before.before.before.before in
     let z = b.before.before.before.before.before.before.before.before.before.before.before.before.before.before in
     let e = c.before.before.before.before.before.before.before.before.effect.given.1 in
-    let q = next-reads z.requires.0 z.requires.1 b.start.ensures.0 b.start.ensures.1 a.before.before.before.before.before.before.before.loop.invariant.0 (runs a) a.before.before.before.is_unchanged.ensures a.advance.ensures e in
-    (z.requires.0.leveled, (q.0, (q.1, asks-field z.requires.0 z.requires.1 b.start.ensures.0 b.start.ensures.1 a.before.before.before.before.before.before.before.loop.invariant.0 (runs a) a.before.before.before.is_unchanged.ensures a.advance.ensures e c.before.before.before.before.before.before.if2.false)))
+    let q = next_reads z.requires.0 z.requires.1 b.start.ensures.0 b.start.ensures.1 a.before.before.before.before.before.before.before.loop.invariant.0 (runs a) a.before.before.before.is_unchanged.ensures a.advance.ensures e in
+    (z.requires.0.leveled, (q.0, (q.1, asks_field z.requires.0 z.requires.1 b.start.ensures.0 b.start.ensures.1 a.before.before.before.before.before.before.before.loop.invariant.0 (runs a) a.before.before.before.is_unchanged.ensures a.advance.ensures e c.before.before.before.before.before.before.if2.false)))
 
 loop-less-2 : tie.Need-loop-smaller-2 invariant-loop decreases-loop
 loop-less-2 c =
@@ -102,7 +102,7 @@ loop-again-2 c =
     let a = c.before.before.before.before.before.before.before.before.before.before.before.before.before in
     let b = a.before.before.before.before.before.before.before.before.before.before.before.before.before in
     let z = b.before.before.before.before.before.before.before.before.before.before.before.before.before.before in
-    (told-again z.requires.0 z.requires.1 b.start.ensures.0 b.start.ensures.1 a.before.before.before.before.before.before.before.loop.invariant.0 (runs a) a.before.before.before.is_unchanged.ensures a.advance.ensures c.before.before.before.before.before.before.before.before.before.before.effect.given.1 c.before.answer-read.ensures c.before.answer-read.auto.1.1.1.1.1.1.1.0, refl)
+    (told_again z.requires.0 z.requires.1 b.start.ensures.0 b.start.ensures.1 a.before.before.before.before.before.before.before.loop.invariant.0 (runs a) a.before.before.before.is_unchanged.ensures a.advance.ensures c.before.before.before.before.before.before.before.before.before.before.effect.given.1 c.before.answer-read.ensures c.before.answer-read.auto.1.1.1.1.1.1.1.0, refl)
 
 -- its next step is a CREATE or WITHDRAW
 enum_told : tie.Need-enum-told invariant-loop decreases-loop
@@ -113,14 +113,14 @@ change-requires c κs =
     let a = c.before.before.before.before.before.before.before in
     let b = a.before.before.before.before.before.before.before.before.before.before.before.before.before in
     let z = b.before.before.before.before.before.before.before.before.before.before.before.before.before.before in
-    next-changing z.requires.0 z.requires.1 b.start.ensures.0 b.start.ensures.1 a.before.before.before.before.before.before.before.loop.invariant.0 (runs a) a.before.before.before.is_unchanged.ensures a.advance.ensures c.before.before.before.enum_told.given.1
+    next_changing z.requires.0 z.requires.1 b.start.ensures.0 b.start.ensures.1 a.before.before.before.before.before.before.before.loop.invariant.0 (runs a) a.before.before.before.is_unchanged.ensures a.advance.ensures c.before.before.before.enum_told.given.1
 
 settle-requires : tie.Need-settle-requires invariant-loop decreases-loop
 settle-requires c κs =
     let a = c.before.before.before.before.before.before.before.before.before.before.before.before.before.before.before.before.before.before in
     let b = a.before.before.before.before.before.before.before.before.before.before.before.before.before in
     let z = b.before.before.before.before.before.before.before.before.before.before.before.before.before.before in
-    changed-settles z.requires.0 z.requires.1 b.start.ensures.0 b.start.ensures.1 a.before.before.before.before.before.before.before.loop.invariant.0 (runs a) a.before.before.before.is_unchanged.ensures a.advance.ensures c.before.before.before.before.before.before.before.before.before.before.before.before.before.before.enum_told.given.1 c.before.before.before.before.before.before.before.before.before.before.change.ensures
+    changed_settles z.requires.0 z.requires.1 b.start.ensures.0 b.start.ensures.1 a.before.before.before.before.before.before.before.loop.invariant.0 (runs a) a.before.before.before.is_unchanged.ensures a.advance.ensures c.before.before.before.before.before.before.before.before.before.before.before.before.before.before.enum_told.given.1 c.before.before.before.before.before.before.before.before.before.before.change.ensures
 
 loop-less-3 : tie.Need-loop-smaller-3 invariant-loop decreases-loop
 loop-less-3 c =
@@ -129,7 +129,7 @@ loop-less-3 c =
     let z = b.before.before.before.before.before.before.before.before.before.before.before.before.before.before in
     let x = c.before.before.before.before.before.before.before.before.before.before.before.before.before.before.before.change in
     let d = c.before.before.before.before.settle in
-    changed-less z.requires.0 z.requires.1 b.start.ensures.0 b.start.ensures.1 a.before.before.before.before.before.before.before.loop.invariant.0 (runs a) a.before.before.before.is_unchanged.ensures a.advance.ensures c.before.before.before.before.before.before.before.before.before.before.before.before.before.before.before.before.before.before.before.enum_told.given.1 x.ensures (record { current = x.new.1.1.1.0; ended = d.new.0; tallies = d.new.1.0; queue = a.before.before.before.before.before.before.before.loop.queue; work = x.new.1.1.1.1.1.0 })
+    changed_less z.requires.0 z.requires.1 b.start.ensures.0 b.start.ensures.1 a.before.before.before.before.before.before.before.loop.invariant.0 (runs a) a.before.before.before.is_unchanged.ensures a.advance.ensures c.before.before.before.before.before.before.before.before.before.before.before.before.before.before.before.before.before.before.before.enum_told.given.1 x.ensures (record { current = x.new.1.1.1.0; ended = d.new.0; tallies = d.new.1.0; queue = a.before.before.before.before.before.before.before.loop.queue; work = x.new.1.1.1.1.1.0 })
 
 loop-again-3 : tie.Need-loop-preserved-3 invariant-loop decreases-loop
 loop-again-3 c =
@@ -138,7 +138,7 @@ loop-again-3 c =
     let z = b.before.before.before.before.before.before.before.before.before.before.before.before.before.before in
     let x = c.before.before.before.before.before.before.before.before.before.before.before.before.before.before.before.change in
     let d = c.before.before.before.before.settle in
-    (changed-again z.requires.0 z.requires.1 b.start.ensures.0 b.start.ensures.1 a.before.before.before.before.before.before.before.loop.invariant.0 (runs a) a.before.before.before.is_unchanged.ensures a.advance.ensures c.before.before.before.before.before.before.before.before.before.before.before.before.before.before.before.before.before.before.before.enum_told.given.1 x.ensures d.ensures x.auto.1.1.1.0 d.auto.0 (d.auto.1.0 ∙ x.auto.1.1.1.1.0) x.auto.1.1.1.1.1.0, refl)
+    (changed_again z.requires.0 z.requires.1 b.start.ensures.0 b.start.ensures.1 a.before.before.before.before.before.before.before.loop.invariant.0 (runs a) a.before.before.before.is_unchanged.ensures a.advance.ensures c.before.before.before.before.before.before.before.before.before.before.before.before.before.before.before.before.before.before.before.enum_told.given.1 x.ensures d.ensures x.auto.1.1.1.0 d.auto.0 (d.auto.1.0 ∙ x.auto.1.1.1.1.0) x.auto.1.1.1.1.1.0, refl)
 
 -- it asks for none
 perform-requires : tie.Need-perform-requires invariant-loop decreases-loop
@@ -146,7 +146,7 @@ perform-requires c κs =
     let a = c.before.before.before.before.before.before.before in
     let b = a.before.before.before.before.before.before.before.before.before.before.before.before.before in
     let z = b.before.before.before.before.before.before.before.before.before.before.before.before.before.before in
-    next-performs z.requires.0 z.requires.1 b.start.ensures.0 b.start.ensures.1 a.before.before.before.before.before.before.before.loop.invariant.0 (runs a) a.before.before.before.is_unchanged.ensures a.advance.ensures
+    next_performs z.requires.0 z.requires.1 b.start.ensures.0 b.start.ensures.1 a.before.before.before.before.before.before.before.loop.invariant.0 (runs a) a.before.before.before.is_unchanged.ensures a.advance.ensures
 
 settle-requires-2 : tie.Need-settle-requires-2 invariant-loop decreases-loop
 settle-requires-2 c κs =
@@ -163,7 +163,7 @@ loop-less-4 c =
     let z = b.before.before.before.before.before.before.before.before.before.before.before.before.before.before in
     let p = c.before.before.before.before.before.before.before.before.before.before.before.before.before.before.before.before.perform in
     let d = c.before.before.before.before.settle2 in
-    done-less z.requires.0 z.requires.1 b.start.ensures.0 b.start.ensures.1 a.before.before.before.before.before.before.before.loop.invariant.0 (runs a) a.before.before.before.is_unchanged.ensures a.advance.ensures (asks_nothing a.advance.result.core.effect c.before.before.before.before.before.before.before.before.before.before.before.before.before.before.before.before.before.before.before.before.before.before.match.keys2 c.before.before.before.before.before.before.before.before.before.before.before.before.before.before.before.before.before.before.before.before.before.match2.keys2) (record { current = p.new.0; tallies = p.new.1.0; queue = p.new.1.1.0; work = p.new.1.1.1.0 }) p.ensures (record { current = p.new.0; ended = d.new.0; tallies = d.new.1.0; queue = p.new.1.1.0; work = p.new.1.1.1.0 })
+    done_less z.requires.0 z.requires.1 b.start.ensures.0 b.start.ensures.1 a.before.before.before.before.before.before.before.loop.invariant.0 (runs a) a.before.before.before.is_unchanged.ensures a.advance.ensures (asks_nothing a.advance.result.core.effect c.before.before.before.before.before.before.before.before.before.before.before.before.before.before.before.before.before.before.before.before.before.before.match.keys2 c.before.before.before.before.before.before.before.before.before.before.before.before.before.before.before.before.before.before.before.before.before.match2.keys2) (record { current = p.new.0; tallies = p.new.1.0; queue = p.new.1.1.0; work = p.new.1.1.1.0 }) p.ensures (record { current = p.new.0; ended = d.new.0; tallies = d.new.1.0; queue = p.new.1.1.0; work = p.new.1.1.1.0 })
 
 loop-again-4 : tie.Need-loop-preserved-4 invariant-loop decreases-loop
 loop-again-4 c =
@@ -172,7 +172,7 @@ loop-again-4 c =
     let z = b.before.before.before.before.before.before.before.before.before.before.before.before.before.before in
     let p = c.before.before.before.before.before.before.before.before.before.before.before.before.before.before.before.before.perform in
     let d = c.before.before.before.before.settle2 in
-    (done-again z.requires.0 z.requires.1 b.start.ensures.0 b.start.ensures.1 a.before.before.before.before.before.before.before.loop.invariant.0 (runs a) a.before.before.before.is_unchanged.ensures a.advance.ensures (asks_nothing a.advance.result.core.effect c.before.before.before.before.before.before.before.before.before.before.before.before.before.before.before.before.before.before.before.before.before.before.match.keys2 c.before.before.before.before.before.before.before.before.before.before.before.before.before.before.before.before.before.before.before.before.before.match2.keys2) (record { current = p.new.0; tallies = p.new.1.0; queue = p.new.1.1.0; work = p.new.1.1.1.0 }) p.ensures d.ensures p.auto.0 d.auto.0 (d.auto.1.0 ∙ p.auto.1.0) p.auto.1.1.0 p.auto.1.1.1.0, refl)
+    (done_again z.requires.0 z.requires.1 b.start.ensures.0 b.start.ensures.1 a.before.before.before.before.before.before.before.loop.invariant.0 (runs a) a.before.before.before.is_unchanged.ensures a.advance.ensures (asks_nothing a.advance.result.core.effect c.before.before.before.before.before.before.before.before.before.before.before.before.before.before.before.before.before.before.before.before.before.before.match.keys2 c.before.before.before.before.before.before.before.before.before.before.before.before.before.before.before.before.before.before.before.before.before.match2.keys2) (record { current = p.new.0; tallies = p.new.1.0; queue = p.new.1.1.0; work = p.new.1.1.1.0 }) p.ensures d.ensures p.auto.0 d.auto.0 (d.auto.1.0 ∙ p.auto.1.0) p.auto.1.1.0 p.auto.1.1.1.0, refl)
 
 same_length : tie.Need-same-length invariant-loop decreases-loop
 same_length c = c.before.before.loop.invariant.0.current_long
@@ -194,7 +194,7 @@ returns c =
     let b = c.before.before.before.before.before.before.before.before in
     let z = b.before.before.before.before.before.before.before.before.before.before.before.before.before.before in
     let i = c.before.before.loop.invariant in
-    next-done z.requires.0 z.requires.1 b.start.ensures.0 b.start.ensures.1 i.0 (ap is_running (sym i.1) ∙ sym c.before.is-running.ensures ∙ c.if1.false)
+    next_done z.requires.0 z.requires.1 b.start.ensures.0 b.start.ensures.1 i.0 (ap is_running (sym i.1) ∙ sym c.before.is-running.ensures ∙ c.if1.false)
 
 pub run-next-spec : {M : Type 1} → statement M
 run-next-spec =

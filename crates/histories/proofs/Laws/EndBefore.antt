@@ -22,8 +22,8 @@ use Rattle.histories.proofs.Laws.Histories.{stamp_key, history_at, histories_tab
 
 module _ {A : Type 0} (key last : A → ℕ) (x : ℕ) where
   -- the last of those with a key smaller than x, or v
-  abbrev lastSmaller : ℕ → List A → ℕ
-  lastSmaller v ys = last_or v (map last (select (λ y. ltb (key y) x) ys))
+  abbrev last_smaller : ℕ → List A → ℕ
+  last_smaller v ys = last_or v (map last (select (λ y. ltb (key y) x) ys))
 
   -- there are none where the keys rise from x or more
   none_smaller : (b : ℕ) → x ≤ b → (ys : List A) → rising_from key b ys ≡ true → select (λ y. ltb (key y) x) ys ≡ []
@@ -33,7 +33,7 @@ module _ {A : Type 0} (key last : A → ℕ) (x : ℕ) where
       select_no (λ y. ltb (key y) x) y ys (le-ltb (key y) x g) ∙ none_smaller (key y) g ys (rising_tail key b y ys e)
 
   -- of f 0 .. f (n − 1), which rise, there is none where the first is not smaller
-  pub smaller_none : (v b n : ℕ) (f : ℕ → A) → rising_from key b (tab n f) ≡ true → (0 < n → x ≤ key (f 0)) → lastSmaller v (tab n f) ≡ v
+  pub smaller_none : (v b n : ℕ) (f : ℕ → A) → rising_from key b (tab n f) ≡ true → (0 < n → x ≤ key (f 0)) → last_smaller v (tab n f) ≡ v
   unfolding tab last_or
   smaller_none v b zero f e h = unfold select in refl
   smaller_none v b (suc n) f e h =
@@ -44,7 +44,7 @@ module _ {A : Type 0} (key last : A → ℕ) (x : ℕ) where
 
   -- and where those up to f r are smaller, and the next is not, it is f r
   pub smaller_last : (v b n r : ℕ) (f : ℕ → A) → rising_from key b (tab n f) ≡ true → r < n
-      → ((i : ℕ) → i ≤ r → key (f i) < x) → (suc r < n → x ≤ key (f (suc r))) → lastSmaller v (tab n f) ≡ last (f r)
+      → ((i : ℕ) → i ≤ r → key (f i) < x) → (suc r < n → x ≤ key (f (suc r))) → last_smaller v (tab n f) ≡ last (f r)
   unfolding tab last_or
   smaller_last v b zero r f e h lo hi = absurd (omega arith)
   smaller_last v b (suc n) zero f e h lo hi =

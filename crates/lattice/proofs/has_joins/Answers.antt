@@ -3,7 +3,7 @@ use mathlib.Core.Path.{sym, ◌∙◌}
 use native.Mathlib.Omega.{arith}
 use lib.ListN.{length}
 use Rattle.dominance.specs.Table.{dominates}
-use Rattle.dominance.proofs.Laws.Join.{not_joined, joined-pairs}
+use Rattle.dominance.proofs.Laws.Join.{not_joined, joined_pairs}
 use Rattle.dominance.proofs.Laws.Table.{partial_order}
 use Rattle.lattice.proofs.has_joins.Goals as goal
 
@@ -21,5 +21,5 @@ returns-then-join-n c =
 pub returns : goal.returns
 returns c =
     let masks = c.args.masks.now in
-    sym (joined-pairs (length masks) (dominates masks) (partial_order masks c.requires)
+    sym (joined_pairs (length masks) (dominates masks) (partial_order masks c.requires)
     (λ x h. c.loop-a.invariant.1 x (omega arith)))

@@ -1,7 +1,7 @@
 -- `level_reads::bound_of` meets its contract. Assumes nothing.
 use native.Mathlib.Omega.{arith}
 use borrow.Author.Rules.{rules}
-use Rattle.level_state.proofs.Laws.Reads.{bound_carried, bound-ended, bound-fits}
+use Rattle.level_state.proofs.Laws.Reads.{bound_carried, bound_ended, bound_fits}
 use Rattle.level_reads.proofs.bound_of.Statement.{statement}
 use Rattle.level_reads.proofs.bound_of.Tie as tie
 
@@ -13,13 +13,13 @@ cast-result : tie.Need-overflow-cast-result
 cast-result c =
     let at = c.before.before in
     let p = at.before.before.before.before.before.before.before.requires in
-    omega (arith, bound-fits p at.stamp_at_lem.ensures c.end_Before.ensures)
+    omega (arith, bound_fits p at.stamp_at_lem.ensures c.end_Before.ensures)
 
 returns-2 : tie.Need-returns-2
 returns-2 c =
     let at = c.before.before in
     let p = at.before.before.before.before.before.before.before.requires in
-    bound-ended p at.stamp_at_lem.ensures c.end_Before.ensures at.before.before.carried-at.ensures at.before.if1.false
+    bound_ended p at.stamp_at_lem.ensures c.end_Before.ensures at.before.before.carried-at.ensures at.before.if1.false
 
 pub bound-of-spec : {M : Type 1} → statement M
 bound-of-spec =

@@ -74,11 +74,11 @@ child_of_lem l x m message = refl
 
 module _ (s : List ℕ) (a : verdict_of s ≡ Accepted) (few : level_count s ≤ max_levels) (w : Words) (ms : ℕ → Manager) (st : State) (t : Represents s w ms st) (i : ReachedState s st) (l : ℕ) (h : l < level_count s) (x : Fork) (m : Manager) (runs : (level_at st l).activity ≡ busy x m) (n : Stepped) (made : stepped (program_of s) (read_at (program_of s) st l x) m ≡ n) (q : Parts) (ended' tallies' : List ℕ) where
   -- the words before and after the step
-  abbrev pub partsBefore : Parts
-  partsBefore = record { current = w.current; tallies = w.tallies; queue = w.queue; work = w.work }
+  abbrev pub parts_before : Parts
+  parts_before = record { current = w.current; tallies = w.tallies; queue = w.queue; work = w.work }
 
-  abbrev pub wordsAfter : Words
-  wordsAfter =
+  abbrev pub words_after : Words
+  words_after =
       record { current = q.current; ended = ended'; tallies = tallies'; queue = q.queue; work = q.work }
 
   abbrev limits : (k : ℕ) → k < level_count s → Limited (level_at st k)
@@ -100,10 +100,10 @@ module _ (s : List ℕ) (a : verdict_of s ≡ Accepted) (few : level_count s ≤
   abbrev middle : Words
   middle = record { current = q.current; ended = w.ended; tallies = q.tallies; queue = q.queue; work = q.work }
 
-  settles : (st1 : State) → Represents s middle ms st1 → ((k : ℕ) → k < level_count s → Limited (level_at st1 k)) → (level_at st1 l).activity ≡ busy x m → Settled w.ended ended' q.tallies tallies' q.queue l n.manager → Represents s wordsAfter (placed l n.manager ms) (modify l settled st1)
+  settles : (st1 : State) → Represents s middle ms st1 → ((k : ℕ) → k < level_count s → Limited (level_at st1 k)) → (level_at st1 l).activity ≡ busy x m → Settled w.ended ended' q.tallies tallies' q.queue l n.manager → Represents s words_after (placed l n.manager ms) (modify l settled st1)
   settles st1 t1 b1 r1 z = represents_settle s middle ms st1 t1 b1 few l h x m r1 ended' tallies' n.manager z
 
-  represents_nothing : n.effect ≡ effect.Nothing → q ≡ partsBefore → Settled w.ended ended' q.tallies tallies' q.queue l n.manager → Represents s wordsAfter (placed l n.manager ms) (step_at (program_of s) l st)
+  represents_nothing : n.effect ≡ effect.Nothing → q ≡ parts_before → Settled w.ended ended' q.tallies tallies' q.queue l n.manager → Represents s words_after (placed l n.manager ms) (step_at (program_of s) l st)
   represents_nothing is e z =
       represents_state (modify_fixed new_level l settled st ∙ sym (delivers_none _) ∙ sym (step_is effect.Nothing is))
       (settles st (represents_words (ap (λ q. record { current = q.current; ended = w.ended; tallies = q.tallies; queue = q.queue; work = q.work }) (sym e)) t) limits runs z)
@@ -112,7 +112,7 @@ module _ (s : List ℕ) (a : verdict_of s ≡ Accepted) (few : level_count s ≤
   effect_is : (e : Effect) → n.effect ≡ e → (stepped (program_of s) (read_at (program_of s) st l x) m).effect ≡ e
   effect_is e is = ap (λ n. n.effect) made ∙ is
 
-  module _ (ws : List Written) (is : n.effect ≡ effect.Write ws) (wrote : WroteAll (noted partsBefore l ws) q l m.stamp ws) where
+  module _ (ws : List Written) (is : n.effect ≡ effect.Write ws) (wrote : WroteAll (noted parts_before l ws) q l m.stamp ws) where
     live : (length v.versions + length ws ≤ max_versions) × Each (λ w. ((program_of s).level w.object ≡ l) × (Numbered s w.object × (w.field ≤ existence))) ws
     live = live-write s a st i l h x m runs (read_at (program_of s) st l x) ws (effect_is (effect.Write ws) is)
 
@@ -126,18 +126,18 @@ module _ (s : List ℕ) (a : verdict_of s ≡ Accepted) (few : level_count s ≤
     abbrev written : Level → Level
     written = written_all m.stamp ws
 
-    at-l : level_at (modify l written st) l ≡ written v
-    at-l = at_own s w w ms ms st t limits l h written
+    at_l : level_at (modify l written st) l ≡ written v
+    at_l = at_own s w w ms ms st t limits l h written
 
-    represents-all : Represents s middle ms (modify l written st)
-    represents-all =
-        represents_writes s few ms w.ended st l h m.stamp (noted partsBefore l ws) q ws (represents_noted s few ms w.ended st l h m.stamp partsBefore ws t limits) limits live.0 (lies ws live.1) (noted_each partsBefore l ws small t.roomy.tallies) wrote
+    represents_all : Represents s middle ms (modify l written st)
+    represents_all =
+        represents_writes s few ms w.ended st l h m.stamp (noted parts_before l ws) q ws (represents_noted s few ms w.ended st l h m.stamp parts_before ws t limits) limits live.0 (lies ws live.1) (noted_each parts_before l ws small t.roomy.tallies) wrote
 
-    limits-all : (j : ℕ) → j < level_count s → Limited (level_at (modify l written st) j)
-    limits-all = writes_limited s few ms w.ended st l h m.stamp ws (at_own s w w ms ms st t limits l h) (at_other s w w ms ms st t limits l h) limits live.0
+    limits_all : (j : ℕ) → j < level_count s → Limited (level_at (modify l written st) j)
+    limits_all = writes_limited s few ms w.ended st l h m.stamp ws (at_own s w w ms ms st t limits l h) (at_other s w w ms ms st t limits l h) limits live.0
 
-    represents-written : Settled w.ended ended' q.tallies tallies' q.queue l n.manager → Represents s wordsAfter (placed l n.manager ms) (step_at (program_of s) l st)
-    represents-written z =
+    represents_written : Settled w.ended ended' q.tallies tallies' q.queue l n.manager → Represents s words_after (placed l n.manager ms) (step_at (program_of s) l st)
+    represents_written z =
         let same = all_but m.stamp ws v in
         represents_state
         (modify_twice l settled written st
@@ -147,7 +147,7 @@ module _ (s : List ℕ) (a : verdict_of s ≡ Accepted) (few : level_count s ≤
         ∙ ap₂ (λ a b. after v a b x n.manager) same.waiting (all_versions m.stamp ws v))
         ∙ sym (delivers_none _)
         ∙ sym (step_is (effect.Write ws) is))
-        (settles (modify l written st) represents-all limits-all (ap (λ v. v.activity) at-l ∙ same.activity ∙ runs) z)
+        (settles (modify l written st) represents_all limits_all (ap (λ v. v.activity) at_l ∙ same.activity ∙ runs) z)
 
   module _ (u : ℕ) (message : Message) (is : n.effect ≡ effect.Fork u message) (forked : Forked w.tallies q.tallies w.queue q.queue l m.stamp m.forks u message) (same-current : q.current ≡ w.current) (same-work : q.work ≡ w.work) where
     above : u < level_count s
@@ -174,33 +174,33 @@ module _ (s : List ℕ) (a : verdict_of s ≡ Accepted) (few : level_count s ≤
     apart e =
         (live-fork s a st i l h x m runs (read_at (program_of s) st l x) u message (effect_is (effect.Fork u message) is)).1.0 (sym e)
 
-    at-u : level_at (modify u (arrived child) st) u ≡ arrived child (level_at st u)
-    at-u = at_own s w w ms ms st t limits u above (arrived child)
+    at_u : level_at (modify u (arrived child) st) u ≡ arrived child (level_at st u)
+    at_u = at_own s w w ms ms st t limits u above (arrived child)
 
-    limits-arrived : (j : ℕ) → j < level_count s → Limited (level_at (modify u (arrived child) st) j)
-    limits-arrived j hj = elim (ℕ_discrete j u) [
-      | yes e ↦ rw (e, at-u) (record { managers = (arrived_bounded child (level_at st u) (i.reachable.steady.bounded u)).room; versions = versions })
+    limits_arrived : (j : ℕ) → j < level_count s → Limited (level_at (modify u (arrived child) st) j)
+    limits_arrived j hj = elim (ℕ_discrete j u) [
+      | yes e ↦ rw (e, at_u) (record { managers = (arrived_bounded child (level_at st u) (i.reachable.steady.bounded u)).room; versions = versions })
       | no d ↦ rw (at_other s w w ms ms st t limits u above (arrived child) j d) (limits j hj)
     ]
       where
         versions : length (arrived child (level_at st u)).versions ≤ max_versions
         versions = unfold arrived in (limits u above).versions
 
-    represents-forked : Settled w.ended ended' q.tallies tallies' q.queue l n.manager → Represents s wordsAfter (placed l n.manager ms) (step_at (program_of s) l st)
-    represents-forked z =
+    represents_forked : Settled w.ended ended' q.tallies tallies' q.queue l n.manager → Represents s words_after (placed l n.manager ms) (step_at (program_of s) l st)
+    represents_forked z =
         represents_state
         (modify_comm l u settled (arrived child) st apart
         ∙ ap (modify u (arrived child)) (modify_fixed new_level l settled st)
         ∙ ap (λ c. modify u (arrived c) (modify l (λ _. settled v) st)) child_made
         ∙ sym (delivers u (child_of l x m message) _)
         ∙ sym (step_is (effect.Fork u message) is))
-        (settles (modify u (arrived child) st) (represents_words (ap (λ z. record { current = z; ended = w.ended; tallies = q.tallies; queue = q.queue; work = w.work }) (sym same-current) ∙ ap (λ z. record { current = q.current; ended = w.ended; tallies = q.tallies; queue = q.queue; work = z }) (sym same-work)) (represents_arrive s w ms st t limits few u above q.tallies q.queue forked.row forked.count forked.arrived forked.tallies_are)) limits-arrived (ap (λ v. v.activity) (at_other s w w ms ms st t limits u above (arrived child) l apart) ∙ runs) z)
+        (settles (modify u (arrived child) st) (represents_words (ap (λ z. record { current = z; ended = w.ended; tallies = q.tallies; queue = q.queue; work = w.work }) (sym same-current) ∙ ap (λ z. record { current = q.current; ended = w.ended; tallies = q.tallies; queue = q.queue; work = z }) (sym same-work)) (represents_arrive s w ms st t limits few u above q.tallies q.queue forked.row forked.count forked.arrived forked.tallies_are)) limits_arrived (ap (λ v. v.activity) (at_other s w w ms ms st t limits u above (arrived child) l apart) ∙ runs) z)
 
   -- the stages together: the words represent the state after the step
-  pub represents_advance : EffectDone partsBefore q l m.stamp m.forks n.effect → Settled w.ended ended' q.tallies tallies' q.queue l n.manager → Represents s wordsAfter (placed l n.manager ms) (step_at (program_of s) l st)
+  pub represents_advance : EffectDone parts_before q l m.stamp m.forks n.effect → Settled w.ended ended' q.tallies tallies' q.queue l n.manager → Represents s words_after (placed l n.manager ms) (step_at (program_of s) l st)
   represents_advance d z = by n.effect refl d
     where
-      by : (e : Effect) → n.effect ≡ e → EffectDone partsBefore q l m.stamp m.forks e → Represents s wordsAfter (placed l n.manager ms) (step_at (program_of s) l st)
+      by : (e : Effect) → n.effect ≡ e → EffectDone parts_before q l m.stamp m.forks e → Represents s words_after (placed l n.manager ms) (step_at (program_of s) l st)
       by effect.Nothing is d = represents_nothing is d z
-      by (effect.Write ws) is d = represents-written ws is d z
-      by (effect.Fork u message) is d = represents-forked u message is d.0 d.1.0 d.1.1 z
+      by (effect.Write ws) is d = represents_written ws is d z
+      by (effect.Fork u message) is d = represents_forked u message is d.0 d.1.0 d.1.1 z

@@ -46,8 +46,8 @@ unfolding arrived
 started-arrived x v = refl
 
 module _ (s : List ℕ) (w : Words) (ms : ℕ → Manager) (st : State) (t : Represents s w ms st) (b : (k : ℕ) → k < level_count s → Limited (level_at st k)) (few : level_count s ≤ max_levels) (u : ℕ) (h : u < level_count s) (tallies' queue' row : List ℕ) (count : ℕ) (came : Arrived w.queue queue' u (started_of w.tallies u) (get_or w.tallies (waiting_place u) 0) row count) (represents : tallies' ≡ set w.tallies (waiting_place u) count) where
-  abbrev pub wordsArrived : Words
-  wordsArrived =
+  abbrev pub words_arrived : Words
+  words_arrived =
       record { current = w.current; ended = w.ended; tallies = tallies'; queue = queue'; work = w.work }
 
   abbrev n : ℕ
@@ -67,7 +67,7 @@ module _ (s : List ℕ) (w : Words) (ms : ℕ → Manager) (st : State) (t : Rep
       ap (λ t. get_or t (waiting_place u) 0) represents
       ∙ get_or-set_same w.tallies (waiting_place u) count 0 (omega (arith, t.roomy.tallies, h, few))
 
-  same : (j : ℕ) → j < level_count s → (j ≡ u → ⊥) → SameAt w wordsArrived j
+  same : (j : ℕ) → j < level_count s → (j ≡ u → ⊥) → SameAt w words_arrived j
   same j hj d =
       record {
         ended_count = tally_other j (λ e. omega (arith, e, hj, h, few));
@@ -102,17 +102,17 @@ module _ (s : List ℕ) (w : Words) (ms : ℕ → Manager) (st : State) (t : Rep
   rises_at : (k c : ℕ) → k ≡ started_of w.tallies u → c ≡ count → ForksRise queue' u k c
   rises_at k c e q = rw (e, q) came.rises
 
-  runs : (i : ℕ) (a : Activity) → v.activity ≡ a → i ≡ length v.ended → Runs n w u (ms u) i a → Runs n wordsArrived u (ms u) i a
+  runs : (i : ℕ) (a : Activity) → v.activity ≡ a → i ≡ length v.ended → Runs n w u (ms u) i a → Runs n words_arrived u (ms u) i a
   runs i idle q z r = tally_other (busy_place u) (λ e. omega (arith, e, h, few)) ∙ r
   runs i (busy y m) q z r = (
     tally_other (busy_place u) (λ e. omega (arith, e, h, few)) ∙ r.0,
     (r.1.0, came.before n i (omega (arith, z, (t.level u h).ended_count, r.0)) ∙ r.1.1),
   )
 
-  at_level : {a a' : Activity} {i i' : ℕ} → a' ≡ a → i' ≡ i → Runs n wordsArrived u (ms u) i a → Runs n wordsArrived u (ms u) i' a'
+  at_level : {a a' : Activity} {i i' : ℕ} → a' ≡ a → i' ≡ i → Runs n words_arrived u (ms u) i a → Runs n words_arrived u (ms u) i' a'
   at_level e q r = rw (e, q) r
 
-  own : LevelRepresents n wordsArrived u (ms u) (arrived x v)
+  own : LevelRepresents n words_arrived u (ms u) (arrived x v)
   own =
       let q = t.level u h in
       let ended = ended_arrived x v in
@@ -132,9 +132,9 @@ module _ (s : List ℕ) (w : Words) (ms : ℕ → Manager) (st : State) (t : Rep
       }
 
   -- the words then say that the fork has arrived
-  pub represents_arrive : Represents s wordsArrived ms (modify u (arrived (fork_of_row (level_count s) row)) st)
+  pub represents_arrive : Represents s words_arrived ms (modify u (arrived (fork_of_row (level_count s) row)) st)
   represents_arrive =
-      represents_change s w wordsArrived ms ms st t b u h (arrived x)
+      represents_change s w words_arrived ms ms st t b u h (arrived x)
       (record {
         current = t.roomy.current;
         ended = t.roomy.ended;
@@ -143,7 +143,7 @@ module _ (s : List ℕ) (w : Words) (ms : ℕ → Manager) (st : State) (t : Rep
         work = t.roomy.work;
       })
       (λ j hj. rw (tally_other j (λ e. omega (arith, e, hj, h, few))) (t.counts_few j hj))
-      (field_kept s w wordsArrived ms ms st t b u h (arrived x) (versions_arrived x))
+      (field_kept s w words_arrived ms ms st t b u h (arrived x) (versions_arrived x))
       own
       same
       (λ j d. refl)

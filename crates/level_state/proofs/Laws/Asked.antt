@@ -121,12 +121,12 @@ module _ (s masks : List ℕ) (table : masks ≡ masks_of s) (long : length mask
 
   -- what the conservative rule says of a step
   module _ (l : ℕ) (h : l < length masks) where
-    pub lowest-allowed : lowest_of masks w.tallies l ≡ true → refusal_under conservative (program_of s) st l ≡ 0
-    lowest-allowed e =
+    pub lowest_allowed : lowest_of masks w.tallies l ≡ true → refusal_under conservative (program_of s) st l ≡ 0
+    lowest_allowed e =
         refusal_none conservative (program_of s) st l (sym (present_is l) ∙ lt-ltb l (length masks) h) (sym (each_managed l h) ∙ and_left (managed w.tallies l) _ e) (sym (quiet_is l) ∙ and_right (managed w.tallies l) _ e)
 
-    pub lowest-refused : lowest_of masks w.tallies l ≡ false → refusal_under conservative (program_of s) st l ≡ 0 → ⊥
-    lowest-refused e o =
+    pub lowest_refused : lowest_of masks w.tallies l ≡ false → refusal_under conservative (program_of s) st l ≡ 0 → ⊥
+    lowest_refused e o =
         let (_, (has, quiet)) = allowed conservative (program_of s) st l o in
         not_both (lowest_of masks w.tallies l) (and_both (managed w.tallies l) _ (each_managed l h ∙ has) (quiet_is l ∙ quiet)) e
 
@@ -160,9 +160,9 @@ module _ (s masks : List ℕ) (a : verdict_of s ≡ Accepted) (few : level_count
 
   module _ (l : ℕ) where
     -- 14, of the first manager of each level
-    free-is : l < length masks → managed w.tallies l ≡ true → free_of masks w.tallies w.queue l ≡ question14 (program_of s) st l
+    free_is : l < length masks → managed w.tallies l ≡ true → free_of masks w.tallies w.queue l ≡ question14 (program_of s) st l
     unfolding program_of
-    free-is h e =
+    free_is h e =
         let (xs, q) = first_is s masks table long w ms st t l h e in
         let x = first_at masks w.tallies w.queue l in
         all_ext (length masks) _ (λ j. implies (dominates masks l j) (not (first_holds (forks_of (level_at st j)) x.stamp))) (λ j hj. each j hj x.stamp)
@@ -176,12 +176,12 @@ module _ (s masks : List ℕ) (a : verdict_of s ≡ Accepted) (few : level_count
             (λ e. ap (λ ys. first_holds ys stamp) (unmanaged_forks (level_at st j) (sym (each_managed s masks table long w ms st t j hj) ∙ e)))
 
     -- 14, which is not put where a manager runs
-    fourteen-is : l < length masks → managed w.tallies l ≡ true → (busy_in w.tallies l || free_of masks w.tallies w.queue l) ≡ question14 (program_of s) st l
-    fourteen-is h e = elim (truth (busy_in w.tallies l)) [
+    fourteen_is : l < length masks → managed w.tallies l ≡ true → (busy_in w.tallies l || free_of masks w.tallies w.queue l) ≡ question14 (program_of s) st l
+    fourteen_is h e = elim (truth (busy_in w.tallies l)) [
       | holds b ↦
           let hl : l < level_count s = rw (sym long) h in
           rw b (sym (busy_free s a st live l hl (sym (represents_busy (level_count s) w l (ms l) (level_at st l) (t.level l hl)) ∙ b)))
-      | fails b ↦ rw b (free-is h e)
+      | fails b ↦ rw b (free_is h e)
     ]
 
     -- the number of the permit is that of the refusal
@@ -199,7 +199,7 @@ module _ (s masks : List ℕ) (a : verdict_of s ≡ Accepted) (few : level_count
             elim (truth (managed w.tallies l)) [
               | fails f ↦ rw (e, f) (sym (refusal_idle question14 p st l twelve (thirteen ∙ f)))
               | holds f ↦ elim (truth (busy_in w.tallies l || free_of masks w.tallies w.queue l)) [
-                | fails g ↦ rw (e, f, g) (sym (refusal_blocked question14 p st l twelve (thirteen ∙ f) (sym (fourteen-is h f) ∙ g)))
-                | holds g ↦ rw (e, f, g) (sym (refusal_none question14 p st l twelve (thirteen ∙ f) (sym (fourteen-is h f) ∙ g)))
+                | fails g ↦ rw (e, f, g) (sym (refusal_blocked question14 p st l twelve (thirteen ∙ f) (sym (fourteen_is h f) ∙ g)))
+                | holds g ↦ rw (e, f, g) (sym (refusal_none question14 p st l twelve (thirteen ∙ f) (sym (fourteen_is h f) ∙ g)))
               ]
             ]

@@ -33,8 +33,8 @@ tail_is : (x y : Fork) (xs ys : List Fork) → x ∷ xs ≡ y ∷ ys → xs ≡ 
 tail_is x y xs ys e = cc
 
 module _ (s : List ℕ) (w : Words) (ms : ℕ → Manager) (st : State) (t : Represents s w ms st) (b : (k : ℕ) → k < level_count s → Limited (level_at st k)) (few : level_count s ≤ max_levels) (l : ℕ) (h : l < level_count s) (x : Fork) (xs : List Fork) (quiescent : (level_at st l).activity ≡ idle) (waits : (level_at st l).waiting ≡ x ∷ xs) (m : Manager) where
-  abbrev pub wordsBegun : Words
-  wordsBegun =
+  abbrev pub words_begun : Words
+  words_begun =
       record { current = w.current; ended = w.ended; tallies = begun_tallies w.tallies l; queue = w.queue; work = w.work }
 
   abbrev n : ℕ
@@ -69,7 +69,7 @@ module _ (s : List ℕ) (w : Words) (ms : ℕ → Manager) (st : State) (t : Rep
   tally_busy : get_or (begun_tallies w.tallies l) (busy_place l) 0 ≡ 1
   tally_busy = get_or-set_same t1 (busy_place l) 1 0 (omega (arith, long, h, few))
 
-  same : (j : ℕ) → j < level_count s → (j ≡ l → ⊥) → SameAt w wordsBegun j
+  same : (j : ℕ) → j < level_count s → (j ≡ l → ⊥) → SameAt w words_begun j
   same j hj d =
       record {
         ended_count = tally_other j (λ q. omega (arith, q, hj, h, few)) (λ q. omega (arith, q, hj, h, few));
@@ -103,7 +103,7 @@ module _ (s : List ℕ) (w : Words) (ms : ℕ → Manager) (st : State) (t : Rep
   rises_at : (k c : ℕ) → k ≡ started_count v → c ≡ length v.waiting → ForksRise w.queue l k c
   rises_at k c e q = rw (e, q) (t.level l h).waiting_rises
 
-  own : LevelRepresents n wordsBegun l m (f v)
+  own : LevelRepresents n words_begun l m (f v)
   own =
       let q = t.level l h in
       record {
@@ -122,9 +122,9 @@ module _ (s : List ℕ) (w : Words) (ms : ℕ → Manager) (st : State) (t : Rep
       }
 
   -- the words then say that the manager runs
-  pub represents_begin : Represents s wordsBegun (placed l m ms) (modify l (begun_level x xs m) st)
+  pub represents_begin : Represents s words_begun (placed l m ms) (modify l (begun_level x xs m) st)
   represents_begin =
-      represents_change s w wordsBegun ms (placed l m ms) st t b l h f
+      represents_change s w words_begun ms (placed l m ms) st t b l h f
       (record {
         current = t.roomy.current;
         ended = t.roomy.ended;
@@ -133,7 +133,7 @@ module _ (s : List ℕ) (w : Words) (ms : ℕ → Manager) (st : State) (t : Rep
         work = t.roomy.work;
       })
       (λ j hj. rw (tally_other j (λ q. omega (arith, q, hj)) (λ q. omega (arith, q, hj))) (t.counts_few j hj))
-      (field_kept s w wordsBegun ms (placed l m ms) st t b l h f (λ v. refl))
+      (field_kept s w words_begun ms (placed l m ms) st t b l h f (λ v. refl))
       (rw (placed_own l m ms) own)
       same
       (λ j d. placed_other l m ms j d)

@@ -21,8 +21,8 @@ use Rattle.model.specs.Step.{State, read_at}
 use Rattle.level_state.specs.Representation.{Words}
 use Rattle.level_state.specs.Steps.{Tables, Busy, Parts, EffectDone, SettleReady, CoreSettled, Changing, ChangedBy}
 use Rattle.level_state.specs.Script.{Blank, RunsAt}
-use Rattle.level_state.proofs.Laws.Ready.{effect-ready, settle_after}
-use Rattle.level_state.proofs.Laws.Step.{invariant_live, invariant-advance, rest_effect}
+use Rattle.level_state.proofs.Laws.Ready.{effect_ready, settle_after}
+use Rattle.level_state.proofs.Laws.Step.{invariant_live, invariant_advance, rest_effect}
 use Rattle.level_state.proofs.Laws.Reads.{read_here}
 use Rattle.level_state.proofs.Laws.Seen.{current_scripted}
 use Rattle.level_state.proofs.Laws.Pauses.{pause_change}
@@ -55,24 +55,24 @@ module _ {s masks index : List ℕ} {w : Words} {l : ℕ} {n : code.Manager} (a 
         own = own_existence b.busy;
         queue = w.queue;
         forks = (manager_of n).forks;
-        ready = effect-ready s yes (level_limit s yes) (object_limit s yes) w b.running b.state b.busy.invariant.represents (invariant_live s yes w b.running b.state b.busy.invariant) l b.busy.present b.fork (manager_of n) b.busy.runs read (stepped (program_of s) read (manager_of n)).effect refl;
+        ready = effect_ready s yes (level_limit s yes) (object_limit s yes) w b.running b.state b.busy.invariant.represents (invariant_live s yes w b.running b.state b.busy.invariant) l b.busy.present b.fork (manager_of n) b.busy.runs read (stepped (program_of s) read (manager_of n)).effect refl;
       }
 
   -- what it writes is the effect of its step
   module _ {current' tallies' work' : List ℕ} {r : code.Manager} (made : ChangedBy s w.current current' w.tallies tallies' w.work work' l n r) where
-    abbrev pub partsChanged : Parts
-    partsChanged = record { current = current'; tallies = tallies'; queue = w.queue; work = work' }
+    abbrev pub parts_changed : Parts
+    parts_changed = record { current = current'; tallies = tallies'; queue = w.queue; work = work' }
 
-    pub changed_done : EffectDone (parts_of w) partsChanged l (manager_of n).stamp (manager_of n).forks made.effect
+    pub changed_done : EffectDone (parts_of w) parts_changed l (manager_of n).stamp (manager_of n).forks made.effect
     unfolding manager_of
     changed_done = made.done w.queue n.core.forks
 
-    pub changed-is : (ms : ℕ → Manager) (st : State) (x : Fork) → Busy s w l ms st x (manager_of n) → stepped (program_of s) (read_at (program_of s) st l x) (manager_of n) ≡ record { manager = manager_of r; effect = made.effect }
-    changed-is ms st x q = sym (made.is (read_at (program_of s) st l x) (own_existence q))
+    pub changed_is : (ms : ℕ → Manager) (st : State) (x : Fork) → Busy s w l ms st x (manager_of n) → stepped (program_of s) (read_at (program_of s) st l x) (manager_of n) ≡ record { manager = manager_of r; effect = made.effect }
+    changed_is ms st x q = sym (made.is (read_at (program_of s) st l x) (own_existence q))
 
     -- and there is room for its history
-    pub changed-settles : SettleReady w.ended w.tallies w.queue l → SettleReady w.ended tallies' w.queue l
-    changed-settles room = settle_after (parts_of w) partsChanged w.ended l (manager_of n).stamp (manager_of n).forks made.effect changed_done room
+    pub changed_settles : SettleReady w.ended w.tallies w.queue l → SettleReady w.ended tallies' w.queue l
+    changed_settles room = settle_after (parts_of w) parts_changed w.ended l (manager_of n).stamp (manager_of n).forks made.effect changed_done room
 
 -- a scheduler step that is a CREATE or WITHDRAW: n stands where m does
 module _ {s masks index : List ℕ} {w : Words} {l : ℕ} {m n : code.Manager} (v : Advancing s masks index w l m) (stands : manager_of n ≡ manager_of m) where
@@ -82,21 +82,21 @@ module _ {s masks index : List ℕ} {w : Words} {l : ℕ} {m n : code.Manager} (
       record { running = b.running; state = b.state; fork = b.fork; busy = rw stands b.busy }
 
   module _ {current' tallies' work' : List ℕ} {r : code.Manager} (made : ChangedBy s w.current current' w.tallies tallies' w.work work' l n r) where
-    pub change-room : SettleReady w.ended tallies' w.queue l
-    change-room = changed-settles v.read change_runs made (done_room v)
+    pub change_room : SettleReady w.ended tallies' w.queue l
+    change_room = changed_settles v.read change_runs made (done_room v)
 
-    pub change-represented : {ended'' tallies'' cache' : List ℕ} → CoreSettled w.ended ended'' tallies' tallies'' w.queue l r.core → Blank cache' → StepRepresented s l m w (record { current = current'; ended = ended''; tallies = tallies''; queue = w.queue; work = work' }) cache' r
-    change-represented {ended''} {tallies''} settled blank =
+    pub change_represented : {ended'' tallies'' cache' : List ℕ} → CoreSettled w.ended ended'' tallies' tallies'' w.queue l r.core → Blank cache' → StepRepresented s l m w (record { current = current'; ended = ended''; tallies = tallies''; queue = w.queue; work = work' }) cache' r
+    change_represented {ended''} {tallies''} settled blank =
         let yes = v.read.indexed.accepted in
         record {
-          invariant = λ ms st q. let (x, b) = runs_here v ms st q in invariant-advance s yes (level_limit s yes) w ms st q.invariant l b.present q.allowed x (manager_of m) b.runs (record { manager = manager_of r; effect = made.effect }) (is ms st x b) (partsChanged v.read change_runs made) ended'' tallies'' done (settled_of_lem r settled);
+          invariant = λ ms st q. let (x, b) = runs_here v ms st q in invariant_advance s yes (level_limit s yes) w ms st q.invariant l b.present q.allowed x (manager_of m) b.runs (record { manager = manager_of r; effect = made.effect }) (is ms st x b) (parts_changed v.read change_runs made) ended'' tallies'' done (settled_of_lem r settled);
           held = made.held;
           blank = blank;
-          rest = rest_effect (parts_of w) (partsChanged v.read change_runs made) l (manager_of m).stamp (manager_of m).forks made.effect done;
+          rest = rest_effect (parts_of w) (parts_changed v.read change_runs made) l (manager_of m).stamp (manager_of m).forks made.effect done;
         }
       where
         is : (ms : ℕ → Manager) (st : State) (x : Fork) → Busy s w l ms st x (manager_of m) → stepped (program_of s) (read_at (program_of s) st l x) (manager_of m) ≡ record { manager = manager_of r; effect = made.effect }
-        is ms st x b = rw (sym stands) (changed-is v.read change_runs made ms st x (rw stands b))
+        is ms st x b = rw (sym stands) (changed_is v.read change_runs made ms st x (rw stands b))
 
-        done : EffectDone (parts_of w) (partsChanged v.read change_runs made) l (manager_of m).stamp (manager_of m).forks made.effect
+        done : EffectDone (parts_of w) (parts_changed v.read change_runs made) l (manager_of m).stamp (manager_of m).forks made.effect
         done = rw (sym stands) (changed_done v.read change_runs made)

@@ -58,9 +58,9 @@ use Rattle.tallies.specs.Places as counted
 use Rattle.level_state.specs.Representation.{Words, RunInvariant, placed}
 use Rattle.level_state.specs.Steps.{Tables, Busy, running_fork, ReadIs, ScriptIs, Readable, Named, WriteReady, Wrote, touches, WritesReady, withdrawing, ChangeReady, ChangeDone, Fielded, started_of, ForkReady, Forked, EffectReady, Parts, EffectDone, forks_after, PerformReady, Performed, SettleReady, Settled, CoreSettled, begun_tallies, StepDone, StartReady, Started}
 use Rattle.level_state.specs.Script.{Blank, RunsAt, ScriptStep}
-use Rattle.level_state.proofs.Laws.Ready.{represents_quiescent, represents_runs, waits_some, start_ready, busy-settles, effect-ready, settle_after}
+use Rattle.level_state.proofs.Laws.Ready.{represents_quiescent, represents_runs, waits_some, start_ready, busy_settles, effect_ready, settle_after}
 use Rattle.level_state.proofs.Laws.Seen.{read_low, script_first}
-use Rattle.level_state.proofs.Laws.Step.{invariant_live, invariant-start, invariant-advance, rest_effect}
+use Rattle.level_state.proofs.Laws.Step.{invariant_live, invariant_start, invariant_advance, rest_effect}
 
 -- a fork that is made, with the stamp and the depth that were read of its maker's
 module _ (tallies queue : List ℕ) (l forks u depth stamp : ℕ) (deep : (n : ℕ) → (running_fork n tallies queue l).depth ≡ depth) (stamped : (n : ℕ) → (running_fork n tallies queue l).stamp ≡ stamp) where
@@ -150,8 +150,8 @@ module _ {c0 c1 : List ℕ} (t0 : List ℕ) {t1 t2 w0 w1 : List ℕ} {l stamp o 
       (record { current = c0; tallies = t1; queue = queue; work = w0 }, (ap (λ t. record { current = c0; tallies = t; queue = queue; work = w0 }) note, (d, refl)))
 
   module _ {c2 c3 c4 t3 t4 t5 w2 w3 w4 : List ℕ} {v0 v1 v2 : Value} {script : ℕ} where
-    pub made-done : Wrote c0 c1 t1 t2 w0 w1 l stamp o 0 v0 → Wrote c1 c2 t2 t3 w1 w2 l stamp o 1 v1 → Wrote c2 c3 t3 t4 w2 w3 l stamp o 2 v2 → Wrote c3 c4 t4 t5 w3 w4 l stamp o existence (Number script) → ChangeDone c0 c4 t0 t5 w0 w4 l stamp (effect.Write (making o v0 v1 v2 script))
-    made-done d0 d1 d2 d3 queue forks =
+    pub made_done : Wrote c0 c1 t1 t2 w0 w1 l stamp o 0 v0 → Wrote c1 c2 t2 t3 w1 w2 l stamp o 1 v1 → Wrote c2 c3 t3 t4 w2 w3 l stamp o 2 v2 → Wrote c3 c4 t4 t5 w3 w4 l stamp o existence (Number script) → ChangeDone c0 c4 t0 t5 w0 w4 l stamp (effect.Write (making o v0 v1 v2 script))
+    made_done d0 d1 d2 d3 queue forks =
         let p0 : Parts = record { current = c0; tallies = t1; queue = queue; work = w0 } in
         let p1 : Parts = record { current = c1; tallies = t2; queue = queue; work = w1 } in
         let p2 : Parts = record { current = c2; tallies = t3; queue = queue; work = w2 } in
@@ -165,14 +165,14 @@ module _ (a : Parts) (l first forks : ℕ) (e : Effect) where
   performed_nothing is made counted = rw is refl
 
   module _ (object k : ℕ) (v : Value) (is : e ≡ effect.Write (record { object = object; field = k; value = v } ∷ [])) (ready : PerformReady a.current a.tallies a.queue a.work l first forks e) where
-    pub write-ready : WriteReady a.current a.tallies a.work l object k
-    write-ready =
+    pub write_ready : WriteReady a.current a.tallies a.work l object k
+    write_ready =
         let z : WritesReady a.current a.tallies a.work l (record { object = object; field = k; value = v } ∷ []) = rw is at ready.ready in
         one_ready (record { object = object; field = k; value = v }) [] z
 
     -- no fork is made: the write stamp is that of now
-    pub performed-write : (current' tallies' work' : List ℕ) → Wrote a.current current' a.tallies tallies' a.work work' l (first + forks) object k v → Performed a (record { current = current'; tallies = tallies'; queue = a.queue; work = work' }) l first forks e
-    performed-write current' tallies' work' w made counted =
+    pub performed_write : (current' tallies' work' : List ℕ) → Wrote a.current current' a.tallies tallies' a.work work' l (first + forks) object k v → Performed a (record { current = current'; tallies = tallies'; queue = a.queue; work = work' }) l first forks e
+    performed_write current' tallies' work' w made counted =
         let same : forks ≡ made = rw is at counted in
         let plain : touches (record { object = object; field = k; value = v } ∷ []) ≡ false = rw is at ready.fielded in
         rw (is, sym same, plain) (a, (refl, (w, refl)))
@@ -181,17 +181,17 @@ module _ (a : Parts) (l first forks : ℕ) (e : Effect) where
     before : (made : ℕ) → forks ≡ forks_after e made → forks - 1 ≡ made
     before made counted = let one : forks ≡ made + 1 = rw is at counted in omega (arith, one)
 
-    pub forks-some : PerformReady a.current a.tallies a.queue a.work l first forks e → 0 < forks
-    forks-some ready = let one : forks ≡ ready.made + 1 = rw is at ready.forks_are in omega (arith, one)
+    pub forks_some : PerformReady a.current a.tallies a.queue a.work l first forks e → 0 < forks
+    forks_some ready = let one : forks ≡ ready.made + 1 = rw is at ready.forks_are in omega (arith, one)
 
-    pub fork-ready : PerformReady a.current a.tallies a.queue a.work l first forks e → ForkReady a.tallies a.queue l (forks - 1) u
-    fork-ready ready =
+    pub fork_ready : PerformReady a.current a.tallies a.queue a.work l first forks e → ForkReady a.tallies a.queue l (forks - 1) u
+    fork_ready ready =
         let z : EffectReady a.current a.tallies a.queue a.work l ready.made (effect.Fork u message) = rw is at ready.ready in
         rw (before ready.made ready.forks_are) z
 
     -- the fork is the last of those made: it carries the write stamp before it
-    pub performed-fork : (tallies' queue' : List ℕ) → Forked a.tallies tallies' a.queue queue' l (first + (forks - 1)) (forks - 1) u message → Performed a (record { current = a.current; tallies = tallies'; queue = queue'; work = a.work }) l first forks e
-    performed-fork tallies' queue' f made counted =
+    pub performed_fork : (tallies' queue' : List ℕ) → Forked a.tallies tallies' a.queue queue' l (first + (forks - 1)) (forks - 1) u message → Performed a (record { current = a.current; tallies = tallies'; queue = queue'; work = a.work }) l first forks e
+    performed_fork tallies' queue' f made counted =
         let q : Forked a.tallies tallies' a.queue queue' l (first + made) made u message = rw (before made counted) at f in
         rw is (q, (refl, refl))
 
@@ -242,11 +242,11 @@ module _ (ended tallies queue : List ℕ) (l : ℕ) (c : Core) where
   core_on e fs = settled_on ended tallies queue l (bare c fs) e
 
   module _ (stamp : ℕ) (h : Ended) (over : is_running c.ending ≡ false) (stamped : (n : ℕ) → (running_fork n tallies queue l).stamp ≡ stamp) (is : h ≡ kept_of c stamp) where
-    kept-is : (fs : List Frame) → HistoryIs stamp (bare c fs) h
-    kept-is fs x e = rw (is, sym e) refl
+    kept_is : (fs : List Frame) → HistoryIs stamp (bare c fs) h
+    kept_is fs x e = rw (is, sym e) refl
 
-    pub core-room : SettleReady ended tallies queue l → HistoryRoom ended l (get_or tallies l 0) h
-    core-room r =
+    pub core_room : SettleReady ended tallies queue l → HistoryRoom ended l (get_or tallies l 0) h
+    core_room r =
         record {
           room = r.histories;
           level = r.there.level;
@@ -255,11 +255,11 @@ module _ (ended tallies queue : List ℕ) (l : ℕ) (c : Core) where
           ended = ap (λ h. is_running h.ending) is ∙ over;
         }
 
-    pub core-off : (ended' tallies' : List ℕ) → counted.Closed l h ended ended' tallies tallies' → CoreSettled ended ended' tallies (set tallies' (busy_place l) 0) queue l c
-    core-off ended' tallies' z fs =
+    pub core_off : (ended' tallies' : List ℕ) → counted.Closed l h ended ended' tallies tallies' → CoreSettled ended ended' tallies (set tallies' (busy_place l) 0) queue l c
+    core_off ended' tallies' z fs =
         let last : h.last ≡ c.first + c.forks = ap (λ h. h.last) is in (
           λ e. absurd (not_both (is_running c.ending) e over),
-          λ _. record { history = h; history_is = rw (stamped 0) (kept-is fs); added = z.added; tallies_are = rw (z.counted, last) refl },
+          λ _. record { history = h; history_is = rw (stamped 0) (kept_is fs); added = z.added; tallies_are = rw (z.counted, last) refl },
         )
 
 pub settled_of_lem : {ended ended' tallies tallies' queue : List ℕ} {l : ℕ} (m : code.Manager) → CoreSettled ended ended' tallies tallies' queue l m.core → Settled ended ended' tallies tallies' queue l (manager_of m)
@@ -361,21 +361,21 @@ module _ (s masks index : List ℕ) (w : Words) (l : ℕ) (m : code.Manager) (a 
 
   -- where no manager runs, one starts
   module _ (z : get_or w.tallies (busy_place l) 0 ≡ 0) where
-    quiescent-here : (ms : ℕ → Manager) (st : State) → Stepping s w l m ms st → (level_at st l).activity ≡ idle
-    quiescent-here ms st q =
+    quiescent_here : (ms : ℕ → Manager) (st : State) → Stepping s w l m ms st → (level_at st l).activity ≡ idle
+    quiescent_here ms st q =
         represents_quiescent (level_count s) w l (ms l) (level_at st l) (q.invariant.represents.level l (placed_here ms st q)) z
 
     has_here : (ms : ℕ → Manager) (st : State) → Stepping s w l m ms st → has_manager (level_at st l) ≡ true
     has_here ms st q = (allowed question14 (program_of s) st l q.allowed).1.0
 
-    pub start-here : MayStep s w l m → StartReady s masks index w l
-    start-here (ms, (st, q)) =
-        start_ready s (accepted a) few (object_limit s (accepted a)) w ms st q.invariant.represents (invariant_live s (accepted a) w ms st q.invariant) l (placed_here ms st q) masks index a q.invariant (quiescent-here ms st q) (has_here ms st q)
+    pub start_here : MayStep s w l m → StartReady s masks index w l
+    start_here (ms, (st, q)) =
+        start_ready s (accepted a) few (object_limit s (accepted a)) w ms st q.invariant.represents (invariant_live s (accepted a) w ms st q.invariant) l (placed_here ms st q) masks index a q.invariant (quiescent_here ms st q) (has_here ms st q)
 
-    pub start-done : (cache ended' tallies' : List ℕ) (r : code.Manager) → Blank cache → Started s w ended' tallies' l (manager_of r) × WellFormed s r → StepRepresented s l m w (record { current = w.current; ended = ended'; tallies = tallies'; queue = w.queue; work = w.work }) cache r
-    start-done cache ended' tallies' r blank (d, held) =
+    pub start_done : (cache ended' tallies' : List ℕ) (r : code.Manager) → Blank cache → Started s w ended' tallies' l (manager_of r) × WellFormed s r → StepRepresented s l m w (record { current = w.current; ended = ended'; tallies = tallies'; queue = w.queue; work = w.work }) cache r
+    start_done cache ended' tallies' r blank (d, held) =
         record {
-          invariant = λ ms st q. let (x, (xs, e)) = waits_some (level_at st l) (has_here ms st q) (quiescent-here ms st q) in invariant-start s (accepted a) few w ms st q.invariant l (placed_here ms st q) q.allowed x xs (quiescent-here ms st q) e ended' tallies' (manager_of r) d;
+          invariant = λ ms st q. let (x, (xs, e)) = waits_some (level_at st l) (has_here ms st q) (quiescent_here ms st q) in invariant_start s (accepted a) few w ms st q.invariant l (placed_here ms st q) q.allowed x xs (quiescent_here ms st q) e ended' tallies' (manager_of r) d;
           held = held;
           blank = blank;
           rest = refl;
@@ -421,7 +421,7 @@ module _ {s masks index : List ℕ} {w : Words} {l : ℕ} {m : code.Manager} (a 
 
   pub done_room : SettleReady w.ended w.tallies w.queue l
   done_room =
-      busy-settles s (accepted a.read) (level_limit s (accepted a.read)) (object_limit s (accepted a.read)) w ms₀ st₀ busy₀.invariant.represents live₀ l busy₀.present x₀ (manager_of m) busy₀.runs
+      busy_settles s (accepted a.read) (level_limit s (accepted a.read)) (object_limit s (accepted a.read)) w ms₀ st₀ busy₀.invariant.represents live₀ l busy₀.present x₀ (manager_of m) busy₀.runs
 
 abbrev pub parts_of : Words → Parts
 parts_of w = record { current = w.current; tallies = w.tallies; queue = w.queue; work = w.work }
@@ -438,7 +438,7 @@ module _ {s masks index : List ℕ} {w : Words} {l : ℕ} {cache' : List ℕ} {m
   done_performs =
       let yes = accepted v.read in
       performs (program_of s) (read_at (program_of s) (st₀ v) l (x₀ v)) (manager_of m) r step₀ w.current w.tallies w.queue w.work l
-      (effect-ready s yes (level_limit s yes) (object_limit s yes) w (ms₀ v) (st₀ v) (busy₀ v).invariant.represents (live₀ v) l (busy₀ v).present (x₀ v) (manager_of m) (busy₀ v).runs (read_at (program_of s) (st₀ v) l (x₀ v)) n.effect (ap (λ n. n.effect) step₀))
+      (effect_ready s yes (level_limit s yes) (object_limit s yes) w (ms₀ v) (st₀ v) (busy₀ v).invariant.represents (live₀ v) l (busy₀ v).present (x₀ v) (manager_of m) (busy₀ v).runs (read_at (program_of s) (st₀ v) l (x₀ v)) n.effect (ap (λ n. n.effect) step₀))
       (fielded_of s r.core.effect made.present)
       (held_fits made.held)
 
@@ -449,7 +449,7 @@ module _ {s masks index : List ℕ} {w : Words} {l : ℕ} {cache' : List ℕ} {m
   step_represented {w'} d =
       let yes = accepted v.read in
       record {
-        invariant = λ ms st q. let (x, b) = runs_here v ms st q in invariant-advance s yes (level_limit s yes) w ms st q.invariant l b.present q.allowed x (manager_of m) b.runs n (made.is ms st x b) p w'.ended w'.tallies done (settled_of_lem r d.settled);
+        invariant = λ ms st q. let (x, b) = runs_here v ms st q in invariant_advance s yes (level_limit s yes) w ms st q.invariant l b.present q.allowed x (manager_of m) b.runs n (made.is ms st x b) p w'.ended w'.tallies done (settled_of_lem r d.settled);
         held = made.held;
         blank = made.blank;
         rest = rest_effect (parts_of w) p l (manager_of m).stamp (manager_of m).forks n.effect done;

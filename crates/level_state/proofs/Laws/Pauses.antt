@@ -68,13 +68,13 @@ module _ (s current cache : List ℕ) (u : Bool) (level : ℕ) where
 
   -- why it waits for x's value k
   pub data Reason (i : Step) (x k : ℕ) : Type 0 where
-    of-existence : k ≡ existence → eqb (script x) unknown ≡ true → Reason i x k
+    of_existence : k ≡ existence → eqb (script x) unknown ≡ true → Reason i x k
     of_field : (a : ℕ) → i ≡ op.Read a k → eqb (script x) unknown ≡ false → is_own s false level x ≡ false → known_at cache x k ≡ false → Reason i x k
 
   found_reason : (a o b k : ℕ) → found_of current cache (is_own s false level o) u o b ≡ Missing k → Reason (op.Read a b) o k
   unfolding found_of
   found_reason a o b k q = elim (truth (eqb (script o) unknown)) [
-    | holds e ↦ of-existence (sym (same_missing existence k (rw e at q))) e
+    | holds e ↦ of_existence (sym (same_missing existence k (rw e at q))) e
     | fails e ↦ elim (truth (eqb (script o) 0)) [
       | holds z ↦ absurd (no_missing k Nil (rw (e, z) at q))
       | fails z ↦ elim (truth (is_own s false level o)) [
@@ -93,11 +93,11 @@ module _ (s current cache : List ℕ) (u : Bool) (level : ℕ) where
   unseen_reason i c x k fate.Block q = absurd (none_on x k q)
   unseen_reason i c x k (fate.Fork v) q = absurd (none_on x k q)
   unseen_reason i c x k fate.Call q = elim (truth (eqb (script c) unknown)) [
-    | holds e ↦ let is = same_object c existence x k (rw e at q) in (sym is, of-existence (sym (same_field c existence x k (rw e at q))) (rw (sym is) e))
+    | holds e ↦ let is = same_object c existence x k (rw e at q) in (sym is, of_existence (sym (same_field c existence x k (rw e at q))) (rw (sym is) e))
     | fails e ↦ absurd (none_on x k (rw e at q))
   ]
   unseen_reason i c x k fate.Discard q = elim (truth (eqb (script c) unknown)) [
-    | holds e ↦ let is = same_object c existence x k (rw e at q) in (sym is, of-existence (sym (same_field c existence x k (rw e at q))) (rw (sym is) e))
+    | holds e ↦ let is = same_object c existence x k (rw e at q) in (sym is, of_existence (sym (same_field c existence x k (rw e at q))) (rw (sym is) e))
     | fails e ↦ absurd (none_on x k (rw e at q))
   ]
 
@@ -137,7 +137,7 @@ module _ (s current cache : List ℕ) (u : Bool) (level : ℕ) where
       ]
 
       by : Reason i x k → known_at cache x k ≡ false
-      by (of-existence is e) = rw is (unseen-unknown (is_own s false level x) u e)
+      by (of_existence is e) = rw is (unseen-unknown (is_own s false level x) u e)
       by (of_field a is e own shut) = shut
 
 -- no SEND waits to be made
@@ -205,17 +205,17 @@ module _ (s current cache cache' : List ℕ) (u u' : Bool) (level o : ℕ) (i : 
   field_told field same known = by (pause_reason s current cache u level o i x k first).1 (pause_reason s current cache' u' level o i x' k' then).1
     where
       by : Reason s current cache u level i x k → Reason s current cache' u' level i x' k' → ⊥
-      by (of-existence e z) r = field e
-      by (of_field a is seen own shut) (of-existence e z) =
+      by (of_existence e z) r = field e
+      by (of_field a is seen own shut) (of_existence e z) =
           not_both (eqb (script_found current cache (is_own s false level x) u x) unknown) (ap (λ n. eqb n unknown) (sym same) ∙ subst (λ x. eqb (script_found current cache' (is_own s false level x) u' x) unknown ≡ true) same_target z) seen
       by (of_field a is seen own shut) (of_field a' is' seen' own' shut') =
-          let k-is = same_read a' k' a k (sym is' ∙ is) in
-          not_both (known_at cache' x k) known (rw (same_target, k-is) at shut')
+          let k_is = same_read a' k' a k (sym is' ∙ is) in
+          not_both (known_at cache' x k) known (rw (same_target, k_is) at shut')
 
   module _ (small : Small current) (small' : Small cache') (few : x' < max_numbers) (seen : known_at cache' x existence ≡ true) where
     -- told existence it waits for a field of that object at most
-    pub existence-told : k' ≡ existence → ⊥
-    existence-told e =
+    pub existence_told : k' ≡ existence → ⊥
+    existence_told e =
         let shut = pause_unknown s current cache' u' level o i x' k' small small' few then in
         not_both (known_at cache' x existence) seen (rw (same_target, e) at shut)
 
@@ -224,11 +224,11 @@ module _ (s current cache cache' : List ℕ) (u u' : Bool) (level o : ℕ) (i : 
     both_told field known = by (pause_reason s current cache u level o i x k first).1 (pause_reason s current cache' u' level o i x' k' then).1
       where
         by : Reason s current cache u level i x k → Reason s current cache' u' level i x' k' → ⊥
-        by (of-existence e z) r = field e
-        by (of_field a is seen own shut) (of-existence e z) = existence-told e
+        by (of_existence e z) r = field e
+        by (of_field a is seen own shut) (of_existence e z) = existence_told e
         by (of_field a is seen own shut) (of_field a' is' seen' own' shut') =
-            let k-is = same_read a' k' a k (sym is' ∙ is) in
-            not_both (known_at cache' x k) known (rw (same_target, k-is) at shut')
+            let k_is = same_read a' k' a k (sym is' ∙ is) in
+            not_both (known_at cache' x k) known (rw (same_target, k_is) at shut')
 
 -- the script that is found depends on what is known of existence
 pub script_same : (current cache cache' : List ℕ) (own u : Bool) (x : ℕ) → known_at cache' x existence ≡ known_at cache x existence → field_at cache' x existence ≡ field_at cache x existence → script_found current cache' own u x ≡ script_found current cache own u x

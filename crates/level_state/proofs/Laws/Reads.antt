@@ -50,25 +50,25 @@ module _ {ended tallies queue : List ℕ} {l j : ℕ} (q : BoundReady ended tall
 
   -- where it carries none, the end stamp is, and fits 16 bits
   module _ {stamp r : ℕ} (stamped : (n : ℕ) → (running_fork n tallies queue l).stamp ≡ stamp) (is : r ≡ end_before stamp (histories_at ended j (get_or tallies j 0))) where
-    pub bound-fits : r < 2 ^ 16
-    bound-fits = rw (is, sym (stamped 0)) q.fits
+    pub bound_fits : r < 2 ^ 16
+    bound_fits = rw (is, sym (stamped 0)) q.fits
 
-    pub bound-ended : {c : ℕ} → ((n : ℕ) → j < n → get_or (running_fork n tallies queue l).carried j 0 ≡ c) → c ≡ 0 → (n : ℕ) → j < n → bound_in n ended tallies queue l j ≡ r
-    bound-ended {c = c} carries z n h = rw (carries n h, eq-eqb c 0 z, stamped n) (sym is)
+    pub bound_ended : {c : ℕ} → ((n : ℕ) → j < n → get_or (running_fork n tallies queue l).carried j 0 ≡ c) → c ≡ 0 → (n : ℕ) → j < n → bound_in n ended tallies queue l j ≡ r
+    bound_ended {c = c} carries z n h = rw (carries n h, eq-eqb c 0 z, stamped n) (sym is)
 
 -- the words represent a state that a run reaches; j is any level
 module _ {s masks : List ℕ} (a : Leveled s masks) {w : Words} {ms : ℕ → Manager} {st : State} (y : RunInvariant s w ms st) {j : ℕ} (h : j < level_count s) where
-  abbrev level-represents : LevelRepresents (level_count s) w j (ms j) (level_at st j)
-  level-represents = y.represents.level j h
+  abbrev level_represents : LevelRepresents (level_count s) w j (ms j) (level_at st j)
+  level_represents = y.represents.level j h
 
   live : ReachedState s st
   live = invariant_live s a.accepted w ms st y
 
   ended_are : histories_at w.ended j (get_or w.tallies j 0) ≡ (level_at st j).ended
-  ended_are = ap (histories_at w.ended j) level-represents.ended_count ∙ level-represents.ended
+  ended_are = ap (histories_at w.ended j) level_represents.ended_count ∙ level_represents.ended
 
   versions_are : log_of w.work (log_start j) (get_or w.tallies (versions_place j) 0) ≡ (level_at st j).versions
-  versions_are = ap (log_of w.work (log_start j)) level-represents.version_count ∙ level-represents.versions
+  versions_are = ap (log_of w.work (log_start j)) level_represents.version_count ∙ level_represents.versions
 
   -- so the bound is the definition's
   bound_is : (l : ℕ) → bound_in (level_count s) w.ended w.tallies w.queue l j ≡ read_bound (running_fork (level_count s) w.tallies w.queue l) st j
@@ -82,7 +82,7 @@ module _ {s masks : List ℕ} (a : Leveled s masks) {w : Words} {ms : ℕ → Ma
       record {
         there = there;
         level = small;
-        histories = record { room = y.represents.roomy.ended; level = small; count = y.represents.counts_few j small; rises = rw ended_are level-represents.ended_rises };
+        histories = record { room = y.represents.roomy.ended; level = small; count = y.represents.counts_few j small; rises = rw ended_are level_represents.ended_rises };
         counted = y.represents.roomy.tallies;
         fits = rw ended_are (live-ends s a.accepted st live j h (running_fork 0 w.tallies w.queue l).stamp);
       }
@@ -91,7 +91,7 @@ module _ {s masks : List ℕ} (a : Leveled s masks) {w : Words} {ms : ℕ → Ma
   versions_there k hk =
       record {
         level_present = omega (arith, h, level_limit s a.accepted);
-        fits = omega (arith, level-represents.version_count, live-versions s a.accepted st live j h);
+        fits = omega (arith, level_represents.version_count, live-versions s a.accepted st live j h);
         field_fits = hk;
         long = y.represents.roomy.work;
       }

@@ -176,26 +176,26 @@ module _ (s : List ℕ) (a : verdict_of s ≡ Accepted) (few : level_count s ≤
         depth_any 0 (level_count s) w.queue l (get_or w.tallies l 0)
         ∙ ap (λ y. y.depth) (represents_fork (level_count s) w l (ms l) v (t.level l h) x m runs)
 
-    pub busy-settles : SettleReady w.ended w.tallies w.queue l
-    busy-settles =
+    pub busy_settles : SettleReady w.ended w.tallies w.queue l
+    busy_settles =
         settle_ready (level_count s) w l (ms l) v (t.level l h) t.roomy (omega (arith, h, few)) (busy_fewer v x m runs (limits l h))
 
     -- what its script step does outside it can be done
-    pub effect-ready : (read : ℕ → ℕ → Value) (e : Effect) → (stepped (program_of s) read m).effect ≡ e → EffectReady w.current w.tallies w.queue w.work l m.forks e
-    effect-ready read effect.Nothing is = tt
-    effect-ready read (effect.Write ws) is =
+    pub effect_ready : (read : ℕ → ℕ → Value) (e : Effect) → (stepped (program_of s) read m).effect ≡ e → EffectReady w.current w.tallies w.queue w.work l m.forks e
+    effect_ready read effect.Nothing is = tt
+    effect_ready read (effect.Write ws) is =
         let f = live-write s a st i l h x m runs read ws is in
         (numbers ws f.1, (t.roomy.current, (omega (arith, (t.level l h).version_count, f.0), (t.roomy.work, (omega (arith, h, few), t.roomy.tallies)))))
       where
         numbers : (ws : List Written) → Each (λ w. ((program_of s).level w.object ≡ l) × (Numbered s w.object × (w.field ≤ existence))) ws → Each (λ w. (w.object < max_numbers) × (w.field ≤ existence)) ws
         numbers [] e = tt
         numbers (w ∷ ws) e = ((number_few s a w.object e.0.1.0, e.0.1.1), numbers ws e.1)
-    effect-ready read (effect.Fork u message) is =
+    effect_ready read (effect.Fork u message) is =
         let f = live-fork s a st i l h x m runs read u message is in
         let q = t.level u f.0 in
         let started = started_is (level_count s) w u (ms u) (level_at st u) q in
         record {
-          there = busy-settles.there;
+          there = busy_settles.there;
           room = record {
             room = t.roomy.queue;
             level = omega (arith, f.0, few);

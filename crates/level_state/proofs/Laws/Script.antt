@@ -31,7 +31,7 @@ use Rattle.theorems.proofs.Laws.Code.Goals.{live-runs}
 use Rattle.level_state.specs.Representation.{Words}
 use Rattle.level_state.specs.Steps.{Tables, Busy, running_fork, Readable, ReadReady}
 use Rattle.level_state.specs.Script.{Blank, RunsAt, StepIs}
-use Rattle.level_state.proofs.Laws.Ready.{represents_fork, busy-settles}
+use Rattle.level_state.proofs.Laws.Ready.{represents_fork, busy_settles}
 use Rattle.level_state.proofs.Laws.Step.{invariant_live}
 use Rattle.level_state.proofs.Laws.Seen.{Seeing, current_scripted, cache_scripted, agrees}
 use Rattle.level_state.proofs.Laws.Asks.{asks, changes, not_asks, Asking, asked}
@@ -85,7 +85,7 @@ module _ {s masks index : List ℕ} {w : Words} {l : ℕ} {m : code.Manager} (a 
         state = b.state;
         invariant = b.busy.invariant;
         present = b.busy.present;
-        there = (busy-settles s yes (level_limit s yes) (object_limit s yes) w b.running b.state b.busy.invariant.represents (invariant_live s yes w b.running b.state b.busy.invariant) l b.busy.present b.fork (manager_of m) b.busy.runs).there;
+        there = (busy_settles s yes (level_limit s yes) (object_limit s yes) w b.running b.state b.busy.invariant.represents (invariant_live s yes w b.running b.state b.busy.invariant) l b.busy.present b.fork (manager_of m) b.busy.runs).there;
       }
 
   module _ {cache : List ℕ} {u : Bool} (see : Seeing s w l cache u) where
@@ -103,11 +103,11 @@ module _ {s masks index : List ℕ} {w : Words} {l : ℕ} {m : code.Manager} (a 
           running = running;
         }
 
-    pub small-current : Small w.current
-    small-current = scripted_small s w.current (object_limit s yes) (current_scripted a.leveled b.busy.invariant b.fork)
+    pub small_current : Small w.current
+    small_current = scripted_small s w.current (object_limit s yes) (current_scripted a.leveled b.busy.invariant b.fork)
 
-    pub small-cache : Small cache
-    small-cache = scripted_small s cache (object_limit s yes) (cache_scripted a.leveled b.busy.invariant see)
+    pub small_cache : Small cache
+    small_cache = scripted_small s cache (object_limit s yes) (cache_scripted a.leveled b.busy.invariant see)
 
     -- what it sees is what the definition reads
     pub sees : {ms : ℕ → Manager} {st : State} {x : Fork} → Busy s w l ms st x (manager_of m) → Agrees s w.current cache false u m.core.level (read_at (program_of s) st l x)

@@ -24,7 +24,7 @@ use Rattle.histories.specs.Histories.{histories_at, InOrder, history_of}
 use Rattle.queues.specs.Queue.{fork_at, forks_at}
 use Rattle.queues.proofs.Laws.Queue.{stamp_any}
 use Rattle.tallies.specs.Places.{next_place, waiting_place, versions_place, busy_place, tally_numbers, tallied, changes_place, all_changes_place}
-use Rattle.tallies.proofs.Laws.Closed.{tallied-length, tallied_other, tallied-count, tallied_next}
+use Rattle.tallies.proofs.Laws.Closed.{tallied-length, tallied_other, tallied_count, tallied_next}
 use Rattle.level_state.specs.Representation.{Words, Runs, LevelRepresents, Represents, placed}
 use Rattle.level_state.specs.Steps.{Closed, Settled}
 use Rattle.level_state.proofs.Laws.Representation.{Limited, SameAt, busy_fewer, field_kept, represents_change}
@@ -65,8 +65,8 @@ pub placed_other : (l : ℕ) (m : Manager) (ms : ℕ → Manager) (k : ℕ) → 
 placed_other l m ms k d = rw (ne_eqb k l d) refl
 
 module _ (s : List ℕ) (w : Words) (ms : ℕ → Manager) (st : State) (t : Represents s w ms st) (b : (k : ℕ) → k < level_count s → Limited (level_at st k)) (few : level_count s ≤ max_levels) (l : ℕ) (h : l < level_count s) (x : Fork) (y : Manager) (runs : (level_at st l).activity ≡ busy x y) (ended' tallies' : List ℕ) (m : Manager) where
-  abbrev pub wordsSettled : Words
-  wordsSettled =
+  abbrev pub words_settled : Words
+  words_settled =
       record { current = w.current; ended = ended'; tallies = tallies'; queue = w.queue; work = w.work }
 
   abbrev n : ℕ
@@ -75,8 +75,8 @@ module _ (s : List ℕ) (w : Words) (ms : ℕ → Manager) (st : State) (t : Rep
   abbrev v : Level
   v = level_at st l
 
-  abbrev pub settledLevel : Level → Level
-  settledLevel v = after v v.waiting v.versions x m
+  abbrev pub settled_level : Level → Level
+  settled_level v = after v v.waiting v.versions x m
 
   -- what the words say of the manager that has made the step, and of its fork
   was_busy : (get_or w.tallies (busy_place l) 0 ≡ 1) × (fork_at n w.queue l (length v.ended) ≡ x)
@@ -93,8 +93,8 @@ module _ (s : List ℕ) (w : Words) (ms : ℕ → Manager) (st : State) (t : Rep
     tally : (j : ℕ) → get_or tallies' j 0 ≡ get_or w.tallies j 0
     tally j = ap (λ t. get_or t j 0) same-tallies
 
-    same-running : (j : ℕ) → SameAt w wordsSettled j
-    same-running j =
+    same_running : (j : ℕ) → SameAt w words_settled j
+    same_running j =
         record {
           ended_count = tally j;
           next = tally (next_place j);
@@ -109,11 +109,11 @@ module _ (s : List ℕ) (w : Words) (ms : ℕ → Manager) (st : State) (t : Rep
           all_changes = λ z. sym (tally all_changes_place) ∙ z;
         }
 
-    waiting-at : forks_at n w.queue l (length v.ended + 1) (length v.waiting) ≡ v.waiting
-    waiting-at = ap (λ k. forks_at n w.queue l k (length v.waiting)) (sym started) ∙ (t.level l h).waiting
+    waiting_at : forks_at n w.queue l (length v.ended + 1) (length v.waiting) ≡ v.waiting
+    waiting_at = ap (λ k. forks_at n w.queue l k (length v.waiting)) (sym started) ∙ (t.level l h).waiting
 
-    own-running : LevelRepresents n wordsSettled l m (running_on v x m)
-    own-running =
+    own_running : LevelRepresents n words_settled l m (running_on v x m)
+    own_running =
         let q = t.level l h in
         record {
           ended_count = tally l ∙ q.ended_count;
@@ -121,7 +121,7 @@ module _ (s : List ℕ) (w : Words) (ms : ℕ → Manager) (st : State) (t : Rep
           ended_rises = q.ended_rises;
           next = tally (next_place l) ∙ q.next;
           waiting_count = tally (waiting_place l) ∙ q.waiting_count;
-          waiting = waiting-at;
+          waiting = waiting_at;
           waiting_rises = rw (sym started) q.waiting_rises;
           version_count = tally (versions_place l) ∙ q.version_count;
           versions = q.versions;
@@ -130,9 +130,9 @@ module _ (s : List ℕ) (w : Words) (ms : ℕ → Manager) (st : State) (t : Rep
           unchanged_any = λ z. q.unchanged_any (sym (tally all_changes_place) ∙ z);
         }
 
-    represents-running : Represents s wordsSettled (placed l m ms) (modify l settledLevel st)
-    represents-running =
-        represents_change s w wordsSettled ms (placed l m ms) st t b l h settledLevel
+    represents_running : Represents s words_settled (placed l m ms) (modify l settled_level st)
+    represents_running =
+        represents_change s w words_settled ms (placed l m ms) st t b l h settled_level
         (record {
           current = t.roomy.current;
           ended = rw same_ended t.roomy.ended;
@@ -141,9 +141,9 @@ module _ (s : List ℕ) (w : Words) (ms : ℕ → Manager) (st : State) (t : Rep
           work = t.roomy.work;
         })
         (λ j hj. rw (tally j) (t.counts_few j hj))
-        (field_kept s w wordsSettled ms ms st t b l h settledLevel (λ v. after_versions v x m))
-        (rw (placed_own l m ms, after_runs v x m e) own-running)
-        (λ j hj d. same-running j)
+        (field_kept s w words_settled ms ms st t b l h settled_level (λ v. after_versions v x m))
+        (rw (placed_own l m ms, after_runs v x m e) own_running)
+        (λ j hj d. same_running j)
         (λ j d. placed_other l m ms j d)
 
   -- it has ended
@@ -166,15 +166,15 @@ module _ (s : List ℕ) (w : Words) (ms : ℕ → Manager) (st : State) (t : Rep
     long : tally_numbers ≤ length t2
     long = rw (tallied-length l one (m.stamp + 1) w.tallies) t.roomy.tallies
 
-    tally-ended : get_or tallies' l 0 ≡ length v.ended + 1
-    tally-ended =
+    tally_ended : get_or tallies' l 0 ≡ length v.ended + 1
+    tally_ended =
         ap (λ t. get_or t l 0) c.tallies_are
         ∙ get_or-set_other t2 (busy_place l) l 0 0 (λ q. omega (arith, q, h, few))
-        ∙ tallied-count l one (m.stamp + 1) w.tallies small t.roomy.tallies
+        ∙ tallied_count l one (m.stamp + 1) w.tallies small t.roomy.tallies
         ∙ ap (λ k. k + 1) (t.level l h).ended_count
 
-    tally-next : get_or tallies' (next_place l) 0 ≡ m.stamp + 1
-    tally-next =
+    tally_next : get_or tallies' (next_place l) 0 ≡ m.stamp + 1
+    tally_next =
         ap (λ t. get_or t (next_place l) 0) c.tallies_are
         ∙ get_or-set_other t2 (busy_place l) (next_place l) 0 0 (λ q. omega (arith, q, h, few))
         ∙ tallied_next l one (m.stamp + 1) w.tallies small t.roomy.tallies
@@ -184,8 +184,8 @@ module _ (s : List ℕ) (w : Words) (ms : ℕ → Manager) (st : State) (t : Rep
         ap (λ t. get_or t (busy_place l) 0) c.tallies_are
         ∙ get_or-set_same t2 (busy_place l) 0 0 (omega (arith, long, h, few))
 
-    same-closed : (j : ℕ) → j < level_count s → (j ≡ l → ⊥) → SameAt w wordsSettled j
-    same-closed j hj d =
+    same_closed : (j : ℕ) → j < level_count s → (j ≡ l → ⊥) → SameAt w words_settled j
+    same_closed j hj d =
         record {
           ended_count = tally_other j d (λ q. omega (arith, q, hj, h, few)) (λ q. omega (arith, q, hj, h, few));
           next = tally_other (next_place j) (λ q. omega (arith, q, hj, h, few)) (λ q. d (omega (arith, q))) (λ q. omega (arith, q, hj, h, few));
@@ -215,23 +215,23 @@ module _ (s : List ℕ) (w : Words) (ms : ℕ → Manager) (st : State) (t : Rep
     more : length (inserted (λ h. h.stamp) (history.history_of x m) v.ended) ≡ length v.ended + 1
     more = inserted-length (λ h. h.stamp) (history.history_of x m) v.ended
 
-    rises-own : InOrder (inserted (λ h. h.stamp) (history.history_of x m) v.ended)
-    rises-own = rw (sym ended_own, sym (t.level l h).ended_count) c.added.rises
+    rises_own : InOrder (inserted (λ h. h.stamp) (history.history_of x m) v.ended)
+    rises_own = rw (sym ended_own, sym (t.level l h).ended_count) c.added.rises
 
-    started-closed : started_count (closed v x m) ≡ started_count v
-    started-closed = omega (arith, more, started)
+    started_closed : started_count (closed v x m) ≡ started_count v
+    started_closed = omega (arith, more, started)
 
-    own-closed : LevelRepresents n wordsSettled l m (closed v x m)
-    own-closed =
+    own_closed : LevelRepresents n words_settled l m (closed v x m)
+    own_closed =
         let q = t.level l h in
         record {
-          ended_count = tally-ended ∙ sym more;
+          ended_count = tally_ended ∙ sym more;
           ended = ap (histories_at ended' l) more ∙ ended_own;
-          ended_rises = rises-own;
-          next = tally-next;
+          ended_rises = rises_own;
+          next = tally_next;
           waiting_count = tally_other (waiting_place l) (λ q. omega (arith, q, h, few)) (λ q. omega (arith, q, h, few)) (λ q. omega (arith, q, h, few)) ∙ q.waiting_count;
-          waiting = ap (λ k. forks_at n w.queue l k (length v.waiting)) started-closed ∙ q.waiting;
-          waiting_rises = rw started-closed q.waiting_rises;
+          waiting = ap (λ k. forks_at n w.queue l k (length v.waiting)) started_closed ∙ q.waiting;
+          waiting_rises = rw started_closed q.waiting_rises;
           version_count = tally_other (versions_place l) (λ q. omega (arith, q, h, few)) (λ q. omega (arith, q, h, few)) (λ q. omega (arith, q, h, few)) ∙ q.version_count;
           versions = q.versions;
           activity = tally_busy;
@@ -239,15 +239,15 @@ module _ (s : List ℕ) (w : Words) (ms : ℕ → Manager) (st : State) (t : Rep
           unchanged_any = λ z. q.unchanged_any (sym (tally_other all_changes_place (λ q. omega (arith, q, h, few)) (λ q. omega (arith, q, h, few)) (λ q. omega (arith, q, h, few))) ∙ z);
         }
 
-    counts-own : (j : ℕ) → j < max_levels → get_or tallies' j 0 ≤ max_managers
-    counts-own j hj = elim (ℕ_discrete j l) [
-      | yes z ↦ rw (z, tally-ended) (omega (arith, busy_fewer v x y runs (b l h)))
+    counts_own : (j : ℕ) → j < max_levels → get_or tallies' j 0 ≤ max_managers
+    counts_own j hj = elim (ℕ_discrete j l) [
+      | yes z ↦ rw (z, tally_ended) (omega (arith, busy_fewer v x y runs (b l h)))
       | no z ↦ rw (tally_other j z (λ q. omega (arith, q, hj)) (λ q. omega (arith, q, hj))) (t.counts_few j hj)
     ]
 
-    represents-closed : Represents s wordsSettled (placed l m ms) (modify l settledLevel st)
-    represents-closed =
-        represents_change s w wordsSettled ms (placed l m ms) st t b l h settledLevel
+    represents_closed : Represents s words_settled (placed l m ms) (modify l settled_level st)
+    represents_closed =
+        represents_change s w words_settled ms (placed l m ms) st t b l h settled_level
         (record {
           current = t.roomy.current;
           ended = rw c.added.outside.length_same t.roomy.ended;
@@ -255,15 +255,15 @@ module _ (s : List ℕ) (w : Words) (ms : ℕ → Manager) (st : State) (t : Rep
           queue = t.roomy.queue;
           work = t.roomy.work;
         })
-        counts-own
-        (field_kept s w wordsSettled ms ms st t b l h settledLevel (λ v. after_versions v x m))
-        (rw (placed_own l m ms, after_ends v x m e) own-closed)
-        same-closed
+        counts_own
+        (field_kept s w words_settled ms ms st t b l h settled_level (λ v. after_versions v x m))
+        (rw (placed_own l m ms, after_ends v x m e) own_closed)
+        same_closed
         (λ j d. placed_other l m ms j d)
 
   -- the words then say the level after the step
-  pub represents_settle : Settled w.ended ended' w.tallies tallies' w.queue l m → Represents s wordsSettled (placed l m ms) (modify l settledLevel st)
+  pub represents_settle : Settled w.ended ended' w.tallies tallies' w.queue l m → Represents s words_settled (placed l m ms) (modify l settled_level st)
   represents_settle q = elim (truth (is_running m.ending)) [
-    | holds e ↦ represents-running e (q.0 e).0 (q.0 e).1
-    | fails e ↦ represents-closed e (q.1 e)
+    | holds e ↦ represents_running e (q.0 e).0 (q.0 e).1
+    | fails e ↦ represents_closed e (q.1 e)
   ]

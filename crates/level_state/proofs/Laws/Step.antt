@@ -85,8 +85,8 @@ module _ (s : List ℕ) (a : verdict_of s ≡ Accepted) (few : level_count s ≤
 
   -- a step that starts a manager
   module _ (x : Fork) (xs : List Fork) (quiescent : v.activity ≡ idle) (waits : v.waiting ≡ x ∷ xs) (ended' tallies' : List ℕ) (m : Manager) (d : Started s w ended' tallies' l m) where
-    abbrev wordsStarted : Words
-    wordsStarted =
+    abbrev words_started : Words
+    words_started =
         record { current = w.current; ended = ended'; tallies = tallies'; queue = w.queue; work = w.work }
 
     abbrev middle : Words
@@ -99,13 +99,13 @@ module _ (s : List ℕ) (a : verdict_of s ≡ Accepted) (few : level_count s ≤
     abbrev settled : Level → Level
     settled v = after v v.waiting v.versions x m
 
-    at-l : level_at (modify l begun st) l ≡ begun v
-    at-l = at_own s w w ms ms st y.represents limits l h begun
+    at_l : level_at (modify l begun st) l ≡ begun v
+    at_l = at_own s w w ms ms st y.represents limits l h begun
 
-    limits-begun : (k : ℕ) → k < level_count s → Limited (level_at (modify l begun st) k)
-    limits-begun k hk = elim (ℕ_discrete k l) [
+    limits_begun : (k : ℕ) → k < level_count s → Limited (level_at (modify l begun st) k)
+    limits_begun k hk = elim (ℕ_discrete k l) [
       | yes e ↦
-          rw (e, at-l) (record { managers = omega (arith, (limits l h).managers, ap length waits); versions = (limits l h).versions })
+          rw (e, at_l) (record { managers = omega (arith, (limits l h).managers, ap length waits); versions = (limits l h).versions })
       | no z ↦ rw (at_other s w w ms ms st y.represents limits l h begun k z) (limits k hk)
     ]
 
@@ -117,8 +117,8 @@ module _ (s : List ℕ) (a : verdict_of s ≡ Accepted) (few : level_count s ≤
     seen : script_seen (read_at (program_of s) st l x) (first_message w l).object ≡ d.script
     seen = ap (λ z. script_seen (read_at (program_of s) st l z) (first_message w l).object) (sym first_is) ∙ d.seen ms st y
 
-    manager-is : m ≡ started (program_of s) (read_at (program_of s) st l x) l v.next x.message
-    manager-is =
+    manager_is : m ≡ started (program_of s) (read_at (program_of s) st l x) l v.next x.message
+    manager_is =
         d.manager (read_at (program_of s) st l x) seen
         ∙ ap₂ (started (program_of s) (read_at (program_of s) st l x) l) (y.represents.level l h).next (message_any 0 (level_count s) w.queue l (get_or w.tallies l 0) ∙ ap (λ x. x.message) first_is)
 
@@ -127,7 +127,7 @@ module _ (s : List ℕ) (a : verdict_of s ≡ Accepted) (few : level_count s ≤
         modify_twice l settled begun st
         ∙ modify_fixed new_level l (λ v. settled (begun v)) st
         ∙ ap (λ u. modify l (λ _. u) st) (after_any v (begun v) xs v.versions x m refl refl)
-        ∙ ap (λ m. modify l (λ _. after v xs v.versions x m) st) manager-is
+        ∙ ap (λ m. modify l (λ _. after v xs v.versions x m) st) manager_is
         ∙ sym (step_start (program_of s) (sound s a) st i.reachable.steady.fork_invariant i.reachable.steady.contained l (present s l h) x xs quiescent waits)
 
     held : (k : ℕ) → placed l m ms k ≡ placed l m (placed l m ms) k
@@ -136,22 +136,22 @@ module _ (s : List ℕ) (a : verdict_of s ≡ Accepted) (few : level_count s ≤
       | no e ↦ placed_other l m ms k e ∙ sym (placed_other l m (placed l m ms) k e ∙ placed_other l m ms k e)
     ]
 
-    pub invariant-start : RunInvariant s wordsStarted (placed l m ms) (step_at (program_of s) l st)
-    invariant-start =
-        invariant_step s w wordsStarted ms (placed l m ms) st l y ok
-        (represents_state step_is (represents_held s wordsStarted (placed l m (placed l m ms)) (placed l m ms) _ held
-        (represents_settle s middle (placed l m ms) (modify l begun st) (represents_begin s w ms st y.represents limits few l h x xs quiescent waits m) limits-begun few l h x m (ap (λ v. v.activity) at-l) ended' tallies' m d.settled)))
+    pub invariant_start : RunInvariant s words_started (placed l m ms) (step_at (program_of s) l st)
+    invariant_start =
+        invariant_step s w words_started ms (placed l m ms) st l y ok
+        (represents_state step_is (represents_held s words_started (placed l m (placed l m ms)) (placed l m ms) _ held
+        (represents_settle s middle (placed l m ms) (modify l begun st) (represents_begin s w ms st y.represents limits few l h x xs quiescent waits m) limits_begun few l h x m (ap (λ v. v.activity) at_l) ended' tallies' m d.settled)))
 
   -- a step that makes a script step
   module _ (x : Fork) (m : Manager) (runs : v.activity ≡ busy x m) (n : Stepped) (made : stepped (program_of s) (read_at (program_of s) st l x) m ≡ n) (q : Parts) (ended' tallies' : List ℕ) where
     abbrev before : Parts
     before = record { current = w.current; tallies = w.tallies; queue = w.queue; work = w.work }
 
-    abbrev wordsAdvanced : Words
-    wordsAdvanced =
+    abbrev words_advanced : Words
+    words_advanced =
         record { current = q.current; ended = ended'; tallies = tallies'; queue = q.queue; work = q.work }
 
-    pub invariant-advance : EffectDone before q l m.stamp m.forks n.effect → Settled w.ended ended' q.tallies tallies' q.queue l n.manager → RunInvariant s wordsAdvanced (placed l n.manager ms) (step_at (program_of s) l st)
-    invariant-advance d z =
-        invariant_step s w wordsAdvanced ms (placed l n.manager ms) st l y ok
+    pub invariant_advance : EffectDone before q l m.stamp m.forks n.effect → Settled w.ended ended' q.tallies tallies' q.queue l n.manager → RunInvariant s words_advanced (placed l n.manager ms) (step_at (program_of s) l st)
+    invariant_advance d z =
+        invariant_step s w words_advanced ms (placed l n.manager ms) st l y ok
         (represents_advance s a few w ms st y.represents i l h x m runs n made q ended' tallies' d z)

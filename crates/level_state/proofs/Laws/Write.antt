@@ -42,8 +42,8 @@ newest_other i o k o' k' stamp v vs n = elim (ℕ_discrete o o') [
 ]
 
 module _ (s : List ℕ) (w : Words) (ms : ℕ → Manager) (st : State) (t : Represents s w ms st) (b : (k : ℕ) → k < level_count s → Limited (level_at st k)) (few : level_count s ≤ max_levels) (l : ℕ) (h : l < level_count s) (current' tallies' work' : List ℕ) (stamp o k : ℕ) (v : Value) (wrote : Wrote w.current current' w.tallies tallies' w.work work' l stamp o k v) (of_field : (get_or w.tallies (changes_place l) 0 ≡ 0) ⊎ (get_or w.tallies all_changes_place 0 ≡ 0) → k < fields) where
-  abbrev pub wordsWritten : Words
-  wordsWritten =
+  abbrev pub words_written : Words
+  words_written =
       record { current = current'; ended = w.ended; tallies = tallies'; queue = w.queue; work = work' }
 
   abbrev ver : Version
@@ -63,7 +63,7 @@ module _ (s : List ℕ) (w : Words) (ms : ℕ → Manager) (st : State) (t : Rep
       ap (λ t. get_or t (versions_place l) 0) wrote.count
       ∙ get_or-set_same w.tallies (versions_place l) (get_or w.tallies (versions_place l) 0 + 1) 0 (omega (arith, t.roomy.tallies, h, few))
 
-  same : (j : ℕ) → j < level_count s → (j ≡ l → ⊥) → SameAt w wordsWritten j
+  same : (j : ℕ) → j < level_count s → (j ≡ l → ⊥) → SameAt w words_written j
   same j hj d =
       record {
         ended_count = tally_other j (λ e. omega (arith, e, hj, h, few));
@@ -82,11 +82,11 @@ module _ (s : List ℕ) (w : Words) (ms : ℕ → Manager) (st : State) (t : Rep
   abbrev own_level : Level
   own_level = level_at st l
 
-  own_runs : (i : ℕ) (a : Activity) → Runs (level_count s) w l (ms l) i a → Runs (level_count s) wordsWritten l (ms l) i a
+  own_runs : (i : ℕ) (a : Activity) → Runs (level_count s) w l (ms l) i a → Runs (level_count s) words_written l (ms l) i a
   own_runs i idle r = tally_other (busy_place l) (λ e. omega (arith, e, h, few)) ∙ r
   own_runs i (busy x y) r = (tally_other (busy_place l) (λ e. omega (arith, e, h, few)) ∙ r.0, r.1)
 
-  own : LevelRepresents (level_count s) wordsWritten l (ms l) (written own_level)
+  own : LevelRepresents (level_count s) words_written l (ms l) (written own_level)
   own =
       let q = t.level l h in
       record {
@@ -98,14 +98,14 @@ module _ (s : List ℕ) (w : Words) (ms : ℕ → Manager) (st : State) (t : Rep
         waiting = q.waiting;
         waiting_rises = q.waiting_rises;
         version_count = tally_own ∙ ap (λ n. n + 1) q.version_count ∙ omega arith;
-        versions = versions-own;
+        versions = versions_own;
         activity = own_runs (length own_level.ended) own_level.activity q.activity;
         unchanged_own = λ z. let y = sym (tally_other (changes_place l) (λ e. omega (arith, e, h, few))) ∙ z in (of_field (inl y), q.unchanged_own y);
         unchanged_any = λ z. let y = sym (tally_other all_changes_place (λ e. omega (arith, e, h, few))) ∙ z in (of_field (inr y), q.unchanged_any y);
       }
     where
-      versions-own : log_of work' (log_start l) (length (ver ∷ own_level.versions)) ≡ ver ∷ own_level.versions
-      versions-own =
+      versions_own : log_of work' (log_start l) (length (ver ∷ own_level.versions)) ≡ ver ∷ own_level.versions
+      versions_own =
           let q = t.level l h in
           ap (log_of work' (log_start l)) (more q.version_count)
           ∙ wrote.version.log
@@ -119,7 +119,7 @@ module _ (s : List ℕ) (w : Words) (ms : ℕ → Manager) (st : State) (t : Rep
   field_is lies o' k' ho hk = by (ℕ_discrete o' o) (ℕ_discrete k' k)
     where
       here : (o' : ℕ) → (program_of s).level o' ≡ l → (level_at (modify l written st) ((program_of s).level o')).versions ≡ ver ∷ (level_at st ((program_of s).level o')).versions
-      here o' e = rw e (ap (λ v. v.versions) (at_own s w wordsWritten ms ms st t b l h written))
+      here o' e = rw e (ap (λ v. v.versions) (at_own s w words_written ms ms st t b l h written))
 
       other : (o' k' : ℕ) → o' < max_numbers → k' ≤ existence → (o' ≡ o → k' ≡ k → ⊥) → field_at current' o' k' ≡ newest (initially (program_of s) o' k') o' k' (level_at (modify l written st) ((program_of s).level o')).versions
       other o' k' ho hk d =
@@ -129,7 +129,7 @@ module _ (s : List ℕ) (w : Words) (ms : ℕ → Manager) (st : State) (t : Rep
             | yes e ↦
                 sym (ap (newest (initially (program_of s) o' k') o' k') (here o' e) ∙ newest_other (initially (program_of s) o' k') o k o' k' stamp v (level_at st ((program_of s).level o')).versions d)
             | no e ↦
-                sym (ap (λ v. newest (initially (program_of s) o' k') o' k' v.versions) (at_other s w wordsWritten ms ms st t b l h written ((program_of s).level o') e))
+                sym (ap (λ v. newest (initially (program_of s) o' k') o' k' v.versions) (at_other s w words_written ms ms st t b l h written ((program_of s).level o') e))
           ]
 
       by : Dec (o' ≡ o) → Dec (k' ≡ k) → field_at current' o' k' ≡ newest (initially (program_of s) o' k') o' k' (level_at (modify l written st) ((program_of s).level o')).versions
@@ -139,9 +139,9 @@ module _ (s : List ℕ) (w : Words) (ms : ℕ → Manager) (st : State) (t : Rep
       by (yes x) (no y) = other o' k' ho hk (λ _ z. y z)
 
   -- the words then say that the level has one more version
-  pub represents_write : (program_of s).level o ≡ l → Represents s wordsWritten ms (modify l written st)
+  pub represents_write : (program_of s).level o ≡ l → Represents s words_written ms (modify l written st)
   represents_write lies =
-      represents_change s w wordsWritten ms ms st t b l h written
+      represents_change s w words_written ms ms st t b l h written
       (record {
         current = rw wrote.field.outside.length_same t.roomy.current;
         ended = t.roomy.ended;

@@ -24,7 +24,7 @@ use Rattle.model.specs.Step.{State, level_at}
 use Rattle.lists.proofs.Laws.Changed.{modify_twice}
 use Rattle.versions.specs.Log.{max_versions}
 use Rattle.tallies.specs.Places.{next_place, waiting_place, versions_place, busy_place, changes_place, all_changes_place, tally_numbers, changed, unchanged_at, unchanged}
-use Rattle.tallies.proofs.Laws.Changed.{changed-length, changed_other, changed-here, changed-all}
+use Rattle.tallies.proofs.Laws.Changed.{changed-length, changed_other, changed_here, changed-all}
 use Rattle.level_state.specs.Representation.{Words, Represents}
 use Rattle.level_state.specs.Steps.{touches, Parts, WroteAll, noted}
 use Rattle.level_state.proofs.Laws.Representation.{Limited, SameAt, at_own, at_other, represents_same}
@@ -93,14 +93,14 @@ module _ (s : List ℕ) (few : level_count s ≤ max_levels) (ms : ℕ → Manag
             fork = λ n i q. refl;
             log = λ c q. refl;
             changes = λ z. elim (ℕ_discrete j l) [
-              | yes e ↦ absurd (not_both (unchanged_at (changed l a.tallies) l) (ap (λ n. eqb n 0) (rw e at z)) (changed-here l a.tallies small t.roomy.tallies))
+              | yes e ↦ absurd (not_both (unchanged_at (changed l a.tallies) l) (ap (λ n. eqb n 0) (rw e at z)) (changed_here l a.tallies small t.roomy.tallies))
               | no d ↦ sym (other (changes_place j) (λ e. d (omega (arith, e))) (λ e. omega (arith, e, hj, few))) ∙ z
             ];
             all_changes = λ z. absurd (not_both (unchanged (changed l a.tallies)) (ap (λ n. eqb n 0) z) (changed-all l a.tallies small t.roomy.tallies));
           }
 
-      with-note : Represents s marked ms st
-      with-note =
+      with_note : Represents s marked ms st
+      with_note =
           record {
             roomy = record { current = t.roomy.current; ended = t.roomy.ended; tallies = rw (changed-length l a.tallies) t.roomy.tallies; queue = t.roomy.queue; work = t.roomy.work };
             counts_few = λ j hj. rw (other j (λ e. omega (arith, e, hj)) (λ e. omega (arith, e, hj))) (t.counts_few j hj);
@@ -110,7 +110,7 @@ module _ (s : List ℕ) (few : level_count s ≤ max_levels) (ms : ℕ → Manag
           }
 
       by : (x : Bool) → Represents s (words_with ended (record { current = a.current; tallies = cond x (changed l a.tallies) a.tallies; queue = a.queue; work = a.work })) ms st
-      by true = with-note
+      by true = with_note
       by false = t
 
   -- what is noted is not touched by writes
@@ -164,7 +164,7 @@ noted_each a l ws h room = by (touches ws) refl
     marked (w ∷ ws) = ((λ z. absurd (never z)), marked ws)
       where
         never : (get_or (changed l a.tallies) (changes_place l) 0 ≡ 0) ⊎ (get_or (changed l a.tallies) all_changes_place 0 ≡ 0) → ⊥
-        never (inl z) = not_both (unchanged_at (changed l a.tallies) l) (ap (λ n. eqb n 0) z) (changed-here l a.tallies h room)
+        never (inl z) = not_both (unchanged_at (changed l a.tallies) l) (ap (λ n. eqb n 0) z) (changed_here l a.tallies h room)
         never (inr z) = not_both (unchanged (changed l a.tallies)) (ap (λ n. eqb n 0) z) (changed-all l a.tallies h room)
 
     by : (x : Bool) → touches ws ≡ x → Each (Noted (cond x (changed l a.tallies) a.tallies) l) ws

@@ -12,7 +12,7 @@ use Rattle.cores.specs.declared.Effect.{Effect}
 use Rattle.cores.specs.declared.Effect.TheVariants as act
 use Rattle.cores.specs.contracts.Effect as declared
 use Rattle.level_state.specs.Steps.{Parts}
-use Rattle.level_state.proofs.Laws.Made.{performed_nothing, write-ready, performed-write, forks-some, fork-ready, performed-fork}
+use Rattle.level_state.proofs.Laws.Made.{performed_nothing, write_ready, performed_write, forks_some, fork_ready, performed_fork}
 use Rattle.level_steps.proofs.perform.Statement.{statement}
 use Rattle.level_steps.proofs.perform.Tie as tie
 
@@ -36,19 +36,19 @@ write-requires : tie.Need-write-requires
 write-requires c κs =
     let z = c.before.before.before.before.before.before.before.before.before.before in
     let known = c.before.before.before.before.effect.given in
-    write-ready (entry z) z.args.level z.args.first z.args.forks (effect_of z.args.effect) known.0.0 known.0.1.0 known.0.1.1.0 (ap effect_of known.1) z.requires
+    write_ready (entry z) z.args.level z.args.first z.args.forks (effect_of z.args.effect) known.0.0 known.0.1.0 known.0.1.1.0 (ap effect_of known.1) z.requires
 
 sub-made : tie.Need-overflow-sub-made
 sub-made c =
     let z = c.before.before.before.before.before.before.before in
     let known = c.before.effect2.given in
-    omega (arith, forks-some (entry z) z.args.level z.args.first z.args.forks (effect_of z.args.effect) known.0.0 (record { object = known.0.1.0; name = known.0.1.1.0; parameter = known.0.1.1.1.0 }) (ap effect_of known.1) z.requires)
+    omega (arith, forks_some (entry z) z.args.level z.args.first z.args.forks (effect_of z.args.effect) known.0.0 (record { object = known.0.1.0; name = known.0.1.1.0; parameter = known.0.1.1.1.0 }) (ap effect_of known.1) z.requires)
 
 fork-requires : tie.Need-fork-requires
 fork-requires c κs =
     let z = c.before.before.before.before.before.before.before.before.before in
     let known = c.before.before.before.effect2.given in
-    fork-ready (entry z) z.args.level z.args.first z.args.forks (effect_of z.args.effect) known.0.0 (record { object = known.0.1.0; name = known.0.1.1.0; parameter = known.0.1.1.1.0 }) (ap effect_of known.1) z.requires
+    fork_ready (entry z) z.args.level z.args.first z.args.forks (effect_of z.args.effect) known.0.0 (record { object = known.0.1.0; name = known.0.1.1.0; parameter = known.0.1.1.1.0 }) (ap effect_of known.1) z.requires
 
 returns : tie.Need-returns
 returns c =
@@ -56,7 +56,7 @@ returns c =
     let z = at.before.before.before.before.before.before.before.before.before.before.before in
     let known = at.before.before.before.before.before.effect.given in
     let called = at.write in
-    performed-write (entry z) z.args.level z.args.first z.args.forks (effect_of z.args.effect) known.0.0 known.0.1.0 known.0.1.1.0 (ap effect_of known.1) z.requires called.new.0 called.new.1.0 called.new.1.1.0 called.ensures
+    performed_write (entry z) z.args.level z.args.first z.args.forks (effect_of z.args.effect) known.0.0 known.0.1.0 known.0.1.1.0 (ap effect_of known.1) z.requires called.new.0 called.new.1.0 called.new.1.1.0 called.ensures
 
 returns-2 : tie.Need-returns-2
 returns-2 c =
@@ -64,7 +64,7 @@ returns-2 c =
     let z = at.before.before.before.before.before.before.before.before.before.before in
     let known = at.before.before.before.before.effect2.given in
     let called = at.fork in
-    performed-fork (entry z) z.args.level z.args.first z.args.forks (effect_of z.args.effect) known.0.0 (record { object = known.0.1.0; name = known.0.1.1.0; parameter = known.0.1.1.1.0 }) (ap effect_of known.1) called.new.0 called.new.1.0 called.ensures
+    performed_fork (entry z) z.args.level z.args.first z.args.forks (effect_of z.args.effect) known.0.0 (record { object = known.0.1.0; name = known.0.1.1.0; parameter = known.0.1.1.1.0 }) (ap effect_of known.1) called.new.0 called.new.1.0 called.ensures
 
 returns-3 : tie.Need-returns-3
 returns-3 c =

@@ -1,7 +1,7 @@
 -- `level_steps::settle` meets its contract: of a manager that has ended the history is kept, and it counts as ended; one that runs on changes nothing. Assumes nothing.
 use mathlib.Core.Path.{sym, ◌∙◌}
 use borrow.Author.Rules.{rules}
-use Rattle.level_state.proofs.Laws.Made.{core_on, core-room, core-off}
+use Rattle.level_state.proofs.Laws.Made.{core_on, core_room, core_off}
 use Rattle.level_steps.proofs.settle.Statement.{statement}
 use Rattle.level_steps.proofs.settle.Tie as tie
 
@@ -15,7 +15,7 @@ close-requires c κs =
     let at = c.before.before in
     let z = at.before.before.before.before.before.before.before.before in
     let stamp = at.before.stamp_at_lem in (
-      core-room z.args.ended.now z.args.tallies.now z.args.queue.now z.args.level z.args.core stamp.result at.ended.result (sym at.before.before.before.before.is-running.ensures ∙ at.before.before.before.if1.false) stamp.ensures at.ended.ensures z.requires.0,
+      core_room z.args.ended.now z.args.tallies.now z.args.queue.now z.args.level z.args.core stamp.result at.ended.result (sym at.before.before.before.before.is-running.ensures ∙ at.before.before.before.if1.false) stamp.ensures at.ended.ensures z.requires.0,
       z.requires.0.counted,
     )
 
@@ -25,7 +25,7 @@ returns-2 c =
     let z = at.before.before.before.before.before.before.before.before in
     let stamp = at.before.stamp_at_lem in
     let called = c.before.before.before.before.close in
-    core-off z.args.ended.now z.args.tallies.now z.args.queue.now z.args.level z.args.core stamp.result at.ended.result (sym at.before.before.before.before.is-running.ensures ∙ at.before.before.before.if1.false) stamp.ensures at.ended.ensures called.new.0 called.new.1.0 called.ensures
+    core_off z.args.ended.now z.args.tallies.now z.args.queue.now z.args.level z.args.core stamp.result at.ended.result (sym at.before.before.before.before.is-running.ensures ∙ at.before.before.before.if1.false) stamp.ensures at.ended.ensures called.new.0 called.new.1.0 called.ensures
 
 pub settle-spec : {M : Type 1} → statement M
 settle-spec =

@@ -2,7 +2,7 @@
 use mathlib.Core.Path.{◌∙◌}
 use native.Mathlib.Omega.{arith}
 use Rattle.scripts.specs.Existence.{making}
-use Rattle.level_state.proofs.Laws.Made.{room_noted, room_write, room_wrote, made-done}
+use Rattle.level_state.proofs.Laws.Made.{room_noted, room_write, room_wrote, made_done}
 use Rattle.level_writes.proofs.write_made.Statement.{statement}
 use Rattle.level_writes.proofs.write_made.Tie as tie
 
@@ -48,7 +48,7 @@ same-length-3 c =
 
 returns : tie.Need-returns
 returns c =
-    made-done c.before.before.before.before.before.before.before.before.before.before.before.before.before.before.before.before.before.before.before.before.before.before.before.before.before.before.before.before.before.before.before.before.before.before.before.before.before.before.before.before.before.before.before.before.before.before.before.args.tallies.now c.before.before.before.before.before.before.before.before.before.before.before.before.before.before.before.before.before.before.before.before.before.before.before.before.before.before.before.before.before.before.before.before.before.before.before.before.before.before.before.before.before.before.change.ensures c.before.before.before.before.before.before.before.before.before.before.before.before.before.before.before.before.before.before.before.before.before.before.before.before.before.before.before.before.before.before.before.before.before.before.before.before.write.ensures c.before.before.before.before.before.before.before.before.before.before.before.before.before.before.before.before.before.before.before.before.before.before.before.before.before.before.write2.ensures c.before.before.before.before.before.before.before.before.before.before.before.before.before.before.before.before.write3.ensures c.before.before.before.before.before.before.write4.ensures
+    made_done c.before.before.before.before.before.before.before.before.before.before.before.before.before.before.before.before.before.before.before.before.before.before.before.before.before.before.before.before.before.before.before.before.before.before.before.before.before.before.before.before.before.before.before.before.before.before.before.args.tallies.now c.before.before.before.before.before.before.before.before.before.before.before.before.before.before.before.before.before.before.before.before.before.before.before.before.before.before.before.before.before.before.before.before.before.before.before.before.before.before.before.before.before.before.change.ensures c.before.before.before.before.before.before.before.before.before.before.before.before.before.before.before.before.before.before.before.before.before.before.before.before.before.before.before.before.before.before.before.before.before.before.before.before.write.ensures c.before.before.before.before.before.before.before.before.before.before.before.before.before.before.before.before.before.before.before.before.before.before.before.before.before.before.write2.ensures c.before.before.before.before.before.before.before.before.before.before.before.before.before.before.before.before.write3.ensures c.before.before.before.before.before.before.write4.ensures
 
 pub write-made-spec : {M : Type 1} → statement M
 write-made-spec =

@@ -57,20 +57,20 @@ module _ {A : Type 0} where
   pairwise_take R (suc n) (x ∷ xs) e = (each_take (R x) n xs e.0, pairwise_take R n xs e.1)
 
   module _ (key : A → ℕ) where
-    pub each-inserted : (P : A → Type 0) (x : A) → P x → (ys : List A) → Each P ys → Each P (inserted key x ys)
+    pub each_inserted : (P : A → Type 0) (x : A) → P x → (ys : List A) → Each P ys → Each P (inserted key x ys)
     unfolding Each inserted
-    each-inserted P x p [] e = (p, tt)
-    each-inserted P x p (y ∷ ys) e = elim (truth (ltb (key x) (key y))) [
+    each_inserted P x p [] e = (p, tt)
+    each_inserted P x p (y ∷ ys) e = elim (truth (ltb (key x) (key y))) [
       | holds h ↦ rw h (p, e)
-      | fails h ↦ rw h (e.0, each-inserted P x p ys e.1)
+      | fails h ↦ rw h (e.0, each_inserted P x p ys e.1)
     ]
 
-    pub pairwise-inserted : (R : A → A → Type 0) → ((x y : A) → R x y → R y x) → (x : A) (ys : List A) → Each (R x) ys → Pairwise R ys → Pairwise R (inserted key x ys)
+    pub pairwise_inserted : (R : A → A → Type 0) → ((x y : A) → R x y → R y x) → (x : A) (ys : List A) → Each (R x) ys → Pairwise R ys → Pairwise R (inserted key x ys)
     unfolding Each Pairwise inserted
-    pairwise-inserted R s x [] e w = (tt, tt)
-    pairwise-inserted R s x (y ∷ ys) e w = elim (truth (ltb (key x) (key y))) [
+    pairwise_inserted R s x [] e w = (tt, tt)
+    pairwise_inserted R s x (y ∷ ys) e w = elim (truth (ltb (key x) (key y))) [
       | holds h ↦ rw h (e, w)
-      | fails h ↦ rw h (each-inserted (R y) x (s x y e.0) ys w.0, pairwise-inserted R s x ys e.1 w.1)
+      | fails h ↦ rw h (each_inserted (R y) x (s x y e.0) ys w.0, pairwise_inserted R s x ys e.1 w.1)
     ]
 
 -- what is made of each element
@@ -88,7 +88,7 @@ rising_inserted key x (y ∷ ys) w = elim (truth (ltb (key x) (key y))) [
       let less = ltb-true (key x) (key y) h in
       rw h ((omega (arith, less), each_map (λ b. key y ≤ key b) (λ b. key x ≤ key b) (λ b g. omega (arith, less, g)) ys w.0), w)
   | fails h ↦
-      rw h (each-inserted key (λ b. key y ≤ key b) x (ltb-false (key x) (key y) h) ys w.0, rising_inserted key x ys w.1)
+      rw h (each_inserted key (λ b. key y ≤ key b) x (ltb-false (key x) (key y) h) ys w.0, rising_inserted key x ys w.1)
 ]
 
 -- each element passes a test

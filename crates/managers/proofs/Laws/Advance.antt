@@ -291,24 +291,24 @@ module _ (s masks index current cache : List ℕ) (all unchanged : Bool) (limit 
     abbrev shown : ℕ → ℕ → Value
     shown = saying_of s current cache all unchanged c₀.level
 
-    at-hand : Agrees s current cache all unchanged c₀.level shown
-    at-hand = saying_agrees s current cache all unchanged c₀.level
+    at_hand : Agrees s current cache all unchanged c₀.level shown
+    at_hand = saying_agrees s current cache all unchanged c₀.level
 
     alike : (c.level ≡ c₀.level) × (c.first ≡ c₀.first)
     unfolding manager_of
     alike =
-        let a = leads_alike p shown (manager_of m₀) (comes_to p c (below ws (c.height - 1))) (t.leads shown at-hand) in
+        let a = leads_alike p shown (manager_of m₀) (comes_to p c (below ws (c.height - 1))) (t.leads shown at_hand) in
         let b = comes_alike p c (below ws (c.height - 1)) in
         (sym b.0 ∙ a.0, sym b.1 ∙ a.1)
 
-    pub turning-level : c.level ≡ c₀.level
-    turning-level = alike.0
+    pub turning_level : c.level ≡ c₀.level
+    turning_level = alike.0
 
-    pub turning-first : c.first ≡ c₀.first
-    turning-first = alike.1
+    pub turning_first : c.first ≡ c₀.first
+    turning_first = alike.1
 
-    pub turning-operable : c.effect ≡ Nothing → c.steps < limit → Operable s masks current cache c
-    turning-operable q l =
+    pub turning_operable : c.effect ≡ Nothing → c.steps < limit → Operable s masks current cache c
+    turning_operable q l =
         record {
           leveled = t.able.leveled;
           fields_there = t.able.fields_there;
@@ -331,9 +331,9 @@ module _ (s masks index current cache : List ℕ) (all unchanged : Bool) (limit 
       run : is_running c.ending ≡ true
       run = t.sits.runs (nothing_over c.effect q)
 
-      made-here : (read : ℕ → ℕ → Value) → Agrees s current cache all unchanged c₀.level read → Leads p read (manager_of m₀) (comes_to p r (below ws (c.height - 1)))
-      made-here read see =
-          turn_leads s masks current cache all unchanged c r (turning-operable q l) o read (subst (λ i. Agrees s current cache all unchanged i read) (sym turning-level) see) (below ws (c.height - 1)) (enough q) (manager_of m₀) (t.leads read see)
+      made_here : (read : ℕ → ℕ → Value) → Agrees s current cache all unchanged c₀.level read → Leads p read (manager_of m₀) (comes_to p r (below ws (c.height - 1)))
+      made_here read see =
+          turn_leads s masks current cache all unchanged c r (turning_operable q l) o read (subst (λ i. Agrees s current cache all unchanged i read) (sym turning_level) see) (below ws (c.height - 1)) (enough q) (manager_of m₀) (t.leads read see)
 
       stands_here : comes_to p r (below ws (c.height - 1)) ≡ comes_to p r (below ws (r.height - 1))
       stands_here = same_frames p c r ws o.flat o.tall
@@ -359,8 +359,8 @@ module _ (s masks index current cache : List ℕ) (all unchanged : Bool) (limit 
           )
 
       -- no step is made only where the first asks
-      no-early : r.steps ≡ c₀.steps → is_paused s current cache all unchanged c₀ ≡ false → ⊥
-      no-early e shut =
+      no_early : r.steps ≡ c₀.steps → is_paused s current cache all unchanged c₀ ≡ false → ⊥
+      no_early e shut =
           let back : c.steps ≡ c₀.steps = omega (arith, e, grows.0, t.grown) in
           let first = (t.early back shut).1 in
           let unfinished : is_end (next_step p (frame_of c.top)) ≡ false = ap (λ f. is_end (next_step p f)) first ∙ not_end s t.able.indexed.accepted c₀.top t.able.held.top (t.able.held.unfinished t.able.running) in
@@ -370,14 +370,14 @@ module _ (s masks index current cache : List ℕ) (all unchanged : Bool) (limit 
           by (stepped_on n) back first unfinished = omega (arith, e, n, t.grown)
           by (ended x y) back first unfinished = not_both (is_end (next_step (program_of s) (frame_of c.top))) x unfinished
           by (asked x y z) back first unfinished =
-              not_both (is_paused s current cache all unchanged c) z (ap is_pause (pause_same s current cache all unchanged c c₀ turning-level first) ∙ shut)
+              not_both (is_paused s current cache all unchanged c) z (ap is_pause (pause_same s current cache all unchanged c c₀ turning_level first) ∙ shut)
 
-      pub turning-made : Turning s masks index current cache all unchanged limit c₀ ws₀ r ws
-      turning-made =
+      pub turning_made : Turning s masks index current cache all unchanged limit c₀ ws₀ r ws
+      turning_made =
           record {
             able = t.able;
             limited = t.limited;
-            leads = λ read see. subst (Leads p read (manager_of m₀)) stands_here (made-here read see);
+            leads = λ read see. subst (Leads p read (manager_of m₀)) stands_here (made_here read see);
             sits = o.sits;
             present = o.present;
             room = t.room;
@@ -385,24 +385,24 @@ module _ (s masks index current cache : List ℕ) (all unchanged : Bool) (limit 
             asks = asks_here;
             few = omega (arith, grows.1, l);
             grown = omega (arith, grows.0, t.grown);
-            early = λ e shut. absurd (no-early e shut);
+            early = λ e shut. absurd (no_early e shut);
           }
 
       -- each turn makes less
-      pub turning-less : is_done r.effect ≡ true → turns_left r < turns_left c
-      turning-less d = rw q (less_done s current cache all unchanged c r (turning-operable q l).few (some q) o.lower d turned)
+      pub turning_less : is_done r.effect ≡ true → turns_left r < turns_left c
+      turning_less d = rw q (less_done s current cache all unchanged c r (turning_operable q l).few (some q) o.lower d turned)
 
       -- a frame made above the top
       module _ (x u : ℕ) (v : Value) (is : r.effect ≡ Call x u v) (w : Waiting) (aside : (w ≡ aside_from r.top) × Waits s (aside_of w)) (r' : Core) (h : Pushed s r x u v r') where
         still : r.height ≡ c.height
         still = o.tall (rw is refl)
 
-        room-here : r.height < max_frames
-        room-here = subst (λ e. Tall e r.height) is o.sits.tall
+        room_here : r.height < max_frames
+        room_here = subst (λ e. Tall e r.height) is o.sits.tall
 
-        pub turning-pushed : Turning s masks index current cache all unchanged limit c₀ ws₀ r' (set ws (r.height - 1) w)
-        turning-pushed =
-            let tr = turning-made in
+        pub turning_pushed : Turning s masks index current cache all unchanged limit c₀ ws₀ r' (set ws (r.height - 1) w)
+        turning_pushed =
+            let tr = turning_made in
             let height : r'.height ≡ r.height + 1 = ap (λ z. z.height) h.core_is in
             let steps : r'.steps ≡ r.steps = ap (λ z. z.steps) h.core_is in
             let quiet' : r'.effect ≡ Nothing = ap (λ z. z.effect) h.core_is in
@@ -410,7 +410,7 @@ module _ (s masks index current cache : List ℕ) (all unchanged : Bool) (limit 
             let gs = below ws (r.height - 1) in
             let frames : below (set ws (r.height - 1) w) (r'.height - 1) ≡ frame_of r.top ∷ gs =
             ap (λ k. below (set ws (r.height - 1) w) (k - 1)) height
-            ∙ below-pushed ws r.height w (omega (arith, has, still)) (omega (arith, room-here, t.room))
+            ∙ below-pushed ws r.height w (omega (arith, has, still)) (omega (arith, room_here, t.room))
             ∙ ap (λ x. aside_of x ∷ gs) aside.0
             ∙ ap (λ x. x ∷ gs) (set_aside_same s r.top t.able.indexed.accepted o.sits.top) in
             let same : comes_to p r' (below (set ws (r.height - 1) w) (r'.height - 1)) ≡ comes_to p r gs =
@@ -419,34 +419,34 @@ module _ (s masks index current cache : List ℕ) (all unchanged : Bool) (limit 
               able = t.able;
               limited = t.limited;
               leads = λ read see. subst (Leads p read (manager_of m₀)) (sym same) (tr.leads read see);
-              sits = restacked_sits s r r' (r.height + 1) h.core_is h.top_placed tr.sits (rw is refl) (omega arith) (omega (arith, room-here));
+              sits = restacked_sits s r r' (r.height + 1) h.core_is h.top_placed tr.sits (rw is refl) (omega arith) (omega (arith, room_here));
               present = rw quiet' tt;
               room = length-set ws (r.height - 1) w ∙ t.room;
               each = λ k hk. each_pushed k hk (ℕ_discrete k (r.height - 1)) height;
               asks = λ a. absurd (asking_not_nothing r'.effect quiet' a);
               few = omega (arith, steps, tr.few);
               grown = omega (arith, steps, tr.grown);
-              early = λ e shut. absurd (no-early (sym steps ∙ e) shut);
+              early = λ e shut. absurd (no_early (sym steps ∙ e) shut);
             }
           where
             each_pushed : (k : ℕ) → k + 1 < r'.height → Dec (k ≡ r.height - 1) → r'.height ≡ r.height + 1 → Waits s (aside_of (get_or (set ws (r.height - 1) w) k no_waiting))
             each_pushed k hk (yes e) height =
-                rw (e, get_or-set_same ws (r.height - 1) w no_waiting (omega (arith, room-here, t.room))) aside.1
+                rw (e, get_or-set_same ws (r.height - 1) w no_waiting (omega (arith, room_here, t.room))) aside.1
             each_pushed k hk (no ne) height =
-                rw (get_or-set_other ws (r.height - 1) k w no_waiting ne) (turning-made.each k (omega (arith, hk, height, ne)))
+                rw (get_or-set_other ws (r.height - 1) k w no_waiting ne) (turning_made.each k (omega (arith, hk, height, ne)))
 
-        pub pushed-less : turns_left r' < turns_left c
-        pushed-less =
-            rw q (less_pushed s current cache all unchanged c r (turning-operable q l).few (rw is refl) still turned (turns_left r') (rw h.core_is (omega arith)))
+        pub pushed_less : turns_left r' < turns_left c
+        pushed_less =
+            rw q (less_pushed s current cache all unchanged c r (turning_operable q l).few (rw is refl) still turned (turns_left r') (rw h.core_is (omega arith)))
 
       -- the top popped
       module _ (v : Value) (is : r.effect ≡ Pop v) (r' : Core) (h : Popped s r (get_or ws (r.height - 2) no_waiting) v r') where
         two_here : 1 < r.height
         two_here = subst (λ e. Tall e r.height) is o.sits.tall
 
-        pub turning-popped : Turning s masks index current cache all unchanged limit c₀ ws₀ r' ws
-        turning-popped =
-            let tr = turning-made in
+        pub turning_popped : Turning s masks index current cache all unchanged limit c₀ ws₀ r' ws
+        turning_popped =
+            let tr = turning_made in
             let height : r'.height ≡ r.height - 1 = ap (λ z. z.height) h.core_is in
             let steps : r'.steps ≡ r.steps = ap (λ z. z.steps) h.core_is in
             let quiet' : r'.effect ≡ Nothing = ap (λ z. z.effect) h.core_is in
@@ -467,12 +467,12 @@ module _ (s masks index current cache : List ℕ) (all unchanged : Bool) (limit 
               asks = λ a. absurd (asking_not_nothing r'.effect quiet' a);
               few = omega (arith, steps, tr.few);
               grown = omega (arith, steps, tr.grown);
-              early = λ e shut. absurd (no-early (sym steps ∙ e) shut);
+              early = λ e shut. absurd (no_early (sym steps ∙ e) shut);
             }
 
-        pub popped-less : turns_left r' < turns_left c
-        popped-less =
-            rw q (less_popped s current cache all unchanged c r (turning-operable q l).few two_here (o.tall (rw is refl)) turned (turns_left r') (rw h.core_is (omega arith)))
+        pub popped_less : turns_left r' < turns_left c
+        popped_less =
+            rw q (less_popped s current cache all unchanged c r (turning_operable q l).few two_here (o.tall (rw is refl)) turned (turns_left r') (rw h.core_is (omega arith)))
 
 -- a core that goes on has nothing left to do, and steps below the limit
 nothing_at : (e : Effect) → is_nothing e ≡ true → e ≡ Nothing

@@ -23,7 +23,7 @@ use Rattle.managers.specs.Steps.{Changeable, ChangedFrom}
 use Rattle.managers.specs.declared.Manager.{Manager}
 use Rattle.managers.proofs.Laws.Turns.{below_length}
 use Rattle.managers.proofs.Laws.Advance.{stack_some, same_frames}
-use Rattle.managers.proofs.Laws.Closing.{Lowering, left, closed-comes, closed-held}
+use Rattle.managers.proofs.Laws.Closing.{Lowering, left, closed_comes, closed_held}
 
 module _ (s masks index current : List ℕ) (m : Manager) (o : Changeable s masks index current m) where
   abbrev quiet : Core
@@ -80,7 +80,7 @@ module _ (s masks index current : List ℕ) (m : Manager) (o : Changeable s mask
       let some = o.held.live o.running in
       let tall : suc (length gs) ≡ m.core.height = omega (arith, below_length m.waiting (m.core.height - 1), some) in
       let stands : manager_of m ≡ standing m.core gs = ap (bare m.core) (stack_some m.core.height (frame_of m.core.top) gs some) in
-      let here = closed-comes s index m.waiting x.core d low q r is ∙ low.same in
+      let here = closed_comes s index m.waiting x.core d low q r is ∙ low.same in
       record {
         is = λ read own.
             let y = t.is read own gs tall in
@@ -88,7 +88,7 @@ module _ (s masks index current : List ℕ) (m : Manager) (o : Changeable s mask
             (ap (λ z. z.manager) here ∙ sym (ap (λ z. z.manager) (same_frames (program_of s) quiet x.core m.waiting t.stood.flat t.stood.tall)) ∙ y.0)
             y.1
             ∙ ap (stepped (program_of s) read) (sym stands);
-        held = closed-held s index m.waiting x.core d low q r is;
+        held = closed_held s index m.waiting x.core d low q r is;
         level_is = (left s index m.waiting x.core d low q r is).level ∙ low.level_is ∙ t.stood.level_is;
         first_is = (left s index m.waiting x.core d low q r is).first ∙ low.first_is ∙ t.stood.first_is;
       }

@@ -166,33 +166,33 @@ module _ (s index : List ℕ) (ws : List Waiting) (c₀ c : Core) (t : Lowering 
     there : leb c.top.count c.top.next ≡ true
     there = and_left (leb c.top.count c.top.next) (ltb 1 c.height) rest
 
-    pub lowering-two : 1 < c.height
-    lowering-two = ltb-true 1 c.height (and_right (leb c.top.count c.top.next) (ltb 1 c.height) rest)
+    pub lowering_two : 1 < c.height
+    lowering_two = ltb-true 1 c.height (and_right (leb c.top.count c.top.next) (ltb 1 c.height) rest)
 
-    pub lowering-waits : Waits s (aside_of (get_or ws (c.height - 2) no_waiting))
-    lowering-waits = t.each (c.height - 2) (let two = lowering-two in omega arith)
+    pub lowering_waits : Waits s (aside_of (get_or ws (c.height - 2) no_waiting))
+    lowering_waits = t.each (c.height - 2) (let two = lowering_two in omega arith)
 
-    not-asking : is_asking c.effect ≡ false
-    not-asking = elim (truth (is_asking c.effect)) [
+    not_asking : is_asking c.effect ≡ false
+    not_asking = elim (truth (is_asking c.effect)) [
       | holds a ↦ absurd (omega (arith, (t.unfinished a).0, leb-true c.top.count c.top.next there))
       | fails a ↦ a
     ]
 
-    pub lowering-on : (r : Core) → Popped s c (get_or ws (c.height - 2) no_waiting) Nil r → (r' : Core) → r' ≡ causing r c.effect → Lowering s index ws c₀ r'
-    lowering-on r h r' is =
-        let two = lowering-two in
+    pub lowering_on : (r : Core) → Popped s c (get_or ws (c.height - 2) no_waiting) Nil r → (r' : Core) → r' ≡ causing r c.effect → Lowering s index ws c₀ r'
+    lowering_on r h r' is =
+        let two = lowering_two in
         let e : r' ≡ causing (restacked c (c.height - 1) r.top) c.effect = is ∙ ap (λ z. causing z c.effect) h.core_is in
         let height : r'.height ≡ c.height - 1 = ap (λ z. z.height) e in
         let effect' : r'.effect ≡ c.effect = ap (λ z. z.effect) e in
         let over' : is_over r'.effect ≡ false = ap is_over effect' ∙ not_over run in
-        let asking' : is_asking r'.effect ≡ false = ap is_asking effect' ∙ not-asking in
+        let asking' : is_asking r'.effect ≡ false = ap is_asking effect' ∙ not_asking in
         let done' : is_done r'.effect ≡ true = ap is_done effect' ∙ t.done in
         let gs = below ws (c.height - 1 - 1) in
         record {
           indexed = t.indexed;
           same = ap (λ k. comes_to p r' (below ws (k - 1))) height
               ∙ ap (λ z. comes_to p z gs) is
-              ∙ late_comes s c r (get_or ws (c.height - 2) no_waiting) gs (at_end s t.indexed.accepted c.top t.sits.top there) t.done (not_over run) not-asking h
+              ∙ late_comes s c r (get_or ws (c.height - 2) no_waiting) gs (at_end s t.indexed.accepted c.top t.sits.top there) t.done (not_over run) not_asking h
               ∙ ap (comes_to p c) (sym (below-popped ws c.height two))
               ∙ t.same;
           sits = record {
@@ -219,9 +219,9 @@ module _ (s index : List ℕ) (ws : List Waiting) (c₀ c : Core) (t : Lowering 
           unfinished = λ a. absurd (not_both (is_asking r'.effect) a asking');
         }
 
-    pub lowering-less : (r : Core) → Popped s c (get_or ws (c.height - 2) no_waiting) Nil r → (r' : Core) → r' ≡ causing r c.effect → r'.height < c.height
-    lowering-less r h r' is =
-        let two = lowering-two in
+    pub lowering_less : (r : Core) → Popped s c (get_or ws (c.height - 2) no_waiting) Nil r → (r' : Core) → r' ≡ causing r c.effect → r'.height < c.height
+    lowering_less r h r' is =
+        let two = lowering_two in
         let height : r'.height ≡ c.height - 1 = ap (λ z. z.height) (is ∙ ap (λ z. causing z c.effect) h.core_is) in
         omega (arith, height, two)
 
@@ -232,21 +232,21 @@ module _ (s index : List ℕ) (ws : List Waiting) (c₀ c : Core) (t : Lowering 
 
     -- how a core is closed: it had ended; its first frame pops; it runs on; its steps are used up
     pub data Close : Type 0 where
-      was-over : is_running c.ending ≡ false → closed_as c ≡ c → Close
+      was_over : is_running c.ending ≡ false → closed_as c ≡ c → Close
       finishes : is_running c.ending ≡ true → c.height ≡ 1 → is_end (next_step p (frame_of c.top)) ≡ true → closed_as c ≡ stood_as c 0 Finished Nil → Close
       runs_on : is_running c.ending ≡ true → c.top.next < c.top.count → c.steps < max_script_steps → closed_as c ≡ c → Close
       spent : is_running c.ending ≡ true → c.top.next < c.top.count → max_script_steps ≤ c.steps → closed_as c ≡ stood_as c c.height OutOfSteps c.reply → Close
 
-    has-frame : is_running c.ending ≡ true → 0 < c.height
-    has-frame r = t.sits.some (not_over r)
+    has_frame : is_running c.ending ≡ true → 0 < c.height
+    has_frame r = t.sits.some (not_over r)
 
     pub close : Close
     close = elim (truth (is_running c.ending)) [
-      | fails r ↦ was-over r (over_closed c r)
+      | fails r ↦ was_over r (over_closed c r)
       | holds r ↦ elim (truth (leb c.top.count c.top.next)) [
         | holds h ↦
             let low : ltb 1 c.height ≡ false = rw (r, h) at q in
-            finishes r (omega (arith, ltb-false 1 c.height low, has-frame r)) (at_end s t.indexed.accepted c.top t.sits.top h) (closed_last c r h)
+            finishes r (omega (arith, ltb-false 1 c.height low, has_frame r)) (at_end s t.indexed.accepted c.top t.sits.top h) (closed_last c r h)
         | fails h ↦ elim (truth (ltb c.steps max_script_steps)) [
           | holds k ↦
               let few = ltb-true c.steps max_script_steps k in
@@ -264,7 +264,7 @@ module _ (s index : List ℕ) (ws : List Waiting) (c₀ c : Core) (t : Lowering 
 
     settled_is : Close → manager_of (put (closed_as c)) ≡ settled_of p c gs c.effect
     unfolding manager_of below
-    settled_is (was-over r e) = elim (truth (is_over c.effect)) [
+    settled_is (was_over r e) = elim (truth (is_over c.effect)) [
       | holds o ↦ ap (λ z. manager_of (put z)) e ∙ sym (over_settled p c gs c.effect o)
       | fails o ↦ absurd (not_both (is_running c.ending) (t.sits.runs o) r)
     ]
@@ -277,18 +277,18 @@ module _ (s index : List ℕ) (ws : List Waiting) (c₀ c : Core) (t : Lowering 
     settled_is (runs_on r unfinished few e) = elim (truth (is_asking c.effect)) [
       | holds a ↦
           ap (λ z. manager_of (put z)) e
-          ∙ ap (bare c) (stack_some c.height (frame_of c.top) gs (has-frame r))
+          ∙ ap (bare c) (stack_some c.height (frame_of c.top) gs (has_frame r))
           ∙ sym (asking-settled p c gs c.effect a)
       | fails a ↦
           ap (λ z. manager_of (put z)) e
-          ∙ ap (bare c) (stack_some c.height (frame_of c.top) gs (has-frame r))
+          ∙ ap (bare c) (stack_some c.height (frame_of c.top) gs (has_frame r))
           ∙ sym (plain-settled p c gs c.effect t.done (not_over r) a ∙ no_pops p c gs r few (not_end s t.indexed.accepted c.top t.sits.top unfinished))
     ]
     settled_is (spent r unfinished most e) = elim (truth (is_asking c.effect)) [
       | holds a ↦ absurd (omega (arith, most, (t.unfinished a).1))
       | fails a ↦
           ap (λ z. manager_of (put z)) e
-          ∙ ap (λ fs. bare (stood_as c c.height OutOfSteps c.reply) fs) (stack_some c.height (frame_of c.top) gs (has-frame r))
+          ∙ ap (λ fs. bare (stood_as c c.height OutOfSteps c.reply) fs) (stack_some c.height (frame_of c.top) gs (has_frame r))
           ∙ sym (plain-settled p c gs c.effect t.done (not_over r) a ∙ concluded_out p (standing c gs) (frame_of c.top) gs most (not_end s t.indexed.accepted c.top t.sits.top unfinished))
     ]
 
@@ -324,12 +324,12 @@ module _ (s index : List ℕ) (ws : List Waiting) (c₀ c : Core) (t : Lowering 
         }
 
     left_by : (r : Core) → Close → closed_as c ≡ r → Left r
-    left_by r (was-over had e) is =
+    left_by r (was_over had e) is =
         left_as r c.height c.ending c.reply (sym is ∙ e) (omega arith) (λ y. absurd (not_both (is_running c.ending) y had)) (λ _. refl)
     left_by r (finishes run one h e) is =
         left_as r 0 Finished Nil (sym is ∙ e) (omega arith) (λ y. absurd (not_both false y refl)) (λ y. absurd (not_both false y refl))
     left_by r (runs_on run unfinished few e) is =
-        left_as r c.height c.ending c.reply (sym is ∙ e) (omega arith) (λ _. (has-frame run, (unfinished, few))) (λ _. refl)
+        left_as r c.height c.ending c.reply (sym is ∙ e) (omega arith) (λ _. (has_frame run, (unfinished, few))) (λ _. refl)
     left_by r (spent run unfinished most e) is =
         left_as r c.height OutOfSteps c.reply (sym is ∙ e) (omega arith) (λ y. absurd (not_both false y refl)) (λ y. absurd (not_both false y refl))
 
@@ -337,13 +337,13 @@ module _ (s index : List ℕ) (ws : List Waiting) (c₀ c : Core) (t : Lowering 
       pub left : Left r
       left = left_by r close (sym is)
 
-      pub closed-comes : stepped_of (put r) ≡ comes_to p c gs
+      pub closed_comes : stepped_of (put r) ≡ comes_to p c gs
       unfolding comes_to
-      closed-comes =
+      closed_comes =
           ap₂ (λ m x. record { manager = m; effect = effect_of x }) (ap (λ z. manager_of (put z)) is ∙ settled_is close) left.effect
 
-      pub closed-held : WellFormed s (put r)
-      closed-held =
+      pub closed_held : WellFormed s (put r)
+      closed_held =
           let x = left in
           record {
             level = rw x.level t.sits.level;
@@ -361,8 +361,8 @@ module _ (s index : List ℕ) (ws : List Waiting) (c₀ c : Core) (t : Lowering 
           }
 
       -- one that asks runs on as it was
-      pub closed-asks : is_asking c.effect ≡ true → r ≡ c
-      closed-asks a =
+      pub closed_asks : is_asking c.effect ≡ true → r ≡ c
+      closed_asks a =
           let over : is_over c.effect ≡ false = asking_lasts c.effect a in
           let run = t.sits.runs over in
           let g = t.unfinished a in

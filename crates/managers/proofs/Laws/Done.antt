@@ -25,8 +25,8 @@ use Rattle.managers.specs.Manager.{manager_of, stepped_of}
 use Rattle.managers.specs.Steps.{Leads, WellFormed, Advanceable, Advanced, Stepped, is_paused}
 use Rattle.managers.specs.declared.Manager.{Manager}
 use Rattle.managers.proofs.Laws.Leads.{leads_one, Steps, none, some, leads_steps}
-use Rattle.managers.proofs.Laws.Advance.{saying_of, saying_agrees, pause_same, Turning, stack_some, turning-level, turning-first}
-use Rattle.managers.proofs.Laws.Closing.{Lowering, left, closed-comes, closed-held, closed-asks, closed_over, asking_lasts}
+use Rattle.managers.proofs.Laws.Advance.{saying_of, saying_agrees, pause_same, Turning, stack_some, turning_level, turning_first}
+use Rattle.managers.proofs.Laws.Closing.{Lowering, left, closed_comes, closed_held, closed_asks, closed_over, asking_lasts}
 
 nothing_is : (e : Effect) → e ≡ Nothing → is_nothing e ≡ true
 nothing_is e q = rw q refl
@@ -62,7 +62,7 @@ module _ (s masks index current cache : List ℕ) (all unchanged : Bool) (limit 
   stays : is_asking c.effect ≡ true → r ≡ c
   stays a =
       let b : is_asking d.effect ≡ true = ap is_asking low.effect_is ∙ a in
-      closed-asks s index ws c d low q r is b ∙ low.asks b
+      closed_asks s index ws c d low q r is b ∙ low.asks b
 
   asks_here : is_asking r.effect ≡ true → (is_running r.ending ≡ true) × (pause_of s current cache all unchanged r ≡ asking r.effect)
   asks_here a =
@@ -91,10 +91,10 @@ module _ (s masks index current cache : List ℕ) (all unchanged : Bool) (limit 
       let x = left s index ws c d low q r is in
       record {
         leads = λ read see.
-            subst (Leads p read (manager_of m₀)) (sym (closed-comes s index ws c d low q r is ∙ low.same)) (t.leads read see);
-        held = closed-held s index ws c d low q r is;
-        level_is = x.level ∙ low.level_is ∙ turning-level s masks index current cache all unchanged limit c₀ ws₀ c ws t;
-        first_is = x.first ∙ low.first_is ∙ turning-first s masks index current cache all unchanged limit c₀ ws₀ c ws t;
+            subst (Leads p read (manager_of m₀)) (sym (closed_comes s index ws c d low q r is ∙ low.same)) (t.leads read see);
+        held = closed_held s index ws c d low q r is;
+        level_is = x.level ∙ low.level_is ∙ turning_level s masks index current cache all unchanged limit c₀ ws₀ c ws t;
+        first_is = x.first ∙ low.first_is ∙ turning_first s masks index current cache all unchanged limit c₀ ws₀ c ws t;
         present = subst (Present s) (sym effect_is) t.present;
         done = ap is_done x.effect ∙ low.done;
         asks = asks_here;
@@ -188,10 +188,10 @@ module _ (s current cache : List ℕ) (unchanged : Bool) (m r : Manager) (h : We
   -- one that is asked for leaves the manager as it was
   unmoved : is_asking r.core.effect ≡ true → manager_of r ≡ manager_of m
   unfolding manager_of
-  unmoved asks = by (leads_steps program at-hand (manager_of m) (stepped_of r) (a.leads at-hand (saying_agrees s current cache false unchanged m.core.level)))
+  unmoved asks = by (leads_steps program at_hand (manager_of m) (stepped_of r) (a.leads at_hand (saying_agrees s current cache false unchanged m.core.level)))
     where
-      at-hand : ℕ → ℕ → Value
-      at-hand = saying_of s current cache false unchanged m.core.level
+      at_hand : ℕ → ℕ → Value
+      at_hand = saying_of s current cache false unchanged m.core.level
 
       by : Steps (manager_of m) (stepped_of r) → manager_of r ≡ manager_of m
       by (none e) = ap (λ d. d.manager) e

@@ -118,10 +118,10 @@ method_run s a e at h l rising lo =
           let z : a ≤ a + i = omega arith in
           ap key_of (from_at s a (e - a) i (omega arith)) ∙ end_same s at e l (a + i) (omega arith) (omega arith) ∙ ap key_of (sym here);
       above = λ g.
-          let in-range : next < e = omega (arith, from-length s a (e - a)) in
-          let there : get_or steps (next - a) [] ≡ record_at s next = from_is s a e next (omega arith) in-range in
+          let in_range : next < e = omega (arith, from-length s a (e - a)) in
+          let there : get_or steps (next - a) [] ≡ record_at s next = from_is s a e next (omega arith) in_range in
           let le : key_of (get_or steps (at - a) []) ≤ key_of (get_or steps (next - a) []) = rising_le key_of [] 0 steps rising (at - a) (next - a) (omega arith) g in
-          lt_of_le-ne le (λ q. end_other s at e l in-range (ap key_of (sym there) ∙ sym q ∙ ap key_of here));
+          lt_of_le-ne le (λ q. end_other s at e l in_range (ap key_of (sym there) ∙ sym q ∙ ap key_of here));
     }
 
 -- a walk from record a to e, method by method: keys never fall up to `at`, and where they never fall at all the steps before `at`
@@ -192,33 +192,33 @@ module _ (s : List ℕ) (levels objects a e : ℕ) where
         → (leb (method_end s at e - at) max_method && step_valid levels objects (method_end s at e - at) (record_at s (at + j))) ≡ true
     passes t j g =
         let there : get_or (records_from s a (e - a)) (at + j - a) [] ≡ record_at s (at + j) = from_is s a e (at + j) (omega (arith, m.low)) (omega (arith, within)) in
-        let in-range : at + j - a < length (records_from s a (e - a)) = omega (arith, from-length s a (e - a), m.low, within) in
-        rw (there, test (scripts_rise levels objects _ t) j g) at (every_each (script_valid levels objects (records_from s a (e - a))) [] (records_from s a (e - a)) (scripts_pass levels objects _ t) (at + j - a) in-range)
+        let in_range : at + j - a < length (records_from s a (e - a)) = omega (arith, from-length s a (e - a), m.low, within) in
+        rw (there, test (scripts_rise levels objects _ t) j g) at (every_each (script_valid levels objects (records_from s a (e - a))) [] (records_from s a (e - a)) (scripts_pass levels objects _ t) (at + j - a) in_range)
 
     -- a method of more than 16 steps, one with a step that is not valid, and one before a fall fail the test
-    pub methods-long : max_method < method_end s at e - at → scripts_valid levels objects (records_from s a (e - a)) ≡ false
-    methods-long g =
+    pub methods_long : max_method < method_end s at e - at → scripts_valid levels objects (records_from s a (e - a)) ≡ false
+    methods_long g =
         refuted (scripts_valid levels objects (records_from s a (e - a))) λ t.
         let few : method_end s at e - at ≤ max_method =
         leb-true (method_end s at e - at) max_method (and_left _ _ (passes t 0 (omega (arith, after)))) in
         omega arith
 
-    pub methods-wrong : all (method_end s at e - at) (λ j. step_valid levels objects (method_end s at e - at) (record_at s (at + j))) ≡ false
+    pub methods_wrong : all (method_end s at e - at) (λ j. step_valid levels objects (method_end s at e - at) (record_at s (at + j))) ≡ false
         → scripts_valid levels objects (records_from s a (e - a)) ≡ false
-    methods-wrong g =
+    methods_wrong g =
         let n = method_end s at e - at in
         refuted (scripts_valid levels objects (records_from s a (e - a))) λ t.
         not_both (all n (λ j. step_valid levels objects n (record_at s (at + j))))
         (all-every n _ λ j l. and_right (leb n max_method) (step_valid levels objects n (record_at s (at + j))) (passes t j l))
         g
 
-    pub methods-falls : (ltb (method_end s at e) e && ltb (key_at s (method_end s at e)) (key_at s at)) ≡ true
+    pub methods_falls : (ltb (method_end s at e) e && ltb (key_at s (method_end s at e)) (key_at s at)) ≡ true
         → scripts_valid levels objects (records_from s a (e - a)) ≡ false
-    methods-falls g =
+    methods_falls g =
         let next = method_end s at e in
-        let in-range : next < e = ltb-true next e (and_left (ltb next e) _ g) in
+        let in_range : next < e = ltb-true next e (and_left (ltb next e) _ g) in
         let here : get_or (records_from s a (e - a)) (at - a) [] ≡ record_at s at = from_is s a e at m.low h in
-        let there : get_or (records_from s a (e - a)) (next - a) [] ≡ record_at s next = from_is s a e next (omega (arith, m.low, after)) in-range in
+        let there : get_or (records_from s a (e - a)) (next - a) [] ≡ record_at s next = from_is s a e next (omega (arith, m.low, after)) in_range in
         refuted (scripts_valid levels objects (records_from s a (e - a))) λ t.
         let above : key_at s at < key_at s next =
         rw (here, there) at ((run (scripts_rise levels objects _ t)).above (omega (arith, from-length s a (e - a), m.low, after))) in
@@ -237,10 +237,10 @@ module _ (s : List ℕ) (levels objects a e : ℕ) where
     ]
 
     -- otherwise the walk goes on behind the method
-    pub methods-more : method_end s at e - at ≤ max_method → all (method_end s at e - at) (λ j. step_valid levels objects (method_end s at e - at) (record_at s (at + j))) ≡ true
+    pub methods_more : method_end s at e - at ≤ max_method → all (method_end s at e - at) (λ j. step_valid levels objects (method_end s at e - at) (record_at s (at + j))) ≡ true
         → (ltb (method_end s at e) e && ltb (key_at s (method_end s at e)) (key_at s at)) ≡ false
         → Methods s levels objects a e (method_end s at e)
-    methods-more g t f =
+    methods_more g t f =
         let n = method_end s at e - at in
         record {
           low = omega (arith, m.low, after);

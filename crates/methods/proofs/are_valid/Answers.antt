@@ -1,7 +1,7 @@
 use Prim.Native.Nat.{◌+◌}
 use mathlib.Core.Path.{sym, ◌∙◌}
 use native.Mathlib.Omega.{arith}
-use Rattle.methods.proofs.Laws.Scripts.{methods_all, methods-long, methods-wrong, methods-falls, methods-more, end_after, end_within, end_same}
+use Rattle.methods.proofs.Laws.Scripts.{methods_all, methods_long, methods_wrong, methods_falls, methods_more, end_after, end_within, end_same}
 use Rattle.methods.proofs.are_valid.Goals as goal
 
 pub overflow_sub-count : goal.overflow_sub-count
@@ -11,7 +11,7 @@ overflow_sub-count c =
 pub returns-then-count-gt-MAX_METHOD : goal.returns-then-count-gt-MAX_METHOD
 returns-then-count-gt-MAX_METHOD c =
     let at = c.loop-at in
-    sym (methods-long c.args.session.now c.args.levels c.args.objects c.args.first c.args.end at.at at.invariant
+    sym (methods_long c.args.session.now c.args.levels c.args.objects c.args.first c.args.end at.at at.invariant
     c.loop-at-test.true
     (rw c.method_end-next.ensures at c.if-count-gt-MAX_METHOD.true))
 
@@ -32,7 +32,7 @@ pub returns-then-not-is_method_valid : goal.returns-then-not-is_method_valid
 returns-then-not-is_method_valid c =
     let at = c.loop-at in
     let e = c.method_end-next.ensures in
-    sym (methods-wrong c.args.session.now c.args.levels c.args.objects c.args.first c.args.end at.at at.invariant
+    sym (methods_wrong c.args.session.now c.args.levels c.args.objects c.args.first c.args.end at.at at.invariant
     c.loop-at-test.true
     (rw e at (sym c.is_method_valid.ensures ∙ c.if-not-is_method_valid.true)))
 
@@ -44,7 +44,7 @@ falls-requires c =
 pub returns-then-falls : goal.returns-then-falls
 returns-then-falls c =
     let at = c.loop-at in
-    sym (methods-falls c.args.session.now c.args.levels c.args.objects c.args.first c.args.end at.at at.invariant
+    sym (methods_falls c.args.session.now c.args.levels c.args.objects c.args.first c.args.end at.at at.invariant
     c.loop-at-test.true
     (rw c.method_end-next.ensures at (sym c.falls.ensures ∙ c.if-falls.true)))
 
@@ -56,7 +56,7 @@ pub loop-at-preserved : goal.loop-at-preserved
 loop-at-preserved c =
     let at = c.loop-at in
     let e = c.method_end-next.ensures in
-    rw e (methods-more c.args.session.now c.args.levels c.args.objects c.args.first c.args.end at.at at.invariant
+    rw e (methods_more c.args.session.now c.args.levels c.args.objects c.args.first c.args.end at.at at.invariant
     c.loop-at-test.true
     (rw e at c.if-count-gt-MAX_METHOD.false)
     (rw e at (sym c.is_method_valid.ensures ∙ c.if-not-is_method_valid.false))

@@ -33,14 +33,14 @@ module _ (levels clearance : ℕ) (ten : Bool) (bytes : ℕ) where
 
   module _ (h : clearance < levels) where
     -- 10
-    pub refused-work : ten ≡ false → LentRefusal levels clearance ten bytes 10
+    pub refused_work : ten ≡ false → LentRefusal levels clearance ten bytes 10
     unfolding entry_refusal
-    refused-work t q a l c b = rw (a, l, c, t, lt-ltb clearance levels h) refl
+    refused_work t q a l c b = rw (a, l, c, t, lt-ltb clearance levels h) refl
 
     -- 11
-    pub refused-room : ten ≡ true → bytes < result_bytes → LentRefusal levels clearance ten bytes 11
+    pub refused_room : ten ≡ true → bytes < result_bytes → LentRefusal levels clearance ten bytes 11
     unfolding entry_refusal
-    refused-room t m q a l c b = rw (a, l, c, b, t, lt-ltb clearance levels h, lt-leb result_bytes bytes m) refl
+    refused_room t m q a l c b = rw (a, l, c, b, t, lt-ltb clearance levels h, lt-leb result_bytes bytes m) refl
 
     -- all say yes
     pub refused_none : ten ≡ true → result_bytes ≤ bytes → LentRefusal levels clearance ten bytes 0

@@ -1,4 +1,4 @@
-use Rattle.opening.proofs.Laws.Opening.{refused_level, refused-work, refused-room, refused_none}
+use Rattle.opening.proofs.Laws.Opening.{refused_level, refused_work, refused_room, refused_none}
 use Rattle.opening.proofs.lent_refusal.Goals as goal
 
 pub returns-then-clearance-levels : goal.returns-then-clearance-levels
@@ -7,11 +7,11 @@ returns-then-clearance-levels c =
 
 pub returns-then-not-ten : goal.returns-then-not-ten
 returns-then-not-ten c =
-    refused-work c.args.levels c.args.clearance c.args.ten c.args.bytes c.if-clearance-levels.false (c.if-not-ten.true)
+    refused_work c.args.levels c.args.clearance c.args.ten c.args.bytes c.if-clearance-levels.false (c.if-not-ten.true)
 
 pub returns-then-bytes-lt-RESULT_BYTES : goal.returns-then-bytes-lt-RESULT_BYTES
 returns-then-bytes-lt-RESULT_BYTES c =
-    refused-room c.args.levels c.args.clearance c.args.ten c.args.bytes c.if-clearance-levels.false (c.if-not-ten.false) c.if-bytes-lt-RESULT_BYTES.true
+    refused_room c.args.levels c.args.clearance c.args.ten c.args.bytes c.if-clearance-levels.false (c.if-not-ten.false) c.if-bytes-lt-RESULT_BYTES.true
 
 pub returns : goal.returns
 returns c =

@@ -88,13 +88,13 @@ module _ (s current cache : List ℕ) (all unchanged : Bool) (i : Step) (c r : C
   -- or it waits
   pub operation_asked : (x : Effect) → Able c → Sits s c → r ≡ causing c x → is_asking x ≡ true → is_over x ≡ false → Tall x c.height → Present s x → pause_on s current cache all unchanged c.level c.top.object i ≡ asking x → OperationMade s current cache all unchanged i c r
   operation_asked x able sits e asks lasts tall present pause =
-      let x-is : r.effect ≡ x = ap (λ y. y.effect) e in
+      let x_is : r.effect ≡ x = ap (λ y. y.effect) e in
       record {
-        is = λ q. absurd (not_both (is_asking r.effect) (ap is_asking x-is ∙ asks) q);
-        asks = λ _. (e ∙ ap (causing c) (sym x-is), pause ∙ ap asking (sym x-is));
+        is = λ q. absurd (not_both (is_asking r.effect) (ap is_asking x_is ∙ asks) q);
+        asks = λ _. (e ∙ ap (causing c) (sym x_is), pause ∙ ap asking (sym x_is));
         level_is = ap (λ y. y.level) e;
         first_is = ap (λ y. y.first) e;
-        steps_are = λ q. absurd (not_both (is_asking r.effect) (ap is_asking x-is ∙ asks) q);
+        steps_are = λ q. absurd (not_both (is_asking r.effect) (ap is_asking x_is ∙ asks) q);
         tall = λ _. ap (λ y. y.height) e;
         lower = omega (arith, ap (λ y. y.height) e);
         flat = λ _. ap (λ y. y.height) e;
@@ -153,11 +153,11 @@ module _ (s masks current cache : List ℕ) (all unchanged : Bool) (c r : Core) 
   pub send_called : (t : Fate) (returns : Bool) (script : ℕ) → Makes (λ s. Numbered s o × (script ≤ object_count s)) c r (λ m. called m (passed m) a (frame_for o script b a returns (register (passed m) a))) → fate_of (length masks) (dominates masks) c.level x y ≡ t → ((read : ℕ → ℕ → Value) (gs : List defined.Frame) → sent read (standing c gs) (passed (standing c gs)) a b o t ≡ called (standing c gs) (passed (standing c gs)) a (frame_for o (script_seen read o) b a returns (register (passed (standing c gs)) a))) → Numbered s o → script ≡ script_found current cache (is_own s all c.level o) unchanged o → eqb script unknown ≡ false → OperationMade s current cache all unchanged (op.Send a b o) c r
   send_called t returns script m e by n is known =
       send_made t _ _ e m
-      (n, rw is (found_scripted s current cache (is_own s all c.level o) unchanged o ready.current_scripted ready.cache_scripted (own-low o n) (number_few s ready.leveled.accepted o n) (rw is at known)))
+      (n, rw is (found_scripted s current cache (is_own s all c.level o) unchanged o ready.current_scripted ready.cache_scripted (own_low o n) (number_few s ready.leveled.accepted o n) (rw is at known)))
       (λ read agrees gs. rw (by read gs, seen_script s current cache all unchanged c.level read agrees o n (rw is at known), is) refl)
     where
-      own-low : (o : ℕ) → Numbered s o → own_script_of o ≤ object_count s
-      own-low o n = elim (truth (ltb o max_objects)) [
+      own_low : (o : ℕ) → Numbered s o → own_script_of o ≤ object_count s
+      own_low o n = elim (truth (ltb o max_objects)) [
         | holds q ↦ rw q (omega (arith, number_low s ready.leveled.accepted o n (ltb-true o max_objects q)))
         | fails q ↦ rw q (omega arith)
       ]

@@ -65,8 +65,8 @@ module _ (s : List ℕ) (c : ℕ) (b page : List ℕ) (yes : entry_refusal true 
   page_room h count b' t =
       rw (cut count b' t) (omega (arith, h, page_fits s (passes true q yes).accepted c))
 
-  pub bytes-few : (count : ℕ) (b' : List ℕ) → Shown s c b b' count → length (take count b') ≤ result_bytes
-  bytes-few count b' t = rw (cut count b' t) (omega (arith, t.written.number, t.fits))
+  pub bytes_few : (count : ℕ) (b' : List ℕ) → Shown s c b b' count → length (take count b') ≤ result_bytes
+  bytes_few count b' t = rw (cut count b' t) (omega (arith, t.written.number, t.fits))
 
   -- the bytes written stand in the buffer
   pub bytes-there : (count : ℕ) (b' : List ℕ) → Shown s c b b' count → count ≤ length b'

@@ -4,7 +4,7 @@ use native.Mathlib.Omega.{arith}
 use lib.Seq.{length-take-le}
 use Rattle.opening.proofs.Laws.Opening.{opened}
 use Rattle.depth_first.proofs.Laws.Answers.{roomy}
-use Rattle.page.proofs.Laws.Answers.{request, answers_unopened, answers_refusal, answers-16, page_room, bytes-few, bytes-there, page-small, answers-finished}
+use Rattle.page.proofs.Laws.Answers.{request, answers_unopened, answers_refusal, answers-16, page_room, bytes_few, bytes-there, page-small, answers-finished}
 use borrow.Author.Rules.{rules}
 use Rattle.page.proofs.run_page.Statement.{statement}
 use Rattle.page.proofs.run_page.Tie as tie
@@ -93,7 +93,7 @@ write-page-requires c κs =
     let yes = l.lent-refusal.ensures (request s z.args.clearance b) t.leveled.accepted t.count refl refl ∙ c.before.before.before.before.before.before.before.before.if2.false in
     let r = c.before.before.before.before.run in (
       page_room s z.args.clearance b z.args.page.now yes c.before.before.before.before.before.before.before.if3.false r.result r.new.1.1.1.0 r.ensures,
-      bytes-few s z.args.clearance b z.args.page.now yes r.result r.new.1.1.1.0 r.ensures,
+      bytes_few s z.args.clearance b z.args.page.now yes r.result r.new.1.1.1.0 r.ensures,
     )
 
 finished-requires : tie.Need-finished-requires

@@ -45,91 +45,91 @@ apart_last n gap w k xs h =
     ∙ take_all w (aligned_in w k) (omega (arith, aligned_length w k))
 
 module _ (rec : Record) where
-  abbrev stampText : List ℕ
-  stampText = hex_in 8 (stamp_in rec)
+  abbrev stamp_text : List ℕ
+  stamp_text = hex_in 8 (stamp_in rec)
 
-  abbrev levelText : List ℕ
-  levelText = stampText ++ field_in 1 (level_in rec)
+  abbrev level_text : List ℕ
+  level_text = stamp_text ++ field_in 1 (level_in rec)
 
-  abbrev endingText : List ℕ
-  endingText = levelText ++ field_in 1 (ending_in rec)
+  abbrev ending_text : List ℕ
+  ending_text = level_text ++ field_in 1 (ending_in rec)
 
-  abbrev firstText : List ℕ
-  firstText = front_of rec ++ field_in 3 (first_in rec)
+  abbrev first_text : List ℕ
+  first_text = front_of rec ++ field_in 3 (first_in rec)
 
-  abbrev lastText : List ℕ
-  lastText = firstText ++ field_in 3 (last_in rec)
+  abbrev last_text : List ℕ
+  last_text = first_text ++ field_in 3 (last_in rec)
 
-  abbrev stepsText : List ℕ
-  stepsText = lastText ++ field_in 3 (steps_in rec)
+  abbrev steps_text : List ℕ
+  steps_text = last_text ++ field_in 3 (steps_in rec)
 
-  level_long : length levelText ≡ 10
-  level_long = length-append stampText (field_in 1 (level_in rec)) ∙ omega (arith, hex_length 8 (stamp_in rec), aligned_length 1 (level_in rec))
+  level_long : length level_text ≡ 10
+  level_long = length-append stamp_text (field_in 1 (level_in rec)) ∙ omega (arith, hex_length 8 (stamp_in rec), aligned_length 1 (level_in rec))
 
-  ending_long : length endingText ≡ 12
-  ending_long = length-append levelText (field_in 1 (ending_in rec)) ∙ omega (arith, level_long, aligned_length 1 (ending_in rec))
+  ending_long : length ending_text ≡ 12
+  ending_long = length-append level_text (field_in 1 (ending_in rec)) ∙ omega (arith, level_long, aligned_length 1 (ending_in rec))
 
-  first_long_lem : length firstText ≡ 19
+  first_long_lem : length first_text ≡ 19
   first_long_lem = length-append (front_of rec) (field_in 3 (first_in rec)) ∙ omega (arith, front_length rec, aligned_length 3 (first_in rec))
 
-  last_long : length lastText ≡ 23
-  last_long = length-append firstText (field_in 3 (last_in rec)) ∙ omega (arith, first_long_lem, aligned_length 3 (last_in rec))
+  last_long : length last_text ≡ 23
+  last_long = length-append first_text (field_in 3 (last_in rec)) ∙ omega (arith, first_long_lem, aligned_length 3 (last_in rec))
 
-  steps_long : length stepsText ≡ 27
-  steps_long = length-append lastText (field_in 3 (steps_in rec)) ∙ omega (arith, last_long, aligned_length 3 (steps_in rec))
+  steps_long : length steps_text ≡ 27
+  steps_long = length-append last_text (field_in 3 (steps_in rec)) ∙ omega (arith, last_long, aligned_length 3 (steps_in rec))
 
-  line_is : line_of rec ≡ stepsText ++ (line_feed ∷ [])
+  line_is : line_of rec ≡ steps_text ++ (line_feed ∷ [])
   unfolding line_of
   line_is = refl
 
-  front_is : front_of rec ≡ endingText ++ field_in 2 (writes_in rec)
+  front_is : front_of rec ≡ ending_text ++ field_in 2 (writes_in rec)
   unfolding front_of
   front_is = refl
 
   -- what is in the front is in the line, and so on
-  of_steps : (from to : ℕ) → 0 < from → from ≤ to → to ≤ 27 → columns from to (line_of rec) ≡ columns from to stepsText
+  of_steps : (from to : ℕ) → 0 < from → from ≤ to → to ≤ 27 → columns from to (line_of rec) ≡ columns from to steps_text
   of_steps from to p q h =
-      ap (columns from to) line_is ∙ in_front from to stepsText (line_feed ∷ []) p q (omega (arith, steps_long, h))
+      ap (columns from to) line_is ∙ in_front from to steps_text (line_feed ∷ []) p q (omega (arith, steps_long, h))
 
-  of_last : (from to : ℕ) → 0 < from → from ≤ to → to ≤ 23 → columns from to (line_of rec) ≡ columns from to lastText
+  of_last : (from to : ℕ) → 0 < from → from ≤ to → to ≤ 23 → columns from to (line_of rec) ≡ columns from to last_text
   of_last from to p q h =
-      of_steps from to p q (omega (arith, h)) ∙ in_front from to lastText (field_in 3 (steps_in rec)) p q (omega (arith, last_long, h))
+      of_steps from to p q (omega (arith, h)) ∙ in_front from to last_text (field_in 3 (steps_in rec)) p q (omega (arith, last_long, h))
 
-  of_first : (from to : ℕ) → 0 < from → from ≤ to → to ≤ 19 → columns from to (line_of rec) ≡ columns from to firstText
+  of_first : (from to : ℕ) → 0 < from → from ≤ to → to ≤ 19 → columns from to (line_of rec) ≡ columns from to first_text
   of_first from to p q h =
-      of_last from to p q (omega (arith, h)) ∙ in_front from to firstText (field_in 3 (last_in rec)) p q (omega (arith, first_long_lem, h))
+      of_last from to p q (omega (arith, h)) ∙ in_front from to first_text (field_in 3 (last_in rec)) p q (omega (arith, first_long_lem, h))
 
   of_front : (from to : ℕ) → 0 < from → from ≤ to → to ≤ 15 → columns from to (line_of rec) ≡ columns from to (front_of rec)
   of_front from to p q h =
       of_first from to p q (omega (arith, h)) ∙ in_front from to (front_of rec) (field_in 3 (first_in rec)) p q (omega (arith, front_length rec, h))
 
-  of_ending : (from to : ℕ) → 0 < from → from ≤ to → to ≤ 12 → columns from to (line_of rec) ≡ columns from to endingText
+  of_ending : (from to : ℕ) → 0 < from → from ≤ to → to ≤ 12 → columns from to (line_of rec) ≡ columns from to ending_text
   of_ending from to p q h =
       of_front from to p q (omega (arith, h))
       ∙ ap (columns from to) front_is
-      ∙ in_front from to endingText (field_in 2 (writes_in rec)) p q (omega (arith, ending_long, h))
+      ∙ in_front from to ending_text (field_in 2 (writes_in rec)) p q (omega (arith, ending_long, h))
 
-  of_level_lem : (from to : ℕ) → 0 < from → from ≤ to → to ≤ 10 → columns from to (line_of rec) ≡ columns from to levelText
+  of_level_lem : (from to : ℕ) → 0 < from → from ≤ to → to ≤ 10 → columns from to (line_of rec) ≡ columns from to level_text
   of_level_lem from to p q h =
-      of_ending from to p q (omega (arith, h)) ∙ in_front from to levelText (field_in 1 (ending_in rec)) p q (omega (arith, level_long, h))
+      of_ending from to p q (omega (arith, h)) ∙ in_front from to level_text (field_in 1 (ending_in rec)) p q (omega (arith, level_long, h))
 
-  of_stamp : columns 1 8 (line_of rec) ≡ stampText
+  of_stamp : columns 1 8 (line_of rec) ≡ stamp_text
   of_stamp =
       of_level_lem 1 8 (omega arith) (omega arith) (omega arith)
-      ∙ in_front 1 8 stampText (field_in 1 (level_in rec)) (omega arith) (omega arith) (omega (arith, hex_length 8 (stamp_in rec)))
-      ∙ take_all 8 stampText (omega (arith, hex_length 8 (stamp_in rec)))
+      ∙ in_front 1 8 stamp_text (field_in 1 (level_in rec)) (omega arith) (omega arith) (omega (arith, hex_length 8 (stamp_in rec)))
+      ∙ take_all 8 stamp_text (omega (arith, hex_length 8 (stamp_in rec)))
 
   -- where each number is below what its columns hold, it is read back
   pub read_back : stamp_in rec < 16 ^ 8 → level_in rec < 10 ^ 1 → ending_in rec < 10 ^ 1 → writes_in rec < 10 ^ 2 → first_in rec < 10 ^ 3 → last_in rec < 10 ^ 3 → steps_in rec < 10 ^ 3 → ReadBack rec
   read_back s l e w f t n =
       record {
         stamp = ap read_hex of_stamp ∙ hex_read 8 (stamp_in rec) s;
-        level = ap read_aligned (of_level_lem 10 10 (omega arith) (omega arith) (omega arith) ∙ field_last 8 1 (level_in rec) stampText (hex_length 8 (stamp_in rec))) ∙ aligned_read 1 (level_in rec) l;
-        ending = ap read_aligned (of_ending 12 12 (omega arith) (omega arith) (omega arith) ∙ field_last 10 1 (ending_in rec) levelText level_long) ∙ aligned_read 1 (ending_in rec) e;
-        writes = ap read_aligned (of_front 14 15 (omega arith) (omega arith) (omega arith) ∙ ap (columns 14 15) front_is ∙ field_last 12 2 (writes_in rec) endingText ending_long) ∙ aligned_read 2 (writes_in rec) w;
+        level = ap read_aligned (of_level_lem 10 10 (omega arith) (omega arith) (omega arith) ∙ field_last 8 1 (level_in rec) stamp_text (hex_length 8 (stamp_in rec))) ∙ aligned_read 1 (level_in rec) l;
+        ending = ap read_aligned (of_ending 12 12 (omega arith) (omega arith) (omega arith) ∙ field_last 10 1 (ending_in rec) level_text level_long) ∙ aligned_read 1 (ending_in rec) e;
+        writes = ap read_aligned (of_front 14 15 (omega arith) (omega arith) (omega arith) ∙ ap (columns 14 15) front_is ∙ field_last 12 2 (writes_in rec) ending_text ending_long) ∙ aligned_read 2 (writes_in rec) w;
         first = ap read_aligned (of_first 17 19 (omega arith) (omega arith) (omega arith) ∙ field_last 15 3 (first_in rec) (front_of rec) (front_length rec)) ∙ aligned_read 3 (first_in rec) f;
-        last = ap read_aligned (of_last 21 23 (omega arith) (omega arith) (omega arith) ∙ field_last 19 3 (last_in rec) firstText first_long_lem) ∙ aligned_read 3 (last_in rec) t;
-        steps = ap read_aligned (of_steps 25 27 (omega arith) (omega arith) (omega arith) ∙ field_last 23 3 (steps_in rec) lastText last_long) ∙ aligned_read 3 (steps_in rec) n;
+        last = ap read_aligned (of_last 21 23 (omega arith) (omega arith) (omega arith) ∙ field_last 19 3 (last_in rec) first_text first_long_lem) ∙ aligned_read 3 (last_in rec) t;
+        steps = ap read_aligned (of_steps 25 27 (omega arith) (omega arith) (omega arith) ∙ field_last 23 3 (steps_in rec) last_text last_long) ∙ aligned_read 3 (steps_in rec) n;
       }
 
 -- the total is read back from its line
@@ -142,40 +142,40 @@ total_read n h =
 
 -- and the numbers of a level from its own
 module _ (level quotient remainder : ℕ) where
-  abbrev numberText : List ℕ
-  numberText = level_word ++ field_in 1 level
+  abbrev number_text : List ℕ
+  number_text = level_word ++ field_in 1 level
 
-  abbrev quotientText : List ℕ
-  quotientText = numberText ++ apart_in quotient_gap 3 quotient
+  abbrev quotient_text : List ℕ
+  quotient_text = number_text ++ apart_in quotient_gap 3 quotient
 
-  abbrev remainderText : List ℕ
-  remainderText = quotientText ++ apart_in remainder_gap 3 remainder
+  abbrev remainder_text : List ℕ
+  remainder_text = quotient_text ++ apart_in remainder_gap 3 remainder
 
-  number_long : length numberText ≡ 7
+  number_long : length number_text ≡ 7
   number_long = omega (arith, aligned_length 1 level)
 
-  quotient_long : length quotientText ≡ 19
-  quotient_long = length-append numberText (apart_in quotient_gap 3 quotient) ∙ omega (arith, number_long, apart_length quotient_gap 3 quotient)
+  quotient_long : length quotient_text ≡ 19
+  quotient_long = length-append number_text (apart_in quotient_gap 3 quotient) ∙ omega (arith, number_long, apart_length quotient_gap 3 quotient)
 
-  remainder_long : length remainderText ≡ 27
-  remainder_long = length-append quotientText (apart_in remainder_gap 3 remainder) ∙ omega (arith, quotient_long, apart_length remainder_gap 3 remainder)
+  remainder_long : length remainder_text ≡ 27
+  remainder_long = length-append quotient_text (apart_in remainder_gap 3 remainder) ∙ omega (arith, quotient_long, apart_length remainder_gap 3 remainder)
 
-  average_is : average_line level quotient remainder ≡ remainderText ++ (line_feed ∷ [])
+  average_is : average_line level quotient remainder ≡ remainder_text ++ (line_feed ∷ [])
   unfolding average_line
   average_is = refl
 
-  of_remainder : (from to : ℕ) → 0 < from → from ≤ to → to ≤ 27 → columns from to (average_line level quotient remainder) ≡ columns from to remainderText
+  of_remainder : (from to : ℕ) → 0 < from → from ≤ to → to ≤ 27 → columns from to (average_line level quotient remainder) ≡ columns from to remainder_text
   of_remainder from to p q h =
-      ap (columns from to) average_is ∙ in_front from to remainderText (line_feed ∷ []) p q (omega (arith, remainder_long, h))
+      ap (columns from to) average_is ∙ in_front from to remainder_text (line_feed ∷ []) p q (omega (arith, remainder_long, h))
 
-  of_quotient : (from to : ℕ) → 0 < from → from ≤ to → to ≤ 19 → columns from to (average_line level quotient remainder) ≡ columns from to quotientText
+  of_quotient : (from to : ℕ) → 0 < from → from ≤ to → to ≤ 19 → columns from to (average_line level quotient remainder) ≡ columns from to quotient_text
   of_quotient from to p q h =
-      of_remainder from to p q (omega (arith, h)) ∙ in_front from to quotientText (apart_in remainder_gap 3 remainder) p q (omega (arith, quotient_long, h))
+      of_remainder from to p q (omega (arith, h)) ∙ in_front from to quotient_text (apart_in remainder_gap 3 remainder) p q (omega (arith, quotient_long, h))
 
   of_number : columns 7 7 (average_line level quotient remainder) ≡ aligned_in 1 level
   of_number =
       of_quotient 7 7 (omega arith) (omega arith) (omega arith)
-      ∙ in_front 7 7 numberText (apart_in quotient_gap 3 quotient) (omega arith) (omega arith) (omega (arith, number_long))
+      ∙ in_front 7 7 number_text (apart_in quotient_gap 3 quotient) (omega arith) (omega arith) (omega (arith, number_long))
       ∙ field_last 5 1 level level_word refl
 
   pub number_read : level < 10 ^ 1 → read_aligned (columns 7 7 (average_line level quotient remainder)) ≡ level
@@ -183,8 +183,8 @@ module _ (level quotient remainder : ℕ) where
 
   pub quotient_read : quotient < 10 ^ 3 → read_aligned (columns 17 19 (average_line level quotient remainder)) ≡ quotient
   quotient_read h =
-      ap read_aligned (of_quotient 17 19 (omega arith) (omega arith) (omega arith) ∙ apart_last 7 quotient_gap 3 quotient numberText number_long) ∙ aligned_read 3 quotient h
+      ap read_aligned (of_quotient 17 19 (omega arith) (omega arith) (omega arith) ∙ apart_last 7 quotient_gap 3 quotient number_text number_long) ∙ aligned_read 3 quotient h
 
   pub remainder_read : remainder < 10 ^ 3 → read_aligned (columns 25 27 (average_line level quotient remainder)) ≡ remainder
   remainder_read h =
-      ap read_aligned (of_remainder 25 27 (omega arith) (omega arith) (omega arith) ∙ apart_last 19 remainder_gap 3 remainder quotientText quotient_long) ∙ aligned_read 3 remainder h
+      ap read_aligned (of_remainder 25 27 (omega arith) (omega arith) (omega arith) ∙ apart_last 19 remainder_gap 3 remainder quotient_text quotient_long) ∙ aligned_read 3 remainder h

@@ -89,14 +89,14 @@ module _ (masks tallies queue : List ℕ) (l : ℕ) where
   permit_absent h = rw (le-ltb l (length masks) h)
 
   module _ (h : l < length masks) where
-    pub permit-busy : busy_in tallies l ≡ true → permit_of masks tallies queue l ≡ Given
-    permit-busy e = rw (lt-ltb l (length masks) h, e)
+    pub permit_busy : busy_in tallies l ≡ true → permit_of masks tallies queue l ≡ Given
+    permit_busy e = rw (lt-ltb l (length masks) h, e)
 
-    pub permit-idle : managed tallies l ≡ false → permit_of masks tallies queue l ≡ Idle
-    permit-idle e = rw (lt-ltb l (length masks) h, e)
+    pub permit_idle : managed tallies l ≡ false → permit_of masks tallies queue l ≡ Idle
+    permit_idle e = rw (lt-ltb l (length masks) h, e)
 
-    pub permit-blocked : managed tallies l ≡ true → busy_in tallies l ≡ false → free_of masks tallies queue l ≡ false → permit_of masks tallies queue l ≡ Blocked
-    permit-blocked e n f = rw (lt-ltb l (length masks) h, e, n, f)
+    pub permit_blocked : managed tallies l ≡ true → busy_in tallies l ≡ false → free_of masks tallies queue l ≡ false → permit_of masks tallies queue l ≡ Blocked
+    permit_blocked e n f = rw (lt-ltb l (length masks) h, e, n, f)
 
-    pub permit-given : managed tallies l ≡ true → free_of masks tallies queue l ≡ true → permit_of masks tallies queue l ≡ Given
-    permit-given e f = rw (lt-ltb l (length masks) h, e, f, or-true)
+    pub permit_given : managed tallies l ≡ true → free_of masks tallies queue l ≡ true → permit_of masks tallies queue l ≡ Given
+    permit_given e f = rw (lt-ltb l (length masks) h, e, f, or-true)

@@ -24,14 +24,14 @@ use Rattle.model.specs.Rules.{conservative}
 use Rattle.theorems.proofs.Laws.Order.Accepted.{sound}
 use Rattle.theorems.proofs.Laws.Invariant.Measure.{left, cost}
 use Rattle.theorems.proofs.Laws.Invariant.Bounded.{total, step_less}
-use Rattle.theorems.proofs.Laws.Code.Reached.{ReachedState, live-step}
+use Rattle.theorems.proofs.Laws.Code.Reached.{ReachedState, live_step}
 use Rattle.theorems.proofs.Laws.Code.Progress.{allowed, all_ended, leads_none, leads_run}
 use Rattle.level_state.specs.Representation.{Words, RunInvariant}
 use Rattle.permits.specs.Permits.{lowest_of, Countable}
 use Rattle.level_state.specs.Ends.{Quiescent, SameRest}
 use Rattle.fork_runs.specs.Levels.{LevelReady, LevelDone, Done}
 use Rattle.level_state.proofs.Laws.Step.{invariant_live}
-use Rattle.level_state.proofs.Laws.Asked.{lowest-allowed, lowest-refused}
+use Rattle.level_state.proofs.Laws.Asked.{lowest_allowed, lowest_refused}
 use Rattle.fork_runs.proofs.Laws.Level.{any_manager}
 
 -- the managers that the levels from i on, k of them, have room for still
@@ -47,7 +47,7 @@ room_is tallies (v ∷ vs) i f =
     let rest = room_is tallies vs (suc i) (λ j h. let q = f (suc j) (omega arith) in (ap (λ k. get_or tallies k 0) (shift i j) ∙ q.0, q.1)) in
     let own = f 0 (omega arith) in
     let first : get_or tallies i 0 ≡ length v.ended = ap (λ k. get_or tallies k 0) (start i) ∙ own.0 in
-    let here : cost v ≡ (1 + max_script_steps) * (max_managers - length v.ended) = cost-idle v own.1 in
+    let here : cost v ≡ (1 + max_script_steps) * (max_managers - length v.ended) = cost_idle v own.1 in
     omega (arith, rest, first, here)
   where
     shift : (i j : ℕ) → suc i + j ≡ i + suc j
@@ -56,8 +56,8 @@ room_is tallies (v ∷ vs) i f =
     start : (i : ℕ) → i ≡ i + 0
     start i = omega arith
 
-    cost-idle : (v : Level) → v.activity ≡ idle → cost v ≡ (1 + max_script_steps) * (max_managers - length v.ended)
-    cost-idle v e =
+    cost_idle : (v : Level) → v.activity ≡ idle → cost v ≡ (1 + max_script_steps) * (max_managers - length v.ended)
+    cost_idle v e =
         ap (λ a. (1 + max_script_steps) * (max_managers - (length v.ended + cond {A = ℕ} (is_busy a) 1 0)) + left a) e ∙ omega arith
 
 -- allowed steps one list after the other
@@ -81,7 +81,7 @@ module _ (s : List ℕ) (a : verdict_of s ≡ Accepted) where
   less st i l ok =
       let yes = allowed question14 (program_of s) st l ok in (
         step_less (program_of s) (sound s a) st i.reachable.steady.fork_invariant i.reachable.steady.bounded l yes.0 yes.1.0,
-        live-step s a st i l (unfold program_of in yes.0) ok,
+        live_step s a st i l (unfold program_of in yes.0) ok,
       )
 
   no_more : (ls : List ℕ) (st t : State) → ReachedState s st → Leads (program_of s) st ls t → total t ≤ total st
@@ -141,7 +141,7 @@ module _ (s masks : List ℕ) (a : verdict_of s ≡ Accepted) (table : masks ≡
     where
       own : (j : ℕ) → j ≡ level → refusal_under conservative (program_of s) st j ≡ 0 → ⊥
       own j q o =
-          lowest-refused s masks table long w (λ _. any_manager) st represented.represents level h z (ap (refusal_under conservative (program_of s) st) (sym q) ∙ o)
+          lowest_refused s masks table long w (λ _. any_manager) st represented.represents level h z (ap (refusal_under conservative (program_of s) st) (sym q) ∙ o)
 
       lower : (j : ℕ) → j < level + 1 → refusal_under conservative (program_of s) st j ≡ 0 → ⊥
       lower j h o = elim (ℕ_discrete j level) [
@@ -151,15 +151,15 @@ module _ (s masks : List ℕ) (a : verdict_of s ≡ Accepted) (table : masks ≡
 
   -- one that may step is run
   module _ (h : level < length masks) (z : lowest_of masks w.tallies level ≡ true) where
-    ran-allowed : refusal_under conservative (program_of s) st level ≡ 0
-    ran-allowed = lowest-allowed s masks table long w (λ _. any_manager) st represented.represents level h z
+    ran_allowed : refusal_under conservative (program_of s) st level ≡ 0
+    ran_allowed = lowest_allowed s masks table long w (λ _. any_manager) st represented.represents level h z
 
-    pub ran-ready : LevelReady s w level
-    ran-ready = (st, (g.quiescent, ran-allowed))
+    pub ran_ready : LevelReady s w level
+    ran_ready = (st, (g.quiescent, ran_allowed))
 
-    pub ran-level : (w' : Words) → LevelDone s w w' level → Ran s w' 0
-    ran-level w' d =
-        let r = d.ran st g.quiescent ran-allowed in
+    pub ran_level : (w' : Words) → LevelDone s w w' level → Ran s w' 0
+    ran_level w' d =
+        let r = d.ran st g.quiescent ran_allowed in
         record {
           state = r.state;
           list = g.list ++ r.list;
@@ -172,17 +172,17 @@ module _ (s masks : List ℕ) (a : verdict_of s ≡ Accepted) (table : masks ≡
     counted w st r =
         let y = (r.invariant (λ _. any_manager)).represents in
         ap (λ n. (1 + max_script_steps) * room_from w.tallies 0 n) (long ∙ sym y.levels)
-        ∙ room_is w.tallies st 0 (λ j h. let hj : j < level_count s = rw (sym y.levels) h in (ap (λ k. get_or w.tallies k 0) (zero-less j) ∙ (y.level j hj).ended_count, r.idle_all j hj))
+        ∙ room_is w.tallies st 0 (λ j h. let hj : j < level_count s = rw (sym y.levels) h in (ap (λ k. get_or w.tallies k 0) (zero_less j) ∙ (y.level j hj).ended_count, r.idle_all j hj))
       where
-        zero-less : (j : ℕ) → 0 + j ≡ j
-        zero-less j = omega arith
+        zero_less : (j : ℕ) → 0 + j ≡ j
+        zero_less j = omega arith
 
     -- and then there is room for fewer managers
-    pub ran-less : (w' : Words) → LevelDone s w w' level → room_from w'.tallies 0 (length masks) < room_from w.tallies 0 (length masks)
-    ran-less w' d =
-        let r = d.ran st g.quiescent ran-allowed in
+    pub ran_less : (w' : Words) → LevelDone s w w' level → room_from w'.tallies 0 (length masks) < room_from w.tallies 0 (length masks)
+    ran_less w' d =
+        let r = d.ran st g.quiescent ran_allowed in
         let live = invariant_live s a w (λ _. any_manager) st represented in
-        let f = fewer s a r.list st r.state level live r.leads (allowed conservative (program_of s) st level ran-allowed).1.0 r.no_manager_lem in
+        let f = fewer s a r.list st r.state level live r.leads (allowed conservative (program_of s) st level ran_allowed).1.0 r.no_manager_lem in
         omega (arith, f, counted w st g.quiescent, counted w' r.state r.quiescent)
 
   -- where none may step all managers have ended
@@ -247,8 +247,8 @@ module _ {s masks : List ℕ} (y : Leveled s masks) {w₀ w : Words} {level : �
   module _ (h : level < length masks) where
     -- a level that may not step
     module _ (z : lowest_of masks w.tallies level ≡ false) where
-      pub plain-skip : PlainLoop s masks w₀ w (level + 1)
-      plain-skip =
+      pub plain_skip : PlainLoop s masks w₀ w (level + 1)
+      plain_skip =
           record {
             ran = ran_skip s masks a y.masks_are long w level i.ran h z;
             low = omega (arith, h);
@@ -260,23 +260,23 @@ module _ {s masks : List ℕ} (y : Leveled s masks) {w₀ w : Words} {level : �
             work_long = i.work_long;
           }
 
-      pub plain-skip-less : plain_left masks w.tallies (level + 1) < plain_left masks w.tallies level
-      plain-skip-less = omega (arith, h)
+      pub plain_skip_less : plain_left masks w.tallies (level + 1) < plain_left masks w.tallies level
+      plain_skip_less = omega (arith, h)
 
     -- one that may
     module _ (z : lowest_of masks w.tallies level ≡ true) where
       pub plain_ready : LevelReady s w level
-      plain_ready = ran-ready s masks a y.masks_are long w level i.ran h z
+      plain_ready = ran_ready s masks a y.masks_are long w level i.ran h z
 
       module _ {w' : Words} (d : LevelDone s w w' level) where
-        pub plain-less : plain_left masks w'.tallies 0 < plain_left masks w.tallies level
-        plain-less =
-            omega (arith, h, long, few, ran-less s masks a y.masks_are long w level i.ran h z w' d)
+        pub plain_less : plain_left masks w'.tallies 0 < plain_left masks w.tallies level
+        plain_less =
+            omega (arith, h, long, few, ran_less s masks a y.masks_are long w level i.ran h z w' d)
 
-        pub plain-again : length w'.current ≡ length w.current → length w'.ended ≡ length w.ended → length w'.tallies ≡ length w.tallies → length w'.queue ≡ length w.queue → length w'.work ≡ length w.work → PlainLoop s masks w₀ w' 0
-        plain-again c1 c2 c3 c4 c5 =
+        pub plain_again : length w'.current ≡ length w.current → length w'.ended ≡ length w.ended → length w'.tallies ≡ length w.tallies → length w'.queue ≡ length w.queue → length w'.work ≡ length w.work → PlainLoop s masks w₀ w' 0
+        plain_again c1 c2 c3 c4 c5 =
             record {
-              ran = ran-level s masks a y.masks_are long w level i.ran h z w' d;
+              ran = ran_level s masks a y.masks_are long w level i.ran h z w' d;
               low = omega arith;
               rest = d.rest ∙ i.rest;
               current_long = c1 ∙ i.current_long;

@@ -2,7 +2,7 @@
 -- level before this one may step by the conservative rule. Assumes nothing.
 use mathlib.Core.Path.{sym, ◌∙◌}
 use native.Mathlib.Omega.{arith}
-use Rattle.plain.proofs.Laws.Plain.{PlainLoop, plain_left, plain_start, plain-counted, plain-skip, plain-skip-less, plain_ready, plain-less, plain-again, plain_done}
+use Rattle.plain.proofs.Laws.Plain.{PlainLoop, plain_left, plain_start, plain-counted, plain_skip, plain_skip_less, plain_ready, plain_less, plain_again, plain_done}
 use Rattle.plain.proofs.run.Statement.{statement}
 use Rattle.plain.proofs.run.Tie as tie
 
@@ -38,7 +38,7 @@ loop-less c =
     let f = r.before.before.before.before.before.before in
     let l = f.before.before.before.before in
     let z = l.before.before.before.before.before.before.before.before.before in
-    plain-less z.requires.0.leveled l.loop.invariant f.before.before.before.loop-test.true (sym f.before.is-lowest.ensures ∙ f.if1.true) r.run-level.ensures
+    plain_less z.requires.0.leveled l.loop.invariant f.before.before.before.loop-test.true (sym f.before.is-lowest.ensures ∙ f.if1.true) r.run-level.ensures
 
 loop-again : tie.Need-loop-preserved invariant-loop decreases-loop
 loop-again c =
@@ -47,7 +47,7 @@ loop-again c =
     let l = f.before.before.before.before in
     let z = l.before.before.before.before.before.before.before.before.before in
     let k = r.run-level.auto in
-    plain-again z.requires.0.leveled l.loop.invariant f.before.before.before.loop-test.true (sym f.before.is-lowest.ensures ∙ f.if1.true) r.run-level.ensures k.1.1.1.0 k.1.1.1.1.0 k.1.1.1.1.1.0 k.1.1.1.1.1.1.0 k.1.1.1.1.1.1.1.0
+    plain_again z.requires.0.leveled l.loop.invariant f.before.before.before.loop-test.true (sym f.before.is-lowest.ensures ∙ f.if1.true) r.run-level.ensures k.1.1.1.0 k.1.1.1.1.0 k.1.1.1.1.1.0 k.1.1.1.1.1.1.0 k.1.1.1.1.1.1.1.0
 
 add-level : tie.Need-overflow-add-level invariant-loop decreases-loop
 add-level c = omega (arith, c.before.before.before.loop-test.true)
@@ -56,13 +56,13 @@ loop-less-2 : tie.Need-loop-smaller-2 invariant-loop decreases-loop
 loop-less-2 c =
     let l = c.before.before.before.before in
     let z = l.before.before.before.before.before.before.before.before.before in
-    plain-skip-less z.requires.0.leveled l.loop.invariant c.before.before.before.loop-test.true (sym c.before.is-lowest.ensures ∙ c.if1.false)
+    plain_skip_less z.requires.0.leveled l.loop.invariant c.before.before.before.loop-test.true (sym c.before.is-lowest.ensures ∙ c.if1.false)
 
 loop-again-2 : tie.Need-loop-preserved-2 invariant-loop decreases-loop
 loop-again-2 c =
     let l = c.before.before.before.before in
     let z = l.before.before.before.before.before.before.before.before.before in
-    plain-skip z.requires.0.leveled l.loop.invariant c.before.before.before.loop-test.true (sym c.before.is-lowest.ensures ∙ c.if1.false)
+    plain_skip z.requires.0.leveled l.loop.invariant c.before.before.before.loop-test.true (sym c.before.is-lowest.ensures ∙ c.if1.false)
 
 same_length : tie.Need-same-length invariant-loop decreases-loop
 same_length c = c.before.loop.invariant.current_long

@@ -4,7 +4,7 @@ use Prim.Native.Nat.{◌-◌}
 use native.Mathlib.Omega.{arith}
 use lib.ListN.{get_or}
 use Rattle.model.specs.Limits.{max_managers}
-use Rattle.fork_runs.proofs.Laws.Next.{Turns, turns_small, turns_start, turns-counted, turns_next, turns-less, turns-again, turns-done}
+use Rattle.fork_runs.proofs.Laws.Next.{Turns, turns_small, turns_start, turns_counted, turns_next, turns_less, turns_again, turns_done}
 use Rattle.plain.proofs.run_level.Statement.{statement}
 use Rattle.plain.proofs.run_level.Tie as tie
 
@@ -35,7 +35,7 @@ slice-read-if1 : tie.Need-slice-read-if1 invariant-loop decreases-loop
 slice-read-if1 c =
     let s = c.before.before.before.before.before.before.before.before.before.before in
     let l = c.before.loop in
-    turns-counted s.args.session.now s.requires.0.indexed.accepted (record { current = s.args.current.now; ended = s.args.ended.now; tallies = s.args.tallies.now; queue = s.args.queue.now; work = s.args.work.now }) s.args.level s.requires.1 (record { current = l.current; ended = l.ended; tallies = l.tallies; queue = l.queue; work = l.work }) l.invariant
+    turns_counted s.args.session.now s.requires.0.indexed.accepted (record { current = s.args.current.now; ended = s.args.ended.now; tallies = s.args.tallies.now; queue = s.args.queue.now; work = s.args.work.now }) s.args.level s.requires.1 (record { current = l.current; ended = l.ended; tallies = l.tallies; queue = l.queue; work = l.work }) l.invariant
 
 run-next-requires : tie.Need-run-next-requires invariant-loop decreases-loop
 run-next-requires c κs =
@@ -48,14 +48,14 @@ loop-less c =
     let s = c.before.before.before.before.before.before.before.before.before.before.before.before.before.before.before.before.before.before.before.before.before.before.before.before.before.before.before in
     let l = c.before.before.before.before.before.before.before.before.before.before.before.before.before.before.before.before.before.before.loop in
     let r = c.before.before.before.before.before.before.before.before.before.before.run_next in
-    turns-less s.args.session.now s.requires.0.indexed.accepted (record { current = s.args.current.now; ended = s.args.ended.now; tallies = s.args.tallies.now; queue = s.args.queue.now; work = s.args.work.now }) s.args.level s.requires.1 (record { current = l.current; ended = l.ended; tallies = l.tallies; queue = l.queue; work = l.work }) l.invariant (record { current = r.new.1.1.1.0; ended = r.new.1.1.1.1.0; tallies = r.new.1.1.1.1.1.0; queue = r.new.1.1.1.1.1.1.0; work = r.new.1.1.1.1.1.1.1.0 }) r.ensures
+    turns_less s.args.session.now s.requires.0.indexed.accepted (record { current = s.args.current.now; ended = s.args.ended.now; tallies = s.args.tallies.now; queue = s.args.queue.now; work = s.args.work.now }) s.args.level s.requires.1 (record { current = l.current; ended = l.ended; tallies = l.tallies; queue = l.queue; work = l.work }) l.invariant (record { current = r.new.1.1.1.0; ended = r.new.1.1.1.1.0; tallies = r.new.1.1.1.1.1.0; queue = r.new.1.1.1.1.1.1.0; work = r.new.1.1.1.1.1.1.1.0 }) r.ensures
 
 loop-again : tie.Need-loop-preserved invariant-loop decreases-loop
 loop-again c =
     let s = c.before.before.before.before.before.before.before.before.before.before.before.before.before.before.before.before.before.before.before.before.before.before.before.before.before.before.before in
     let l = c.before.before.before.before.before.before.before.before.before.before.before.before.before.before.before.before.before.before.loop in
     let r = c.before.before.before.before.before.before.before.before.before.before.run_next in
-    turns-again s.args.session.now s.requires.0.indexed.accepted (record { current = s.args.current.now; ended = s.args.ended.now; tallies = s.args.tallies.now; queue = s.args.queue.now; work = s.args.work.now }) s.args.level s.requires.1 (record { current = l.current; ended = l.ended; tallies = l.tallies; queue = l.queue; work = l.work }) l.invariant (record { current = r.new.1.1.1.0; ended = r.new.1.1.1.1.0; tallies = r.new.1.1.1.1.1.0; queue = r.new.1.1.1.1.1.1.0; work = r.new.1.1.1.1.1.1.1.0 }) r.ensures r.auto.1.1.1.0 r.auto.1.1.1.1.0 r.auto.1.1.1.1.1.0 r.auto.1.1.1.1.1.1.0 r.auto.1.1.1.1.1.1.1.0
+    turns_again s.args.session.now s.requires.0.indexed.accepted (record { current = s.args.current.now; ended = s.args.ended.now; tallies = s.args.tallies.now; queue = s.args.queue.now; work = s.args.work.now }) s.args.level s.requires.1 (record { current = l.current; ended = l.ended; tallies = l.tallies; queue = l.queue; work = l.work }) l.invariant (record { current = r.new.1.1.1.0; ended = r.new.1.1.1.1.0; tallies = r.new.1.1.1.1.1.0; queue = r.new.1.1.1.1.1.1.0; work = r.new.1.1.1.1.1.1.1.0 }) r.ensures r.auto.1.1.1.0 r.auto.1.1.1.1.0 r.auto.1.1.1.1.1.0 r.auto.1.1.1.1.1.1.0 r.auto.1.1.1.1.1.1.1.0
 
 same_length : tie.Need-same-length invariant-loop decreases-loop
 same_length c = c.before.before.loop.invariant.loop.current_long
@@ -76,7 +76,7 @@ returns : tie.Need-returns invariant-loop decreases-loop
 returns c =
     let s = c.before.before.before.before.before.before.before.before.before.before.before in
     let l = c.before.before.loop in
-    turns-done s.args.session.now s.requires.0.indexed.accepted (record { current = s.args.current.now; ended = s.args.ended.now; tallies = s.args.tallies.now; queue = s.args.queue.now; work = s.args.work.now }) s.args.level s.requires.1 (record { current = l.current; ended = l.ended; tallies = l.tallies; queue = l.queue; work = l.work }) l.invariant (omega (arith, c.if1.false))
+    turns_done s.args.session.now s.requires.0.indexed.accepted (record { current = s.args.current.now; ended = s.args.ended.now; tallies = s.args.tallies.now; queue = s.args.queue.now; work = s.args.work.now }) s.args.level s.requires.1 (record { current = l.current; ended = l.ended; tallies = l.tallies; queue = l.queue; work = l.work }) l.invariant (omega (arith, c.if1.false))
 
 pub run-level-spec : {M : Type 1} → statement M
 run-level-spec =

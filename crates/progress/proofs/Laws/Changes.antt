@@ -25,7 +25,7 @@ use Rattle.scripts.specs.State as defined
 use Rattle.scripts.specs.Valid.{Known, Each}
 use Rattle.scripts.specs.Value.{number_in}
 use Rattle.scripts.proofs.Laws.Accepted.{EffectPresent, script_short, next_present}
-use Rattle.scripts.proofs.Laws.Charged.{written-way, created-way}
+use Rattle.scripts.proofs.Laws.Charged.{written_way, created_way}
 use Rattle.fields.specs.Limits.{object_values}
 use Rattle.fields.specs.Fields.{field_at, FieldThere, FieldSet}
 use Rattle.frames.specs.Frames.{frame_of}
@@ -62,13 +62,13 @@ module _ (s : List ℕ) (read : ℕ → ℕ → Value) (m : defined.Manager) (f 
 
   created_low : (a : ℕ) → Low s (created p read m f a).effect
   created_low a =
-      created-way (λ d. Low s d.effect) p read m f a
+      created_way (λ d. Low s d.effect) p read m f a
       (λ l t u c. ((λ _. low), ((λ z. absurd (omega (arith, z))), ((λ z. absurd (omega (arith, z))), ((λ z. absurd (omega (arith, z))), tt)))))
       tt tt
 
   withdrawn_low : Low s (written p read m f existence withdrawn).effect
   withdrawn_low =
-      written-way (λ d. Low s d.effect) p read m f existence withdrawn (λ l t c. ((λ _. omega arith), tt)) tt tt
+      written_way (λ d. Low s d.effect) p read m f existence withdrawn (λ l t c. ((λ _. omega arith), tt)) tt tt
 
   operated_low : (i : Step) → IsChange i → Low s (operated p read m f i).effect
   unfolding operated
@@ -139,9 +139,9 @@ module _ {s masks index current : List ℕ} {m : Manager} (can : Changeable s ma
     step_is : change_of (frame_of m.core.top) r.change ≡ (stepped (program_of s) (field_at current) (manager_of m)).effect
     step_is = ap (λ d. d.effect) (done.is (field_at current) (λ o n e. refl))
 
-    pub change-there : Concerns s r.change
+    pub change_there : Concerns s r.change
     unfolding stepped manager_of
-    change-there =
+    change_there =
         let n = manager_of m in
         let f = frame_of m.core.top in
         let read = field_at current in
@@ -157,9 +157,9 @@ module _ {s masks index current : List ℕ} {m : Manager} (can : Changeable s ma
     numbered (Create o w) h = number_few s a o h.0
     numbered (Withdraw o) h = number_few s a o h
 
-    pub change-writable : (tallies : List ℕ) → tally_numbers ≤ length tallies → Writable current tallies m.core.level r.change
-    change-writable tallies room =
-        record { fields_there = can.fields_there; tallies_there = room; level_small = small; numbers = numbered r.change change-there }
+    pub change_writable : (tallies : List ℕ) → tally_numbers ≤ length tallies → Writable current tallies m.core.level r.change
+    change_writable tallies room =
+        record { fields_there = can.fields_there; tallies_there = room; level_small = small; numbers = numbered r.change change_there }
 
     module _ (ended : List ℕ) {t c' t' : List ℕ} where
       does : (g : Progress) (run : RunFork) (x : model.Fork) → RepresentedBy s g current ended t → (ch : Change) → Concerns s ch → Written m.core.level m.core.top ch current t c' t' → RepresentedBy s (effected run m.core.level x (manager_of m) (change_of (frame_of m.core.top) ch) g) c' ended t'
@@ -192,16 +192,16 @@ module _ {s masks index current : List ℕ} {m : Manager} (can : Changeable s ma
           (spared_change s (words c' ended t) m.core.level small)
           )
 
-    pub change-done : (t c' t' : List ℕ) → Written m.core.level m.core.top r.change current t c' t' → ChangeDone s m r.manager current t c' t'
-    change-done t c' t' written =
+    pub change_done : (t c' t' : List ℕ) → Written m.core.level m.core.top r.change current t c' t' → ChangeDone s m r.manager current t c' t'
+    change_done t c' t' written =
         let stepping : (g : Progress) (ended : List ℕ) → RepresentedBy s g current ended t → record { manager = manager_of r.manager; effect = change_of (frame_of m.core.top) r.change } ≡ stepped (program_of s) (field_now (program_of s) g) (manager_of m) =
         λ g ended q. done.is (field_now (program_of s) g) (own_existence a g q m.core.level) in
         record {
           is = λ ended g q. ap (λ d. d.manager) (stepping g ended q);
           does = λ ended g run x q.
               subst (λ e. RepresentedBy s (effected run m.core.level x (manager_of m) e g) c' ended t') (ap (λ d. d.effect) (stepping g ended q))
-              (does ended g run x q r.change change-there written);
-          spared = λ ended. spared ended r.change change-there written;
+              (does ended g run x q r.change change_there written);
+          spared = λ ended. spared ended r.change change_there written;
           held = done.held;
           level_is = done.level_is;
           first_is = done.first_is;

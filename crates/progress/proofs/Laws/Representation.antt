@@ -31,7 +31,7 @@ use Rattle.theorems.proofs.Laws.Invariant.Measure.{inserted-length}
 use Rattle.histories.specs.Histories.{histories_at, history_of, Added}
 use Rattle.tallies.specs.Places.{next_place, waiting_place, all_changes_place, tally_numbers, tallied, changed, unchanged}
 use Rattle.tallies.proofs.Laws.Changed.{changed-length, changed_other, changed-all}
-use Rattle.tallies.proofs.Laws.Closed.{tallied-length, tallied_other, tallied-count, tallied_next}
+use Rattle.tallies.proofs.Laws.Closed.{tallied-length, tallied_other, tallied_count, tallied_next}
 use Rattle.progress.specs.Representation.{Counted, RepresentedBy}
 
 -- the fields after a write
@@ -143,7 +143,7 @@ module _ (s : List ℕ) (g : Progress) (c e e' t : List ℕ) (q : RepresentedBy 
 
   -- what is counted of it then, and of another
   count_own : get_or t' l 0 ≡ get_or t l 0 + 1
-  count_own = tallied-count l (get_or t l 0 + 1) (m.stamp + 1) t small q.tallies_there
+  count_own = tallied_count l (get_or t l 0 + 1) (m.stamp + 1) t small q.tallies_there
 
   count_other : (j : ℕ) → j < max_levels → (j ≡ l → ⊥) → get_or t' j 0 ≡ get_or t j 0
   count_other j hj d = tallied_other l (get_or t l 0 + 1) (m.stamp + 1) t j d (λ z. omega (arith, z, hj))

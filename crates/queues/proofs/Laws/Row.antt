@@ -67,19 +67,19 @@ module _ (ws : List ℕ) (l i stamp depth : ℕ) (message : Message) where
   abbrev word : ℕ → ℕ
   word j = get_or ws (fork_place l i + carried_place + j) 0
 
-  abbrev pub partRow : ℕ → List ℕ
-  partRow j = row_with stamp depth message (tab j word ++ drop j (replicate max_levels 0))
+  abbrev pub part_row : ℕ → List ℕ
+  part_row j = row_with stamp depth message (tab j word ++ drop j (replicate max_levels 0))
 
   -- none yet, one more, all
-  pub part_none : row_of stamp depth message ≡ partRow 0
+  pub part_none : row_of stamp depth message ≡ part_row 0
   part_none = ap (row_with stamp depth message) (tab_fill_none word (replicate max_levels 0))
 
-  pub part_more : (j : ℕ) → j < max_levels → set (partRow j) (carried_place + j) (word j) ≡ partRow (j + 1)
+  pub part_more : (j : ℕ) → j < max_levels → set (part_row j) (carried_place + j) (word j) ≡ part_row (j + 1)
   part_more j h =
       set_carried stamp depth message (tab j word ++ drop j (replicate max_levels 0)) j (word j)
       ∙ ap (row_with stamp depth message) (tab_fill_more j word (replicate max_levels 0) h)
 
-  pub part_all : partRow max_levels ≡ row_with stamp depth message (carried_at ws l i)
+  pub part_all : part_row max_levels ≡ row_with stamp depth message (carried_at ws l i)
   unfolding row_at tab
   part_all = refl
 

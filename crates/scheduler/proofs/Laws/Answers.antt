@@ -46,8 +46,8 @@ module _ (s : List ℕ) (a : verdict_of s ≡ Accepted) where
 
   module _ (w : Words) (ms : ℕ → Manager) (st : State) (t : Represents s w ms st) where
     -- the words from which the records are written are there
-    pub write-ready : (masks : List ℕ) (level : ℕ) (buffer : List ℕ) → Leveled s masks → level ≡ level_of s (root_object s) → result_bytes ≤ length buffer → Ready s masks w.current w.ended w.tallies level buffer
-    write-ready masks level buffer leveled e room =
+    pub write_ready : (masks : List ℕ) (level : ℕ) (buffer : List ℕ) → Leveled s masks → level ≡ level_of s (root_object s) → result_bytes ≤ length buffer → Ready s masks w.current w.ended w.tallies level buffer
+    write_ready masks level buffer leveled e room =
         record {
           fields_ready = record { accepted = a; table = leveled.masks_are; room = t.roomy.current };
           histories_ready = record { room = t.roomy.ended; levels = omega (arith, t.roomy.tallies); counted = t.counts_few };
@@ -75,8 +75,8 @@ module _ (s : List ℕ) (a : verdict_of s ≡ Accepted) where
     emptied = zero ∙ cleared_rest work work1 same
 
     -- the list was refused
-    pub list-refused : (w : Words) (o : code.RunEnd) (number place : ℕ) (r : Answer) → Ends s ls w o → o ≡ runEnd.Refused number place → Refused number place r → buffer' ≡ buffer → ListDone s ls c work work' buffer buffer' r
-    list-refused w o number place r e is (i, j, k) b =
+    pub list_refused : (w : Words) (o : code.RunEnd) (number place : ℕ) (r : Answer) → Ends s ls w o → o ≡ runEnd.Refused number place → Refused number place r → buffer' ≡ buffer → ListDone s ls c work work' buffer buffer' r
+    list_refused w o number place r e is (i, j, k) b =
         let ends : run_of (program_of s) (root_of s) ls ≡ refused number place = rw is at e in
         rw (i, j, k, emptied, b) (sym (ap (answer_of q) ends ∙ answer number place))
       where
@@ -145,7 +145,7 @@ finished-by s ls w o e x =
 
 pub show-ready : (s masks ls : List ℕ) (w : Words) (level : ℕ) (buffer : List ℕ) → Leveled s masks → Ends s ls w runEnd.Finished → level ≡ level_of s (root_object s) → result_bytes ≤ length buffer → Ready s masks w.current w.ended w.tallies level buffer
 show-ready s masks ls w level buffer y (ms, (st, (run, t))) e room =
-    write-ready s y.accepted w ms st t masks level buffer y e room
+    write_ready s y.accepted w ms st t masks level buffer y e room
 
 -- the root's level, however it is come by
 pub answered-root : (s : List ℕ) (c d : ℕ) (work buffer : List ℕ) (number place count : ℕ) (work' buffer' : List ℕ) → c ≡ d → Answers (plain (request s c work buffer)) number place count work' buffer' → Answers (plain (request s d work buffer)) number place count work' buffer'

@@ -89,36 +89,36 @@ module _ (s : List ℕ) (a : verdict_of s ≡ Accepted) where
     at_first : {n : ℕ} (place : ℕ) → get_or start_tallies place 0 ≡ n → get_or w.tallies place 0 ≡ n
     at_first place e = ap (λ t. get_or t place 0) counts ∙ e
 
-    ended-first : (l : ℕ) → l < max_levels → get_or w.tallies l 0 ≡ 0
-    ended-first l h = at_first l (first_ended l h)
+    ended_first : (l : ℕ) → l < max_levels → get_or w.tallies l 0 ≡ 0
+    ended_first l h = at_first l (first_ended l h)
 
-    waiting-first : (l : ℕ) → l < max_levels → get_or w.tallies (waiting_place l) 0 ≡ 0
-    waiting-first l h = at_first (waiting_place l) (first_waiting l h)
+    waiting_first : (l : ℕ) → l < max_levels → get_or w.tallies (waiting_place l) 0 ≡ 0
+    waiting_first l h = at_first (waiting_place l) (first_waiting l h)
 
-    busy-first : (l : ℕ) → l < max_levels → get_or w.tallies (busy_place l) 0 ≡ 0
-    busy-first l h = at_first (busy_place l) (first_busy l h)
+    busy_first : (l : ℕ) → l < max_levels → get_or w.tallies (busy_place l) 0 ≡ 0
+    busy_first l h = at_first (busy_place l) (first_busy l h)
 
-    level-none : (l : ℕ) (m : Manager) → l < max_levels → LevelRepresents (level_count s) w l m new_level
-    level-none l m h =
+    level_none : (l : ℕ) (m : Manager) → l < max_levels → LevelRepresents (level_count s) w l m new_level
+    level_none l m h =
         record {
-          ended_count = ended-first l h;
+          ended_count = ended_first l h;
           ended = histories_none w.ended l;
           ended_rises = none_rises;
           next = at_first (next_place l) (first_next l h);
-          waiting_count = waiting-first l h;
+          waiting_count = waiting_first l h;
           waiting = forks_none (level_count s) w.queue l 0;
           waiting_rises = rises_none w.queue l 0;
           version_count = at_first (versions_place l) (first_versions l h);
           versions = log_none w.work (log_start l);
-          activity = busy-first l h;
+          activity = busy_first l h;
           unchanged_own = λ _. tt;
           unchanged_any = λ _. tt;
         }
 
     -- the words behind the session's objects, which were 0, say NIL, as no other object has a value at first
-    first-value : (o k : ℕ) → o < max_numbers → k < object_values → field_at w.current o k ≡ initially (program_of s) o k
+    first_value : (o k : ℕ) → o < max_numbers → k < object_values → field_at w.current o k ≡ initially (program_of s) o k
     unfolding field_at
-    first-value o k h j = elim (dec_lt o (object_count s)) [
+    first_value o k h j = elim (dec_lt o (object_count s)) [
       | yes own ↦ unfold field_at in filled.fields_are o k own j
       | no other ↦
           let zero : (i : ℕ) → field_place (object_count s) 0 ≤ i → i < field_words → get_or w.current i 0 ≡ 0 = λ i b l. filled.outside.above i b ∙ zeros i l in
@@ -126,21 +126,21 @@ module _ (s : List ℕ) (a : verdict_of s ≡ Accepted) where
           ∙ sym (first_none s o k (omega (arith, other)))
     ]
 
-    field-none : (o k : ℕ) → o < max_numbers → k ≤ existence → field_at w.current o k ≡ newest (initially (program_of s) o k) o k (level_at none ((program_of s).level o)).versions
+    field_none : (o k : ℕ) → o < max_numbers → k ≤ existence → field_at w.current o k ≡ newest (initially (program_of s) o k) o k (level_at none ((program_of s).level o)).versions
     unfolding newest program_of
-    field-none o k h j =
-        first-value o k h (omega (arith, j))
+    field_none o k h j =
+        first_value o k h (omega (arith, j))
         ∙ sym (ap (λ v. newest (initially (program_of s) o k) o k v.versions) (none_at (level_of s o) (level_present s a o)))
 
     -- they say that nothing has happened
-    represents-none : (ms : ℕ → Manager) → Represents s w ms none
-    represents-none ms =
+    represents_none : (ms : ℕ → Manager) → Represents s w ms none
+    represents_none ms =
         record {
           roomy = roomy;
-          counts_few = λ l h. rw (ended-first l h) (omega arith);
+          counts_few = λ l h. rw (ended_first l h) (omega arith);
           levels = length-replicate (level_count s) new_level;
-          field = field-none;
-          level = λ l h. rw (none_at l h) (level-none l (ms l) (omega (arith, h, level_limit s a)));
+          field = field_none;
+          level = λ l h. rw (none_at l h) (level_none l (ms l) (omega (arith, h, level_limit s a)));
         }
 
     -- and once the root's fork has arrived, that the session is read in
@@ -154,21 +154,21 @@ module _ (s : List ℕ) (a : verdict_of s ≡ Accepted) where
       small : level < max_levels
       small = omega (arith, level_there level placed, level_limit s a)
 
-      came-first : (i j : ℕ) → i ≡ 0 → j ≡ 0 → Arrived w.queue queue level i j row count
-      came-first i j e q = rw (e, q) came
+      came_first : (i j : ℕ) → i ≡ 0 → j ≡ 0 → Arrived w.queue queue level i j row count
+      came_first i j e q = rw (e, q) came
 
-      represents-start : (ms : ℕ → Manager) → Represents s words ms (initial_state s)
-      represents-start ms =
+      represents_start : (ms : ℕ → Manager) → Represents s words ms (initial_state s)
+      represents_start ms =
           represents_state (start_is level row placed root)
-          (represents_arrive s w ms none (represents-none ms) (λ k h. rw (none_at k h) new_limited) (level_limit s a) level (level_there level placed) tallies queue row count
-          (came-first _ _ (omega (arith, ended-first level small, busy-first level small)) (waiting-first level small))
+          (represents_arrive s w ms none (represents_none ms) (λ k h. rw (none_at k h) new_limited) (level_limit s a) level (level_there level placed) tallies queue row count
+          (came_first _ _ (omega (arith, ended_first level small, busy_first level small)) (waiting_first level small))
           refl)
 
-      quiescent-start : Quiescent s words (initial_state s)
-      quiescent-start =
+      quiescent_start : Quiescent s words (initial_state s)
+      quiescent_start =
           record {
             invariant = λ ms. record {
-              represents = represents-start ms;
+              represents = represents_start ms;
               reached = ([], leads_none (program_of s) (initial_state s));
             };
             idle_all = λ k h. start_idle k;
@@ -176,12 +176,12 @@ module _ (s : List ℕ) (a : verdict_of s ≡ Accepted) where
 
   module _ (index current tallies queue : List ℕ) (f : Fresh index current tallies queue) (m : Message) (level : ℕ) (e : m ≡ root_of s) (i : level ≡ level_of s m.object) where
     -- there is room for the root's fork, and a number for how many wait
-    pub root-room : Room queue level 0 0
-    root-room =
+    pub root_room : Room queue level 0 0
+    root_room =
         record { room = f.forks_room; level = level_small m level e i; kept = omega arith; rises = rises_none queue level 0 }
 
-    pub root-tally : waiting_place level < length tallies
-    root-tally = rw f.counts (omega (arith, level_small m level e i))
+    pub root_tally : waiting_place level < length tallies
+    root_tally = rw f.counts (omega (arith, level_small m level e i))
 
     -- the words of a session as read in
     pub read_in_lem : (index' current' queue' row : List ℕ) (count : ℕ) → index' ≡ index_of s ++ drop (max_methods + 1) index → Filled s current current' → RootRow m row → Arrived queue queue' level 0 0 row count
@@ -190,7 +190,7 @@ module _ (s : List ℕ) (a : verdict_of s ≡ Accepted) where
         record {
           index_is = index_made s index index' f.methods made;
           level_is = root_level m level e i;
-          quiescent = λ ended work he hw. quiescent-start
+          quiescent = λ ended work he hw. quiescent_start
               (record { current = current'; ended = ended; tallies = tallies; queue = queue; work = work })
               (record {
                 current = rw filled.outside.length_same f.fields_room;

@@ -1,6 +1,6 @@
 -- `scheduler::read_in` meets its contract. Assumes nothing.
 use native.Mathlib.Omega.{arith}
-use Rattle.scheduler.proofs.Laws.Start.{root_there, level_small, root-room, root-tally, read_in_lem}
+use Rattle.scheduler.proofs.Laws.Start.{root_there, level_small, root_room, root_tally, read_in_lem}
 use borrow.Author.Rules.{rules}
 use Rattle.scheduler.proofs.read_in.Statement.{statement}
 use Rattle.scheduler.proofs.read_in.Tie as tie
@@ -14,7 +14,7 @@ arrive-requires : tie.Need-arrive-requires
 arrive-requires c κs =
     let z = c.before.before.before.before.before.before.before.before.before.before.before.before.before.before.before.before.before.before.before.before in
     let l = c.before.before.before in
-    root-room _ z.requires.0.accepted _ _ _ _ z.requires.1 _ _ l.before.before.root.ensures l.level-of.ensures
+    root_room _ z.requires.0.accepted _ _ _ _ z.requires.1 _ _ l.before.before.root.ensures l.level-of.ensures
 
 add-tallies : tie.Need-overflow-add-tallies
 add-tallies c =
@@ -32,7 +32,7 @@ slice-write-tallies : tie.Need-slice-write-tallies
 slice-write-tallies c =
     let z = c.before.before.before.before.before.before.before.before.before.before.before.before.before.before.before.before.before.before.before.before.before.before.before in
     let l = c.before.before.before.before.before.before in
-    root-tally _ z.requires.0.accepted _ _ _ _ z.requires.1 _ _ l.before.before.root.ensures l.level-of.ensures
+    root_tally _ z.requires.0.accepted _ _ _ _ z.requires.1 _ _ l.before.before.root.ensures l.level-of.ensures
 
 returns : tie.Need-returns
 returns c =

@@ -3,7 +3,7 @@ use mathlib.Core.Path.{refl}
 use Rattle.fields.specs.Limits.{field_words}
 use Rattle.queues.specs.Queue.{queue_words}
 use Rattle.scheduler.specs.Runs.{list_of}
-use Rattle.scheduler.proofs.Laws.Answers.{zeros-long, zeros-are, finished-by, show-ready, list-refused, list-finished}
+use Rattle.scheduler.proofs.Laws.Answers.{zeros-long, zeros-are, finished-by, show-ready, list_refused, list-finished}
 use borrow.Author.Rules.{rules}
 use Rattle.scheduler.proofs.run_accepted.Statement.{statement}
 use Rattle.scheduler.proofs.run_accepted.Tie as tie
@@ -25,7 +25,7 @@ returns c =
     let m = k.before.before.before.before.before.before.before.before in
     let z = m.before.before.before.before.before.before.before.before.before.before.before.before.before.before.before.before.before.before.before.before.before.before in
     let r = m.make-steps in
-    list-refused z.args.session.now z.requires.leveled.accepted (list_of z.args.session.now z.args.timetable.now z.args.listed) z.args.clearance z.args.work.now r.new.1.1.1.1.1.1.1.1.1.0 k.clear.new.0 z.args.res.now z.args.res.now r.ensures.1 k.clear.ensures (record { current = r.new.1.1.1.1.1.0; ended = r.new.1.1.1.1.1.1.0; tallies = r.new.1.1.1.1.1.1.1.0; queue = r.new.1.1.1.1.1.1.1.1.0; work = r.new.1.1.1.1.1.1.1.1.1.0 }) r.result _ _ c.refused.result r.ensures.0 c.before.before.end.given.1 c.refused.ensures refl
+    list_refused z.args.session.now z.requires.leveled.accepted (list_of z.args.session.now z.args.timetable.now z.args.listed) z.args.clearance z.args.work.now r.new.1.1.1.1.1.1.1.1.1.0 k.clear.new.0 z.args.res.now z.args.res.now r.ensures.1 k.clear.ensures (record { current = r.new.1.1.1.1.1.0; ended = r.new.1.1.1.1.1.1.0; tallies = r.new.1.1.1.1.1.1.1.0; queue = r.new.1.1.1.1.1.1.1.1.0; work = r.new.1.1.1.1.1.1.1.1.1.0 }) r.result _ _ c.refused.result r.ensures.0 c.before.before.end.given.1 c.refused.ensures refl
 
 enum_told : tie.Need-enum-told
 enum_told c = search rules

@@ -33,7 +33,7 @@ use Rattle.scripts.specs.Valid.{Aimed, script_method, Known, Each}
 use Rattle.scripts.specs.State.{Frame, Manager}
 use Rattle.scripts.specs.Effect.{Effect}
 use Rattle.scripts.specs.Effect as effect
-use Rattle.scripts.proofs.Laws.Charged.{written-way, created-way}
+use Rattle.scripts.proofs.Laws.Charged.{written_way, created_way}
 use Rattle.scripts.proofs.Laws.Effects.{Readable, Legible, Fielded, Sound}
 use Rattle.scripts.proofs.Laws.Stack.{runs_any, Preserves}
 
@@ -127,11 +127,11 @@ EffectPresent s (effect.Fork u message) = Numbered s message.object × (message.
 
 written_present : (s : List ℕ) (p : Program) (read : ℕ → ℕ → Value) (m : Manager) (f : Frame) (k : ℕ) (v : Value) → Numbered s f.object → k ≤ existence → EffectPresent s (written p read m f k v).effect
 written_present s p read m f k v h q =
-    written-way (λ d. EffectPresent s d.effect) p read m f k v (λ l t c. ((h, q), tt)) tt tt
+    written_way (λ d. EffectPresent s d.effect) p read m f k v (λ l t c. ((h, q), tt)) tt tt
 
 created_present : (s : List ℕ) (p : Program) (read : ℕ → ℕ → Value) (m : Manager) (f : Frame) (a : ℕ) → m.level < level_count s → EffectPresent s (created p read m f a).effect
 created_present s p read m f a h =
-    created-way (λ d. EffectPresent s d.effect) p read m f a
+    created_way (λ d. EffectPresent s d.effect) p read m f a
     (λ l t u c.
     let o = made_numbered s m.level (used_of read m.level) h u in
     ((o, omega arith), ((o, omega arith), ((o, omega arith), ((o, omega arith), tt)))))

@@ -53,11 +53,11 @@ module _ (Q : Stepped → Type 0) where
   ]
 
   module _ (p : Program) (read : ℕ → ℕ → Value) (m : Manager) (f : Frame) where
-    pub written-way : (k : ℕ) (v : Value)
+    pub written_way : (k : ℕ) (v : Value)
         → (p.level f.object ≡ m.level → is_there (read f.object existence) ≡ true → m.writes + 1 ≤ max_writes → Q (takes_effect m f (own_field f k v)))
         → Q (too_much m f) → Q (without m f) → Q (written p read m f k v)
     unfolding written
-    written-way k v x y z = elim (truth (owns p read m f)) [
+    written_way k v x y z = elim (truth (owns p read m f)) [
       | holds e ↦
           let l = eqb-true (p.level f.object) m.level (and_left _ _ e) in
           let t = and_right (eqb (p.level f.object) m.level) _ e in
@@ -65,13 +65,13 @@ module _ (Q : Stepped → Type 0) where
       | fails e ↦ rw e z
     ]
 
-    pub created-way : (a : ℕ)
+    pub created_way : (a : ℕ)
         → (p.level f.object ≡ m.level → is_there (read f.object existence) ≡ true → used_of read m.level < made_objects → m.writes + 4 ≤ max_writes
         → Q (takes_effect m (with_register f a (Number (made_number m.level (used_of read m.level))))
         (making (made_number m.level (used_of read m.level)) f.r1 f.r2 f.r3 (script_seen read f.object))))
         → Q (too_much m f) → Q (without m (with_register f a Nil)) → Q (created p read m f a)
     unfolding created
-    created-way a x y z = elim (truth (owns p read m f && ltb (used_of read m.level) made_objects)) [
+    created_way a x y z = elim (truth (owns p read m f && ltb (used_of read m.level) made_objects)) [
       | holds e ↦
           let o = and_left (owns p read m f) _ e in
           let l = eqb-true (p.level f.object) m.level (and_left _ _ o) in

@@ -21,7 +21,7 @@ use Rattle.scripts.specs.Manager.{top, below_of, next_step, is_end, popped_to, p
 use Rattle.scripts.specs.State.{Frame, Manager, Stepped}
 use Rattle.scripts.specs.Effect.{Effect}
 use Rattle.scripts.specs.Effect as effect
-use Rattle.scripts.proofs.Laws.Charged.{written-way, created-way}
+use Rattle.scripts.proofs.Laws.Charged.{written_way, created_way}
 
 -- a manager without its stack and reply
 pub record Counts : Type 0 where
@@ -89,10 +89,10 @@ abbrev CountsFollow : Manager → Stepped → Type 0
 CountsFollow m d = counts d.manager ≡ grown (counts m) d.effect
 
 written_counts : (p : Program) (read : ℕ → ℕ → Value) (m : Manager) (f : Frame) (k : ℕ) (v : Value) → CountsFollow m (written p read m f k v)
-written_counts p read m f k v = written-way (CountsFollow m) p read m f k v (λ l t c. refl) refl refl
+written_counts p read m f k v = written_way (CountsFollow m) p read m f k v (λ l t c. refl) refl refl
 
 created_counts : (p : Program) (read : ℕ → ℕ → Value) (m : Manager) (f : Frame) (a : ℕ) → CountsFollow m (created p read m f a)
-created_counts p read m f a = created-way (CountsFollow m) p read m f a (λ l t u c. refl) refl refl
+created_counts p read m f a = created_way (CountsFollow m) p read m f a (λ l t u c. refl) refl refl
 
 called_counts : (m : Manager) (f : Frame) (a : ℕ) (callee : Frame) → CountsFollow m (called m f a callee)
 unfolding called

@@ -26,7 +26,7 @@ use Rattle.scripts.specs.Valid.{Each}
 use Rattle.scripts.specs.State.{Frame, Manager}
 use Rattle.scripts.specs.Effect.{Effect}
 use Rattle.scripts.specs.Effect as effect
-use Rattle.scripts.proofs.Laws.Charged.{written-way, created-way}
+use Rattle.scripts.proofs.Laws.Charged.{written_way, created_way}
 
 -- level l dominates the object of the session whose methods a script has
 abbrev pub Readable : Program → ℕ → ℕ → Type 0
@@ -45,7 +45,7 @@ Fits p m (effect.Write ws) = Each (λ w. p.level w.object ≡ m.level) ws × (m.
 Fits p m (effect.Fork u message) = (u < p.levels) × ((strictly p.dom u m.level ≡ true) × (m.forks < max_forks))
 
 written_fits : (p : Program) (read : ℕ → ℕ → Value) (m : Manager) (f : Frame) (k : ℕ) (v : Value) → Fits p m (written p read m f k v).effect
-written_fits p read m f k v = written-way (λ s. Fits p m s.effect) p read m f k v (λ l t c. ((l, tt), c)) tt tt
+written_fits p read m f k v = written_way (λ s. Fits p m s.effect) p read m f k v (λ l t c. ((l, tt), c)) tt tt
 
 forked_fits : (p : Program) (m : Manager) (f : Frame) (a u : ℕ) (message : Message) → u < p.levels → strictly p.dom u m.level ≡ true → Fits p m (forked m f a u message).effect
 unfolding forked
@@ -84,7 +84,7 @@ pub record Sound (p : Program) : Type 0 where
 
 created_fits : (p : Program) (read : ℕ → ℕ → Value) (m : Manager) (f : Frame) (a : ℕ) → Sound p → m.level < p.levels → Fits p m (created p read m f a).effect
 created_fits p read m f a so h =
-    created-way (λ s. Fits p m s.effect) p read m f a
+    created_way (λ s. Fits p m s.effect) p read m f a
     (λ l t u c. let o = so.owned m.level (used_of read m.level) h u in ((o, (o, (o, (o, tt)))), c))
     tt tt
 

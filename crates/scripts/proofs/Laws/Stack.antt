@@ -25,7 +25,7 @@ use Rattle.scripts.specs.Ending.{is_running}
 use Rattle.scripts.specs.Manager.{top_of, below_of, top, with_top, is_end, next_step, popped_to, popped, settled, settled_from, concluded, written, created, called, forked, sent, operated, stepped}
 use Rattle.scripts.specs.Valid.{Each, Stack}
 use Rattle.scripts.specs.State.{Frame, Manager}
-use Rattle.scripts.proofs.Laws.Charged.{written-way, created-way}
+use Rattle.scripts.proofs.Laws.Charged.{written_way, created_way}
 
 -- the stack of a manager
 abbrev pub Stacked : (Frame → Type 0) → Manager → Type 0
@@ -120,11 +120,11 @@ module _ (P : Frame → Type 0) (kept : (f : Frame) (k : ℕ) (v : Value) → P 
   written_stack : (p : Program) (read : ℕ → ℕ → Value) (m : Manager) (f : Frame) (k : ℕ) (v : Value) → Stacked P m → P f → Stacked P (written p read m f k v).manager
   written_stack p read m f k v s b =
       let t = replaced_stack P m f s b in
-      written-way (λ d. Stacked P d.manager) p read m f k v (λ l h c. t) t t
+      written_way (λ d. Stacked P d.manager) p read m f k v (λ l h c. t) t t
 
   created_stack : (p : Program) (read : ℕ → ℕ → Value) (m : Manager) (f : Frame) (a : ℕ) → Stacked P m → P f → Stacked P (created p read m f a).manager
   created_stack p read m f a s b =
-      created-way (λ d. Stacked P d.manager) p read m f a
+      created_way (λ d. Stacked P d.manager) p read m f a
       (λ l h u c. replaced_stack P m _ s (kept f a _ b))
       (replaced_stack P m f s b) (replaced_stack P m _ s (kept f a Nil b))
 

@@ -29,7 +29,7 @@ use Rattle.scripts.specs.Valid.{Each, Stack}
 use Rattle.scripts.specs.State.{Frame, Manager}
 use Rattle.scripts.specs.Effect.{Effect}
 use Rattle.scripts.specs.Effect as effect
-use Rattle.scripts.proofs.Laws.Charged.{written-way, created-way}
+use Rattle.scripts.proofs.Laws.Charged.{written_way, created_way}
 use Rattle.scripts.proofs.Laws.Effects.{Readable, Legible, Fielded, Sound}
 use Rattle.scripts.proofs.Laws.Endings.{concluded_live, running_live}
 use Rattle.scripts.proofs.Laws.Reads.{sent_reads, written_reads, created_reads}
@@ -192,10 +192,10 @@ Reaches p (effect.Write ws) = Unit
 Reaches p (effect.Fork u message) = p.dom u (p.level message.object) ≡ true
 
 written_reaches : (p : Program) (read : ℕ → ℕ → Value) (m : Manager) (f : Frame) (k : ℕ) (v : Value) → Reaches p (written p read m f k v).effect
-written_reaches p read m f k v = written-way (λ d. Reaches p d.effect) p read m f k v (λ l t c. tt) tt tt
+written_reaches p read m f k v = written_way (λ d. Reaches p d.effect) p read m f k v (λ l t c. tt) tt tt
 
 created_reaches : (p : Program) (read : ℕ → ℕ → Value) (m : Manager) (f : Frame) (a : ℕ) → Reaches p (created p read m f a).effect
-created_reaches p read m f a = created-way (λ d. Reaches p d.effect) p read m f a (λ l t u c. tt) tt tt
+created_reaches p read m f a = created_way (λ d. Reaches p d.effect) p read m f a (λ l t u c. tt) tt tt
 
 forked_reaches : (p : Program) (m : Manager) (f : Frame) (a u : ℕ) (message : Message) → p.dom u (p.level message.object) ≡ true → Reaches p (forked m f a u message).effect
 unfolding forked
@@ -241,12 +241,12 @@ Lawfully p l (effect.Write ws) = Each (λ w. Lawful p l w.field w.value) ws
 Lawfully p l (effect.Fork u message) = Unit
 
 written_lawful : (p : Program) (l : ℕ) (read : ℕ → ℕ → Value) (m : Manager) (f : Frame) (k : ℕ) (v : Value) → Lawful p l k v → Lawfully p l (written p read m f k v).effect
-written_lawful p l read m f k v w = written-way (λ d. Lawfully p l d.effect) p read m f k v (λ _ t c. (w, tt)) tt tt
+written_lawful p l read m f k v w = written_way (λ d. Lawfully p l d.effect) p read m f k v (λ _ t c. (w, tt)) tt tt
 
 -- the script of an object that is made is that of the frame's own object, which lies at the level
 created_lawful : (p : Program) (l : ℕ) (read : ℕ → ℕ → Value) (m : Manager) (f : Frame) (a : ℕ) → Legible p read → m.level ≡ l → Lawfully p l (created p read m f a).effect
 created_lawful p l read m f a g q =
-    created-way (λ d. Lawfully p l d.effect) p read m f a
+    created_way (λ d. Lawfully p l d.effect) p read m f a
     (λ e t u c.
     let r : Readable p l (script_seen read f.object) = rw (e ∙ q) at (g f.object) in
     ((λ _. r), ((λ z. absurd (omega (arith, z))), ((λ z. absurd (omega (arith, z))), ((λ z. absurd (omega (arith, z))), tt)))))

@@ -24,7 +24,7 @@ use Rattle.scripts.specs.Manager.{top, next_step, written, created, called, fork
 use Rattle.scripts.specs.State.{Frame, Manager}
 use Rattle.scripts.specs.Effect.{Written, Effect}
 use Rattle.scripts.specs.Effect as effect
-use Rattle.scripts.proofs.Laws.Charged.{written-way, created-way}
+use Rattle.scripts.proofs.Laws.Charged.{written_way, created_way}
 use Rattle.scripts.proofs.Laws.Effects.{Fielded, Sound}
 use Rattle.scripts.proofs.Laws.Within.{next_fielded}
 
@@ -48,15 +48,15 @@ there_script (Number (suc w)) e = (w, refl)
 module _ (p : Program) (read : ℕ → ℕ → Value) (m : Manager) (f : Frame) where
   field_writing : (k : ℕ) (v : Value) → k < fields → Writing p read m.level (written p read m f k v).effect
   field_writing k v h =
-      written-way (λ d. Writing p read m.level d.effect) p read m f k v (λ l t c. field f.object k v h refl) tt tt
+      written_way (λ d. Writing p read m.level d.effect) p read m f k v (λ l t c. field f.object k v h refl) tt tt
 
   withdrawal_writing : Writing p read m.level (written p read m f existence withdrawn).effect
   withdrawal_writing =
-      written-way (λ d. Writing p read m.level d.effect) p read m f existence withdrawn (λ l t c. withdraws f.object l t refl) tt tt
+      written_way (λ d. Writing p read m.level d.effect) p read m f existence withdrawn (λ l t c. withdraws f.object l t refl) tt tt
 
   created_writing : (a : ℕ) → Writing p read m.level (created p read m f a).effect
   created_writing a =
-      created-way (λ d. Writing p read m.level d.effect) p read m f a
+      created_way (λ d. Writing p read m.level d.effect) p read m f a
       (λ l t u c.
       let (w, e) = there_script (read f.object existence) t in
       makes f.r1 f.r2 f.r3 w u (ap (making (made_number m.level (used_of read m.level)) f.r1 f.r2 f.r3) e))

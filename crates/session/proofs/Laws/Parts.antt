@@ -109,10 +109,10 @@ module _ (s : List ℕ) (k : kinds_rise s ≡ true) where
   pub below_5 : record_count s ≡ level_count s + object_count s + step_count s + length (root_records s)
   unfolding of_kind
   below_5 =
-      let all-five : count_below kind_of 5 (records_of s) ≡ length (records_of s) =
+      let all_five : count_below kind_of 5 (records_of s) ≡ length (records_of s) =
       ap length (select-all (λ rec. ltb (kind_of rec) 5) (records_of s)
       (every-all (λ rec. ltb (kind_of rec) 5) [] (records_of s) λ r h. lt-ltb _ 5 (suc-le-suc (kind_range r (rw (records_length s) at h)).1))) in
-      omega (arith, all-five, records_length s, below_4, count_more kind_of 4 (records_of s))
+      omega (arith, all_five, records_length s, below_4, count_more kind_of 4 (records_of s))
 
   -- the records of each kind, by number
   among_is : (m j : ℕ) → j < length (of_kind m s) → count_below kind_of m (records_of s) + j < record_count s → get_or (of_kind m s) j [] ≡ record_at s (count_below kind_of m (records_of s) + j)

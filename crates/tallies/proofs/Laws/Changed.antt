@@ -19,8 +19,8 @@ module _ (l : ℕ) (t : List ℕ) where
   changed_other j d e = get_or-set_other (set t (changes_place l) 1) all_changes_place j 1 0 e ∙ get_or-set_other t (changes_place l) j 1 0 d
 
   module _ (small : l < max_levels) (room : tally_numbers ≤ length t) where
-    pub changed-here : unchanged_at (changed l t) l ≡ false
-    changed-here =
+    pub changed_here : unchanged_at (changed l t) l ≡ false
+    changed_here =
         ap (λ n. eqb n 0)
         (get_or-set_other (set t (changes_place l) 1) all_changes_place (changes_place l) 1 0 (λ e. omega (arith, e, small))
         ∙ get_or-set_same t (changes_place l) 1 0 (omega (arith, small, room)))

@@ -17,8 +17,8 @@ module _ (l count next : ℕ) (t : List ℕ) where
   tallied_other j d e = get_or-set_other (set t l count) (next_place l) j next 0 e ∙ get_or-set_other t l j count 0 d
 
   module _ (small : l < max_levels) (room : tally_numbers ≤ length t) where
-    pub tallied-count : get_or (tallied l count next t) l 0 ≡ count
-    tallied-count =
+    pub tallied_count : get_or (tallied l count next t) l 0 ≡ count
+    tallied_count =
         get_or-set_other (set t l count) (next_place l) l next 0 (λ e. omega (arith, e))
         ∙ get_or-set_same t l count 0 (omega (arith, small, room))
 

@@ -9,7 +9,7 @@ use Rattle.cores.specs.declared.Effect.{Effect}
 use Rattle.cores.specs.declared.Effect.TheVariants.{Read}
 use Rattle.cores.specs.contracts.Effect as effect
 use Rattle.level_state.proofs.Laws.Script.{readable}
-use Rattle.level_state.proofs.Laws.Told.{tells, unseen_able, unseen_forgets, unseen-made, seen_field, seen-tells, seen-able, seen-forgets, seen-made}
+use Rattle.level_state.proofs.Laws.Told.{tells, unseen_able, unseen_forgets, unseen_made, seen_field, seen_tells, seen_able, seen_forgets, seen_made}
 use Rattle.timetable_steps.proofs.step_seen.Statement.{statement}
 use Rattle.timetable_steps.proofs.step_seen.Tie as tie
 
@@ -31,17 +31,17 @@ answer-read-requires c κs =
     let first = c.before.before.before.before.before.before.before.before.before.answer-existence.ensures in
     let d = c.before.before.before.before.before.step.ensures in
     let is = c.before.before.effect.given.1 in
-    (p.0.leveled, (readable p.0 p.1.waits.runs, (seen-tells p.0 p.1 first d is, (seen_field p.0 p.1 first d is).1)))
+    (p.0.leveled, (readable p.0 p.1.waits.runs, (seen_tells p.0 p.1 first d is, (seen_field p.0 p.1 first d is).1)))
 
 step-requires-2 : tie.Need-step-requires-2
 step-requires-2 c κs =
     let p = c.before.before.before.before.before.before.before.before.before.before.before.before.before.before.before.before.before.before.before.before.before.before.before.before.requires in
-    seen-able p.0 p.1 c.before.before.before.before.before.before.before.before.before.before.before.before.before.answer-existence.ensures c.before.before.before.before.before.before.before.before.before.step.ensures c.before.before.before.before.before.before.effect.given.1 c.before.before.before.answer-read.ensures
+    seen_able p.0 p.1 c.before.before.before.before.before.before.before.before.before.before.before.before.before.answer-existence.ensures c.before.before.before.before.before.before.before.before.before.step.ensures c.before.before.before.before.before.before.effect.given.1 c.before.before.before.answer-read.ensures
 
 forget-requires : tie.Need-forget-requires
 forget-requires c κs =
     let p = c.before.before.before.before.before.before.before.before.before.before.before.before.before.before.before.before.before.before.before.before.before.before.before.before.before.before.requires in
-    seen-forgets p.0 p.1 c.before.before.before.before.before.before.before.before.before.before.before.before.before.before.before.answer-existence.ensures c.before.before.before.before.before.before.before.before.before.before.before.step.ensures c.before.before.before.before.before.before.before.before.effect.given.1 c.before.before.before.before.before.answer-read.ensures
+    seen_forgets p.0 p.1 c.before.before.before.before.before.before.before.before.before.before.before.before.before.before.before.answer-existence.ensures c.before.before.before.before.before.before.before.before.before.before.before.step.ensures c.before.before.before.before.before.before.before.before.effect.given.1 c.before.before.before.before.before.answer-read.ensures
 
 forget-requires-2 : tie.Need-forget-requires-2
 forget-requires-2 c κs =
@@ -60,7 +60,7 @@ same_length c =
 returns : tie.Need-returns
 returns c =
     let p = c.before.before.before.before.before.before.before.before.before.before.before.before.before.before.before.before.before.before.before.before.before.before.before.before.before.before.before.before.before.before.before.before.before.requires in
-    seen-made p.0 p.1 c.before.before.before.before.before.before.before.before.before.before.before.before.before.before.before.before.before.before.before.before.before.before.answer-existence.ensures c.before.before.before.before.before.before.before.before.before.before.before.before.before.before.before.before.before.before.step.ensures c.before.before.before.before.before.before.before.before.before.before.before.before.before.before.before.effect.given.1 c.before.before.before.before.before.before.before.before.before.before.before.before.answer-read.ensures c.before.before.before.before.before.before.before.before.step2.ensures c.before.before.before.before.before.before.forget.ensures c.before.before.forget2.ensures
+    seen_made p.0 p.1 c.before.before.before.before.before.before.before.before.before.before.before.before.before.before.before.before.before.before.before.before.before.before.answer-existence.ensures c.before.before.before.before.before.before.before.before.before.before.before.before.before.before.before.before.before.before.step.ensures c.before.before.before.before.before.before.before.before.before.before.before.before.before.before.before.effect.given.1 c.before.before.before.before.before.before.before.before.before.before.before.before.answer-read.ensures c.before.before.before.before.before.before.before.before.step2.ensures c.before.before.before.before.before.before.forget.ensures c.before.before.forget2.ensures
 
 forget-requires-3 : tie.Need-forget-requires-3
 forget-requires-3 c κs = let p = c.before.before.before.before.before.before.before.before.before.before.before.before.before.before.before.before.before.before.requires in unseen_forgets p.0 p.1 c.before.before.before.before.before.before.before.answer-existence.ensures
@@ -72,7 +72,7 @@ returns-2 : tie.Need-returns-2
 returns-2 c =
     let p = c.before.before.before.before.before.before.before.before.before.before.before.before.before.before.before.before.before.before.before.before.before.requires in
     let step = c.before.before.before.before.before.before.step in
-    unseen-made p.0 p.1 c.before.before.before.before.before.before.before.before.before.before.answer-existence.ensures step.ensures (reads_none step.result.core.effect c.before.before.before.before.match.keys2) c.before.before.forget3.ensures
+    unseen_made p.0 p.1 c.before.before.before.before.before.before.before.before.before.before.answer-existence.ensures step.ensures (reads_none step.result.core.effect c.before.before.before.before.match.keys2) c.before.before.forget3.ensures
 
 pub step-seen-spec : {M : Type 1} → statement M
 step-seen-spec =

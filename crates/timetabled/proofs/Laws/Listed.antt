@@ -51,9 +51,9 @@ use Rattle.level_state.proofs.Laws.Step.{invariant_live, invariant_held}
 use Rattle.level_state.specs.Script.{Blank, ScriptStep, Waits, Unseen}
 use Rattle.level_state.proofs.Laws.Seen.{blank_zeros, kept-blank, Seeing, forgotten_others}
 use Rattle.level_state.proofs.Laws.Script.{running, readable, able, step_is}
-use Rattle.level_state.proofs.Laws.Told.{waits_of, stepped_same, tells, told-sees, told-others, told-forgets, makes, told-made}
-use Rattle.level_state.proofs.Laws.Changes.{change_ready, change_runs, change-room, change-represented}
-use Rattle.level_state.proofs.Laws.Made.{Stepping, MayStep, StepRepresented, Advancing, start-here, start-done, busy_here, done_performs, done_settles, step_represented}
+use Rattle.level_state.proofs.Laws.Told.{waits_of, stepped_same, tells, told_sees, told_others, told_forgets, makes, told_made}
+use Rattle.level_state.proofs.Laws.Changes.{change_ready, change_runs, change_room, change_represented}
+use Rattle.level_state.proofs.Laws.Made.{Stepping, MayStep, StepRepresented, Advancing, start_here, start_done, busy_here, done_performs, done_settles, step_represented}
 use Rattle.level_state.proofs.Laws.Asked.{askable, asked_is, ended_is}
 
 -- the managers that an array of the code's holds
@@ -103,18 +103,18 @@ module _ (s : List ℕ) (a : verdict_of s ≡ Accepted) (few : level_count s ≤
 
   module _ (i : ℕ) (w : Words) (ms : ℕ → Manager) (g : StepsMade s ls i w ms) where
     -- the position fits its number
-    pub steps-made-fits : i < 2 ^ 32
-    steps-made-fits = omega (arith, g.pace)
+    pub steps_made_fits : i < 2 ^ 32
+    steps_made_fits = omega (arith, g.pace)
 
     -- other managers, one by one the same
-    pub steps-made-held : (ms' : ℕ → Manager) → ((k : ℕ) → ms' k ≡ ms k) → StepsMade s ls i w ms'
-    steps-made-held ms' e =
+    pub steps_made_held : (ms' : ℕ → Manager) → ((k : ℕ) → ms' k ≡ ms k) → StepsMade s ls i w ms'
+    steps_made_held ms' e =
         record { state = g.state; invariant = invariant_held s w ms ms' g.state e g.invariant; run = g.run; pace = g.pace }
 
     module _ (masks : List ℕ) (table : masks ≡ masks_of s) (long : length masks ≡ level_count s) where
       -- at its end
-      pub steps-made-ends : i ≡ length ls → ended_of masks w.tallies ≡ true → Ends s ls w runEnd.Finished
-      steps-made-ends e z = (ms, (g.state, (over, g.invariant.represents)))
+      pub steps_made_ends : i ≡ length ls → ended_of masks w.tallies ≡ true → Ends s ls w runEnd.Finished
+      steps_made_ends e z = (ms, (g.state, (over, g.invariant.represents)))
         where
           over : run_of (program_of s) (root_of s) ls ≡ finished g.state
           over =
@@ -123,8 +123,8 @@ module _ (s : List ℕ) (a : verdict_of s ≡ Accepted) (few : level_count s ≤
               ∙ ap (λ xs. run_from i (program_of s) xs g.state) (drop-length ls)
               ∙ run_ends i (program_of s) g.state (sym (ended_is s masks table long w ms g.state g.invariant.represents) ∙ z)
 
-      pub steps-made-unended : i ≡ length ls → ended_of masks w.tallies ≡ false → Ends s ls w (runEnd.Refused 15 0)
-      steps-made-unended e z =
+      pub steps_made_unended : i ≡ length ls → ended_of masks w.tallies ≡ false → Ends s ls w (runEnd.Refused 15 0)
+      steps_made_unended e z =
           sym g.run
           ∙ ap (λ k. run_from i (program_of s) (drop k ls) g.state) e
           ∙ ap (λ xs. run_from i (program_of s) xs g.state) (drop-length ls)
@@ -138,8 +138,8 @@ module _ (s : List ℕ) (a : verdict_of s ≡ Accepted) (few : level_count s ≤
         next = sym g.run ∙ ap (λ xs. run_from i (program_of s) xs g.state) (drop-cons ls i 0 h)
 
         -- a step that is not permitted
-        pub steps-made-stops : (p : Permit) → p ≡ permit_of masks w.tallies w.queue l → (p ≡ Given → ⊥) → Ends s ls w (runEnd.Refused (number_of_permit p) i)
-        steps-made-stops p e d =
+        pub steps_made_stops : (p : Permit) → p ≡ permit_of masks w.tallies w.queue l → (p ≡ Given → ⊥) → Ends s ls w (runEnd.Refused (number_of_permit p) i)
+        steps_made_stops p e d =
             next
             ∙ run_stops i (program_of s) l (drop (suc i) ls) g.state (number_of_permit p) (sym (asked_is s masks a few table long w ms g.state g.invariant l) ∙ ap number_of_permit (sym e)) (none p d)
           where
@@ -151,24 +151,24 @@ module _ (s : List ℕ) (a : verdict_of s ≡ Accepted) (few : level_count s ≤
 
         -- one that is
         module _ (e : permit_of masks w.tallies w.queue l ≡ Given) where
-          pub steps-made-allowed : step_refusal (program_of s) g.state l ≡ 0
-          steps-made-allowed = sym (asked_is s masks a few table long w ms g.state g.invariant l) ∙ ap number_of_permit e
+          pub steps_made_allowed : step_refusal (program_of s) g.state l ≡ 0
+          steps_made_allowed = sym (asked_is s masks a few table long w ms g.state g.invariant l) ∙ ap number_of_permit e
 
-          pub steps-made-present : l < level_count s
+          pub steps_made_present : l < level_count s
           unfolding program_of
-          steps-made-present = (allowed question14 (program_of s) g.state l steps-made-allowed).0
+          steps_made_present = (allowed question14 (program_of s) g.state l steps_made_allowed).0
 
-          pub steps-made-may : (m : code.Manager) → ms l ≡ manager_of m → Stepping s w l m ms g.state
-          steps-made-may m is = record { invariant = g.invariant; allowed = steps-made-allowed; held = is }
+          pub steps_made_may : (m : code.Manager) → ms l ≡ manager_of m → Stepping s w l m ms g.state
+          steps_made_may m is = record { invariant = g.invariant; allowed = steps_made_allowed; held = is }
 
-          pub steps-made-step : (m : code.Manager) → ms l ≡ manager_of m → (w' : Words) (cache' : List ℕ) (r : code.Manager) → StepRepresented s l m w w' cache' r → StepsMade s ls (suc i) w' (placed l (manager_of r) ms)
-          steps-made-step m is w' cache' r d =
+          pub steps_made_step : (m : code.Manager) → ms l ≡ manager_of m → (w' : Words) (cache' : List ℕ) (r : code.Manager) → StepRepresented s l m w w' cache' r → StepsMade s ls (suc i) w' (placed l (manager_of r) ms)
+          steps_made_step m is w' cache' r d =
               let live = invariant_live s a w ms g.state g.invariant in
-              let yes = allowed question14 (program_of s) g.state l steps-made-allowed in
+              let yes = allowed question14 (program_of s) g.state l steps_made_allowed in
               record {
                 state = step_at (program_of s) l g.state;
-                invariant = d.invariant ms g.state (steps-made-may m is);
-                run = sym (next ∙ run_made i (program_of s) l (drop (suc i) ls) g.state steps-made-allowed);
+                invariant = d.invariant ms g.state (steps_made_may m is);
+                run = sym (next ∙ run_made i (program_of s) l (drop (suc i) ls) g.state steps_made_allowed);
                 pace = omega (arith, g.pace, step_less (program_of s) (sound s a) g.state live.reachable.steady.fork_invariant live.reachable.steady.bounded l yes.0 yes.1.0);
               }
 
@@ -215,7 +215,7 @@ module _ {s masks : List ℕ} (y : Leveled s masks) {ls : List ℕ} {d : code.Ma
   list_askable = askable s masks y.accepted few y.masks_are long w (held_in managers d) g.steps_made.state g.steps_made.invariant
 
   pub list_fits : i < 2 ^ 32
-  list_fits = steps-made-fits s y.accepted few ls i w (held_in managers d) g.steps_made
+  list_fits = steps_made_fits s y.accepted few ls i w (held_in managers d) g.steps_made
 
   -- question 15
   pub list_ends : length ls ≤ i → {r : RunEnd} → r ≡ end_of (ended_of masks w.tallies) → Ends s ls w r
@@ -223,16 +223,16 @@ module _ {s masks : List ℕ} (y : Leveled s masks) {ls : List ℕ} {d : code.Ma
       let e : i ≡ length ls = omega (arith, h, g.low) in
       elim (truth (ended_of masks w.tallies)) [
         | holds z ↦
-            rw (q, z) (steps-made-ends s y.accepted few ls i w (held_in managers d) g.steps_made masks y.masks_are long e z)
+            rw (q, z) (steps_made_ends s y.accepted few ls i w (held_in managers d) g.steps_made masks y.masks_are long e z)
         | fails z ↦
-            rw (q, z) (steps-made-unended s y.accepted few ls i w (held_in managers d) g.steps_made masks y.masks_are long e z)
+            rw (q, z) (steps_made_unended s y.accepted few ls i w (held_in managers d) g.steps_made masks y.masks_are long e z)
       ]
 
   module _ (h : i < length ls) {p : Permit} (e : p ≡ permit_of masks w.tallies w.queue (get_or ls i 0)) where
     -- the step is not permitted
-    pub list-refused : (p ≡ Given → ⊥) → (w' : Words) {r : RunEnd} → r ≡ runEnd.Refused (number_of_permit p) i → Ends s ls w' r
-    list-refused z w' q =
-        rw q (steps-made-stops s y.accepted few ls i w (held_in managers d) g.steps_made masks y.masks_are long h p e z)
+    pub list_refused : (p ≡ Given → ⊥) → (w' : Words) {r : RunEnd} → r ≡ runEnd.Refused (number_of_permit p) i → Ends s ls w' r
+    list_refused z w' q =
+        rw q (steps_made_stops s y.accepted few ls i w (held_in managers d) g.steps_made masks y.masks_are long h p e z)
 
 -- the next step is permitted
 pub record Permitted (s masks index ls : List ℕ) (d : code.Manager) (w₀ w : Words) (managers : List code.Manager) (cache : List ℕ) (i : ℕ) : Type 0 where
@@ -256,7 +256,7 @@ module _ {s masks index ls : List ℕ} {d : code.Manager} {w₀ w : Words} {mana
 
   pub list_present : level < max_levels
   list_present =
-      omega (arith, few y g.loop, steps-made-present s y.accepted (few y g.loop) ls i w (held_in managers d) g.loop.steps_made masks y.masks_are (long y g.loop) g.more g.given)
+      omega (arith, few y g.loop, steps_made_present s y.accepted (few y g.loop) ls i w (held_in managers d) g.loop.steps_made masks y.masks_are (long y g.loop) g.more g.given)
 
   pub list_numbers : (level < max_levels) × (tally_numbers ≤ length w.tallies)
   list_numbers = (list_present, g.loop.steps_made.invariant.represents.roomy.tallies)
@@ -267,7 +267,7 @@ module _ {s masks index ls : List ℕ} {d : code.Manager} {w₀ w : Words} {mana
   may : MayStep s w level m
   may = (
     held_in managers d,
-    (g.loop.steps_made.state, steps-made-may s y.accepted (few y g.loop) ls i w (held_in managers d) g.loop.steps_made masks y.masks_are (long y g.loop) g.more g.given m refl),
+    (g.loop.steps_made.state, steps_made_may s y.accepted (few y g.loop) ls i w (held_in managers d) g.loop.steps_made masks y.masks_are (long y g.loop) g.more g.given m refl),
   )
 
   -- what the manager may look at: nothing is kept of what managers have read
@@ -281,7 +281,7 @@ module _ {s masks index ls : List ℕ} {d : code.Manager} {w₀ w : Words} {mana
   -- once the words represent the state after it, the next one's turn comes
   again : {w' : Words} {cache' : List ℕ} {r : code.Manager} → StepRepresented s level m w w' cache' r → length cache' ≡ length cache → length w'.current ≡ length w.current → length w'.ended ≡ length w.ended → length w'.tallies ≡ length w.tallies → length w'.queue ≡ length w.queue → length w'.work ≡ length w.work → ListLoop s ls d w₀ w' (set managers level r) cache' (i + 1)
   again {w'} {cache'} {r} x c0 c1 c2 c3 c4 c5 =
-      let next = steps-made-step s y.accepted (few y g.loop) ls i w (held_in managers d) g.loop.steps_made masks y.masks_are (long y g.loop) g.more g.given m refl w' cache' r x in
+      let next = steps_made_step s y.accepted (few y g.loop) ls i w (held_in managers d) g.loop.steps_made masks y.masks_are (long y g.loop) g.more g.given m refl w' cache' r x in
       record {
         steps_made = held next (held_in (set managers level r) d) (held_set managers d level r there);
         low = omega (arith, g.more);
@@ -297,24 +297,24 @@ module _ {s masks index ls : List ℕ} {d : code.Manager} {w₀ w : Words} {mana
         work_long = c5 ∙ g.loop.work_long;
       }
     where
-      next-is : suc i ≡ i + 1
-      next-is = omega arith
+      next_is : suc i ≡ i + 1
+      next_is = omega arith
 
       held : {ms : ℕ → Manager} → StepsMade s ls (suc i) w' ms → (ms' : ℕ → Manager) → ((k : ℕ) → ms' k ≡ ms k) → StepsMade s ls (i + 1) w' ms'
       held {ms} x ms' q =
-          rw (sym next-is) (steps-made-held s y.accepted (few y g.loop) ls (suc i) w' ms x ms' q)
+          rw (sym next_is) (steps_made_held s y.accepted (few y g.loop) ls (suc i) w' ms x ms' q)
 
   -- none runs at the level: one starts
   module _ (z : busy_in w.tallies level ≡ false) where
-    none-busy : get_or w.tallies (busy_place level) 0 ≡ 0
-    none-busy = omega (arith, ltb-false 0 (get_or w.tallies (busy_place level) 0) z)
+    none_busy : get_or w.tallies (busy_place level) 0 ≡ 0
+    none_busy = omega (arith, ltb-false 0 (get_or w.tallies (busy_place level) 0) z)
 
-    pub list-starts : StartReady s masks index w level
-    list-starts = start-here s masks index w level m g.read none-busy may
+    pub list_starts : StartReady s masks index w level
+    list_starts = start_here s masks index w level m g.read none_busy may
 
-    pub list-started : {ended' tallies' : List ℕ} {r : code.Manager} → Started s w ended' tallies' level (manager_of r) × WellFormed s r → length ended' ≡ length w.ended → length tallies' ≡ length w.tallies → ListLoop s ls d w₀ (record { current = w.current; ended = ended'; tallies = tallies'; queue = w.queue; work = w.work }) (set managers level r) cache (i + 1)
-    list-started {ended'} {tallies'} {r} x c1 c2 =
-        again (start-done s masks index w level m g.read none-busy cache ended' tallies' r g.loop.blank x) refl refl c1 c2 refl refl
+    pub list_started : {ended' tallies' : List ℕ} {r : code.Manager} → Started s w ended' tallies' level (manager_of r) × WellFormed s r → length ended' ≡ length w.ended → length tallies' ≡ length w.tallies → ListLoop s ls d w₀ (record { current = w.current; ended = ended'; tallies = tallies'; queue = w.queue; work = w.work }) (set managers level r) cache (i + 1)
+    list_started {ended'} {tallies'} {r} x c1 c2 =
+        again (start_done s masks index w level m g.read none_busy cache ended' tallies' r g.loop.blank x) refl refl c1 c2 refl refl
 
   -- m runs there: it makes a script step
   module _ (z : busy_in w.tallies level ≡ true) where
@@ -322,16 +322,16 @@ module _ {s masks index ls : List ℕ} {d : code.Manager} {w₀ w : Words} {mana
     advancing =
         record { read = g.read; may = may; runs = λ e. omega (arith, e, ltb-true 0 (get_or w.tallies (busy_place level) 0) z) }
 
-    held-here : WellFormed s m
-    held-here = g.loop.held level there (running g.read (busy_here advancing))
+    held_here : WellFormed s m
+    held_here = g.loop.held level there (running g.read (busy_here advancing))
 
     module _ {u : Bool} (flag : u ≡ unchanged w.tallies) where
-      pub list-able : Advanceable s masks index w.current cache m
-      list-able = able g.read (busy_here advancing) (sees flag) held-here
+      pub list_able : Advanceable s masks index w.current cache m
+      list_able = able g.read (busy_here advancing) (sees flag) held_here
 
       module _ {n : code.Manager} (x : Stepped s w.current cache u m n) where
-        pub list-made : is_asking n.core.effect ≡ false → ScriptStep s w level cache m n
-        list-made q =
+        pub list_made : is_asking n.core.effect ≡ false → ScriptStep s w level cache m n
+        list_made q =
             record { is = step_is g.read (busy_here advancing) (sees flag) x q; held = x.held; present = x.present; blank = g.loop.blank }
 
         -- n waits for a value
@@ -340,32 +340,32 @@ module _ {s masks index ls : List ℕ} {d : code.Manager} {w₀ w : Words} {mana
           waits = waits_of (busy_here advancing) x q
 
           -- for existence
-          pub list-unseen : k ≡ existence → Unseen s w level cache n o
-          list-unseen e =
+          pub list_unseen : k ≡ existence → Unseen s w level cache n o
+          list_unseen e =
               record { unchanged = u; waits = rw (sym e) waits; blank = g.loop.blank; there = cache_there }
 
-          pub list-seen : {cache' : List ℕ} {r : code.Manager} → ScriptStep s w level cache' n r → ScriptStep s w level cache' m r
-          list-seen made = stepped_same (busy_here advancing) x q made
+          pub list_seen : {cache' : List ℕ} {r : code.Manager} → ScriptStep s w level cache' n r → ScriptStep s w level cache' m r
+          list_seen made = stepped_same (busy_here advancing) x q made
 
           -- for a field
           module _ (field : k ≡ existence → ⊥) where
-            pub list-reads : Leveled s masks × (Readable s w level × (ReadReady s cache o k × (k < fields)))
-            list-reads =
+            pub list_reads : Leveled s masks × (Readable s w level × (ReadReady s cache o k × (k < fields)))
+            list_reads =
                 (y, (readable g.read (busy_here advancing), (tells g.read waits cache_there, omega (arith, waits.named.field, field))))
 
             module _ {cache' : List ℕ} (told : Answered s w cache cache' level o k) where
-              told-seeing : Seeing s w level cache' u
-              told-seeing = told-sees g.read waits cache_there told u (sees flag).kept (sees flag).flag
+              told_seeing : Seeing s w level cache' u
+              told_seeing = told_sees g.read waits cache_there told u (sees flag).kept (sees flag).flag
 
-              pub list-told : Advanceable s masks index w.current cache' n
-              list-told = able g.read waits.runs told-seeing waits.held
+              pub list_told : Advanceable s masks index w.current cache' n
+              list_told = able g.read waits.runs told_seeing waits.held
 
-              pub list-forgets : FieldThere cache' o k
-              list-forgets = told-forgets g.read waits cache_there told
+              pub list_forgets : FieldThere cache' o k
+              list_forgets = told_forgets g.read waits cache_there told
 
-              pub list-answered : {cache'' : List ℕ} {r : code.Manager} → Stepped s w.current cache' u n r → Forgotten cache' cache'' o k → ScriptStep s w level cache'' m r
-              list-answered e forgotten =
-                  list-seen (told-made g.read waits cache_there told e told-seeing (makes g.read waits cache_there told e refl field) (forgotten_others forgotten (told-others g.read waits cache_there told g.loop.blank)))
+              pub list_answered : {cache'' : List ℕ} {r : code.Manager} → Stepped s w.current cache' u n r → Forgotten cache' cache'' o k → ScriptStep s w level cache'' m r
+              list_answered e forgotten =
+                  list_seen (told_made g.read waits cache_there told e told_seeing (makes g.read waits cache_there told e refl field) (forgotten_others forgotten (told_others g.read waits cache_there told g.loop.blank)))
 
         -- n stands before a CREATE or WITHDRAW
         module _ (q : n.core.effect ≡ act.Change) where
@@ -375,21 +375,21 @@ module _ {s masks index ls : List ℕ} {d : code.Manager} {w₀ w : Words} {mana
           stands : manager_of n ≡ manager_of m
           stands = (x.asks asked_for).0
 
-          pub list-changes : Changing s masks index w.current w.tallies w.work level n
-          list-changes =
+          pub list_changes : Changing s masks index w.current w.tallies w.work level n
+          list_changes =
               change_ready g.read (change_runs advancing stands) cache u x.held ((x.still asked_for).1 ∙ ap asking q)
 
           module _ {current' tallies' work' : List ℕ} {r : code.Manager} (made : ChangedBy s w.current current' w.tallies tallies' w.work work' level n r) where
-            pub list-settles : SettleReady w.ended tallies' w.queue level
-            list-settles = change-room advancing stands made
+            pub list_settles : SettleReady w.ended tallies' w.queue level
+            list_settles = change_room advancing stands made
 
-            pub list-changed : {ended'' tallies'' : List ℕ} → CoreSettled w.ended ended'' tallies' tallies'' w.queue level r.core → length current' ≡ length w.current → length ended'' ≡ length w.ended → length tallies'' ≡ length w.tallies → length work' ≡ length w.work → ListLoop s ls d w₀ (record { current = current'; ended = ended''; tallies = tallies''; queue = w.queue; work = work' }) (set managers level r) cache (i + 1)
-            list-changed settled c1 c2 c3 c5 = again (change-represented advancing stands made settled g.loop.blank) refl c1 c2 c3 refl c5
+            pub list_changed : {ended'' tallies'' : List ℕ} → CoreSettled w.ended ended'' tallies' tallies'' w.queue level r.core → length current' ≡ length w.current → length ended'' ≡ length w.ended → length tallies'' ≡ length w.tallies → length work' ≡ length w.work → ListLoop s ls d w₀ (record { current = current'; ended = ended''; tallies = tallies''; queue = w.queue; work = work' }) (set managers level r) cache (i + 1)
+            list_changed settled c1 c2 c3 c5 = again (change_represented advancing stands made settled g.loop.blank) refl c1 c2 c3 refl c5
 
     -- what the step did outside is done
     module _ {cache' : List ℕ} {r : code.Manager} (made : ScriptStep s w level cache' m r) where
-      pub list-performs : PerformReady w.current w.tallies w.queue w.work level r.core.first r.core.forks (effect_of r.core.effect) × SettleReady w.ended w.tallies w.queue level
-      list-performs = (done_performs advancing made, done_settles advancing made)
+      pub list_performs : PerformReady w.current w.tallies w.queue w.work level r.core.first r.core.forks (effect_of r.core.effect) × SettleReady w.ended w.tallies w.queue level
+      list_performs = (done_performs advancing made, done_settles advancing made)
 
       pub list_done : {w' : Words} → StepDone w w' level r.core → length cache' ≡ length cache → length w'.current ≡ length w.current → length w'.ended ≡ length w.ended → length w'.tallies ≡ length w.tallies → length w'.queue ≡ length w.queue → length w'.work ≡ length w.work → ListLoop s ls d w₀ w' (set managers level r) cache' (i + 1)
       list_done x = again (step_represented advancing made x)

@@ -23,7 +23,7 @@ use Rattle.permits.specs.declared.Permit.TheVariants.{Given, Absent, Idle, Block
 use Rattle.permits.specs.contracts.Permit as permit
 use Rattle.level_state.proofs.Laws.Asks.{asks_nothing}
 use Rattle.level_state.proofs.Laws.Made.{held_fits}
-use Rattle.timetabled.proofs.Laws.Listed.{ListLoop, list_start, list_askable, list_fits, list_ends, list-refused, Permitted, permitted, list_present, list_numbers, list-starts, list-started, list-able, list-made, list-unseen, list-seen, list-reads, list-told, list-forgets, list-answered, list-changes, list-settles, list-changed, list-performs, list_done}
+use Rattle.timetabled.proofs.Laws.Listed.{ListLoop, list_start, list_askable, list_fits, list_ends, list_refused, Permitted, permitted, list_present, list_numbers, list_starts, list_started, list_able, list_made, list_unseen, list_seen, list_reads, list_told, list_forgets, list_answered, list_changes, list_settles, list_changed, list_performs, list_done}
 use Rattle.timetabled.proofs.run.Statement.{statement}
 use Rattle.timetabled.proofs.run.Tie as tie
 
@@ -118,14 +118,14 @@ returns : tie.Need-returns invariant-loop decreases-loop
 returns c =
     let a = c.before.before.ask in
     let l = c.before.before.before.before.before.before.before.loop in
-    (list-refused c.before.before.before.before.before.before.before.before.before.before.before.before.before.before.before.before.before.before.requires.0.leveled l.invariant c.before.before.before.before.before.before.loop-test.true a.ensures (not-given a.result c.before.match.keys2) (record { current = l.current; ended = l.ended; tallies = l.tallies; queue = l.queue; work = l.work }) c.refused-at.ensures, l.invariant.rest)
+    (list_refused c.before.before.before.before.before.before.before.before.before.before.before.before.before.before.before.before.before.before.requires.0.leveled l.invariant c.before.before.before.before.before.before.loop-test.true a.ensures (not-given a.result c.before.match.keys2) (record { current = l.current; ended = l.ended; tallies = l.tallies; queue = l.queue; work = l.work }) c.refused-at.ensures, l.invariant.rest)
 
 is-busy-requires : tie.Need-is-busy-requires invariant-loop decreases-loop
 is-busy-requires c κs = list_numbers (here c.before)
 
 start-requires : tie.Need-start-requires invariant-loop decreases-loop
 start-requires c κs =
-    list-starts (here c.before.before.before.before.before.before.before.before) (sym c.before.before.before.before.before.before.is-busy.ensures ∙ not-true c.before.before.before.before.before.before.is-busy.result c.before.before.before.before.before.if1.true)
+    list_starts (here c.before.before.before.before.before.before.before.before) (sym c.before.before.before.before.before.before.is-busy.ensures ∙ not-true c.before.before.before.before.before.before.is-busy.result c.before.before.before.before.before.if1.true)
 
 mul-managers : tie.Need-overflow-mul-managers invariant-loop decreases-loop
 mul-managers c =
@@ -147,7 +147,7 @@ loop-less c =
 loop-again : tie.Need-loop-preserved invariant-loop decreases-loop
 loop-again c =
     let r = c.before.before.before.before.start in
-    list-started (here c.before.before.before.before.before.before.before.before.before.before.before.before.before) (sym c.before.before.before.before.before.before.before.before.before.before.before.is-busy.ensures ∙ not-true c.before.before.before.before.before.before.before.before.before.before.before.is-busy.result c.before.before.before.before.before.before.before.before.before.before.if1.true) r.ensures r.auto.1.1.1.1.0 r.auto.1.1.1.1.1.0
+    list_started (here c.before.before.before.before.before.before.before.before.before.before.before.before.before) (sym c.before.before.before.before.before.before.before.before.before.before.before.is-busy.ensures ∙ not-true c.before.before.before.before.before.before.before.before.before.before.before.is-busy.result c.before.before.before.before.before.before.before.before.before.before.if1.true) r.ensures r.auto.1.1.1.1.0 r.auto.1.1.1.1.1.0
 
 is-unchanged-requires : tie.Need-is-unchanged-requires invariant-loop decreases-loop
 is-unchanged-requires c κs =
@@ -167,7 +167,7 @@ slice-aggregate-step c =
 
 step-requires : tie.Need-step-requires invariant-loop decreases-loop
 step-requires c κs =
-    list-able (here c.before.before.before.before.before.before.before.before) (sym c.before.before.before.before.before.before.is-busy.ensures ∙ not-false c.before.before.before.before.before.before.is-busy.result c.before.before.before.before.before.if1.false) c.before.before.before.is_unchanged.ensures
+    list_able (here c.before.before.before.before.before.before.before.before) (sym c.before.before.before.before.before.before.is-busy.ensures ∙ not-false c.before.before.before.before.before.before.is-busy.result c.before.before.before.before.before.if1.false) c.before.before.before.is_unchanged.ensures
 
 slice-aggregate-step-seen : tie.Need-slice-aggregate-step-seen invariant-loop decreases-loop
 slice-aggregate-step-seen c =
@@ -176,7 +176,7 @@ slice-aggregate-step-seen c =
 step-seen-requires : tie.Need-step-seen-requires invariant-loop decreases-loop
 step-seen-requires c κs =
     let g = (here c.before.before.before.before.before.before.before.before.before.before.before.before.before.before.before.before.before.before.before.before) in
-    (g.read, list-unseen g (sym c.before.before.before.before.before.before.before.before.before.before.before.before.before.before.before.before.before.before.is-busy.ensures ∙ not-false c.before.before.before.before.before.before.before.before.before.before.before.before.before.before.before.before.before.before.is-busy.result c.before.before.before.before.before.before.before.before.before.before.before.before.before.before.before.before.before.if1.false) c.before.before.before.before.before.before.before.before.before.before.before.before.before.before.before.is_unchanged.ensures c.before.before.before.before.before.before.before.before.before.before.before.step.ensures c.before.before.before.before.before.before.before.before.effect.given.1 c.before.before.before.before.before.before.if2.true)
+    (g.read, list_unseen g (sym c.before.before.before.before.before.before.before.before.before.before.before.before.before.before.before.before.before.before.is-busy.ensures ∙ not-false c.before.before.before.before.before.before.before.before.before.before.before.before.before.before.before.before.before.before.is-busy.result c.before.before.before.before.before.before.before.before.before.before.before.before.before.before.before.before.before.if1.false) c.before.before.before.before.before.before.before.before.before.before.before.before.before.before.before.is_unchanged.ensures c.before.before.before.before.before.before.before.before.before.before.before.step.ensures c.before.before.before.before.before.before.before.before.effect.given.1 c.before.before.before.before.before.before.if2.true)
 
 mul-managers-2 : tie.Need-overflow-mul-managers-2 invariant-loop decreases-loop
 mul-managers-2 c =
@@ -188,7 +188,7 @@ array-set-from-managers-2 c =
 
 done-requires : tie.Need-done-requires invariant-loop decreases-loop
 done-requires c κs =
-    list-performs (here c.before.before.before.before.before.before.before.before.before.before.before.before.before.before.before.before.before.before.before.before.before.before.before.before.before.before.before.before) (sym c.before.before.before.before.before.before.before.before.before.before.before.before.before.before.before.before.before.before.before.before.before.before.before.before.before.before.is-busy.ensures ∙ not-false c.before.before.before.before.before.before.before.before.before.before.before.before.before.before.before.before.before.before.before.before.before.before.before.before.before.before.is-busy.result c.before.before.before.before.before.before.before.before.before.before.before.before.before.before.before.before.before.before.before.before.before.before.before.before.before.if1.false) (list-seen (here c.before.before.before.before.before.before.before.before.before.before.before.before.before.before.before.before.before.before.before.before.before.before.before.before.before.before.before.before) (sym c.before.before.before.before.before.before.before.before.before.before.before.before.before.before.before.before.before.before.before.before.before.before.before.before.before.before.is-busy.ensures ∙ not-false c.before.before.before.before.before.before.before.before.before.before.before.before.before.before.before.before.before.before.before.before.before.before.before.before.before.before.is-busy.result c.before.before.before.before.before.before.before.before.before.before.before.before.before.before.before.before.before.before.before.before.before.before.before.before.before.if1.false) c.before.before.before.before.before.before.before.before.before.before.before.before.before.before.before.before.before.before.before.before.before.before.before.is_unchanged.ensures c.before.before.before.before.before.before.before.before.before.before.before.before.before.before.before.before.before.before.before.step.ensures c.before.before.before.before.before.before.before.before.before.before.before.before.before.before.before.before.effect.given.1 c.before.before.before.before.before.before.before.step_seen.ensures)
+    list_performs (here c.before.before.before.before.before.before.before.before.before.before.before.before.before.before.before.before.before.before.before.before.before.before.before.before.before.before.before.before) (sym c.before.before.before.before.before.before.before.before.before.before.before.before.before.before.before.before.before.before.before.before.before.before.before.before.before.before.is-busy.ensures ∙ not-false c.before.before.before.before.before.before.before.before.before.before.before.before.before.before.before.before.before.before.before.before.before.before.before.before.before.before.is-busy.result c.before.before.before.before.before.before.before.before.before.before.before.before.before.before.before.before.before.before.before.before.before.before.before.before.before.if1.false) (list_seen (here c.before.before.before.before.before.before.before.before.before.before.before.before.before.before.before.before.before.before.before.before.before.before.before.before.before.before.before.before) (sym c.before.before.before.before.before.before.before.before.before.before.before.before.before.before.before.before.before.before.before.before.before.before.before.before.before.before.is-busy.ensures ∙ not-false c.before.before.before.before.before.before.before.before.before.before.before.before.before.before.before.before.before.before.before.before.before.before.before.before.before.before.is-busy.result c.before.before.before.before.before.before.before.before.before.before.before.before.before.before.before.before.before.before.before.before.before.before.before.before.before.if1.false) c.before.before.before.before.before.before.before.before.before.before.before.before.before.before.before.before.before.before.before.before.before.before.before.is_unchanged.ensures c.before.before.before.before.before.before.before.before.before.before.before.before.before.before.before.before.before.before.before.step.ensures c.before.before.before.before.before.before.before.before.before.before.before.before.before.before.before.before.effect.given.1 c.before.before.before.before.before.before.before.step_seen.ensures)
 
 add-i-2 : tie.Need-overflow-add-i-2 invariant-loop decreases-loop
 add-i-2 c =
@@ -202,7 +202,7 @@ loop-less-2 c =
 loop-again-2 : tie.Need-loop-preserved-2 invariant-loop decreases-loop
 loop-again-2 c =
     let r = c.before.before.before.before.before.before.before.before.before.before.done in
-    list_done (here c.before.before.before.before.before.before.before.before.before.before.before.before.before.before.before.before.before.before.before.before.before.before.before.before.before.before.before.before.before.before.before.before.before.before.before.before.before.before.before) (sym c.before.before.before.before.before.before.before.before.before.before.before.before.before.before.before.before.before.before.before.before.before.before.before.before.before.before.before.before.before.before.before.before.before.before.before.before.before.is-busy.ensures ∙ not-false c.before.before.before.before.before.before.before.before.before.before.before.before.before.before.before.before.before.before.before.before.before.before.before.before.before.before.before.before.before.before.before.before.before.before.before.before.before.is-busy.result c.before.before.before.before.before.before.before.before.before.before.before.before.before.before.before.before.before.before.before.before.before.before.before.before.before.before.before.before.before.before.before.before.before.before.before.before.if1.false) (list-seen (here c.before.before.before.before.before.before.before.before.before.before.before.before.before.before.before.before.before.before.before.before.before.before.before.before.before.before.before.before.before.before.before.before.before.before.before.before.before.before.before) (sym c.before.before.before.before.before.before.before.before.before.before.before.before.before.before.before.before.before.before.before.before.before.before.before.before.before.before.before.before.before.before.before.before.before.before.before.before.before.is-busy.ensures ∙ not-false c.before.before.before.before.before.before.before.before.before.before.before.before.before.before.before.before.before.before.before.before.before.before.before.before.before.before.before.before.before.before.before.before.before.before.before.before.before.is-busy.result c.before.before.before.before.before.before.before.before.before.before.before.before.before.before.before.before.before.before.before.before.before.before.before.before.before.before.before.before.before.before.before.before.before.before.before.before.if1.false) c.before.before.before.before.before.before.before.before.before.before.before.before.before.before.before.before.before.before.before.before.before.before.before.before.before.before.before.before.before.before.before.before.before.before.is_unchanged.ensures c.before.before.before.before.before.before.before.before.before.before.before.before.before.before.before.before.before.before.before.before.before.before.before.before.before.before.before.before.before.before.step.ensures c.before.before.before.before.before.before.before.before.before.before.before.before.before.before.before.before.before.before.before.before.before.before.before.before.before.before.before.effect.given.1 c.before.before.before.before.before.before.before.before.before.before.before.before.before.before.before.before.before.before.step_seen.ensures) r.ensures c.before.before.before.before.before.before.before.before.before.before.before.before.before.before.before.before.before.before.step_seen.auto.1.1.1.1.1.1.1.1.0 r.auto.0 r.auto.1.0 r.auto.1.1.0 r.auto.1.1.1.0 r.auto.1.1.1.1.0
+    list_done (here c.before.before.before.before.before.before.before.before.before.before.before.before.before.before.before.before.before.before.before.before.before.before.before.before.before.before.before.before.before.before.before.before.before.before.before.before.before.before.before) (sym c.before.before.before.before.before.before.before.before.before.before.before.before.before.before.before.before.before.before.before.before.before.before.before.before.before.before.before.before.before.before.before.before.before.before.before.before.before.is-busy.ensures ∙ not-false c.before.before.before.before.before.before.before.before.before.before.before.before.before.before.before.before.before.before.before.before.before.before.before.before.before.before.before.before.before.before.before.before.before.before.before.before.before.is-busy.result c.before.before.before.before.before.before.before.before.before.before.before.before.before.before.before.before.before.before.before.before.before.before.before.before.before.before.before.before.before.before.before.before.before.before.before.before.if1.false) (list_seen (here c.before.before.before.before.before.before.before.before.before.before.before.before.before.before.before.before.before.before.before.before.before.before.before.before.before.before.before.before.before.before.before.before.before.before.before.before.before.before.before) (sym c.before.before.before.before.before.before.before.before.before.before.before.before.before.before.before.before.before.before.before.before.before.before.before.before.before.before.before.before.before.before.before.before.before.before.before.before.before.is-busy.ensures ∙ not-false c.before.before.before.before.before.before.before.before.before.before.before.before.before.before.before.before.before.before.before.before.before.before.before.before.before.before.before.before.before.before.before.before.before.before.before.before.before.is-busy.result c.before.before.before.before.before.before.before.before.before.before.before.before.before.before.before.before.before.before.before.before.before.before.before.before.before.before.before.before.before.before.before.before.before.before.before.before.if1.false) c.before.before.before.before.before.before.before.before.before.before.before.before.before.before.before.before.before.before.before.before.before.before.before.before.before.before.before.before.before.before.before.before.before.before.is_unchanged.ensures c.before.before.before.before.before.before.before.before.before.before.before.before.before.before.before.before.before.before.before.before.before.before.before.before.before.before.before.before.before.before.step.ensures c.before.before.before.before.before.before.before.before.before.before.before.before.before.before.before.before.before.before.before.before.before.before.before.before.before.before.before.effect.given.1 c.before.before.before.before.before.before.before.before.before.before.before.before.before.before.before.before.before.before.step_seen.ensures) r.ensures c.before.before.before.before.before.before.before.before.before.before.before.before.before.before.before.before.before.before.step_seen.auto.1.1.1.1.1.1.1.1.0 r.auto.0 r.auto.1.0 r.auto.1.1.0 r.auto.1.1.1.0 r.auto.1.1.1.1.0
 
 slice-aggregate-answer-read : tie.Need-slice-aggregate-answer-read invariant-loop decreases-loop
 slice-aggregate-answer-read c =
@@ -210,7 +210,7 @@ slice-aggregate-answer-read c =
 
 answer-read-requires : tie.Need-answer-read-requires invariant-loop decreases-loop
 answer-read-requires c κs =
-    list-reads (here c.before.before.before.before.before.before.before.before.before.before.before.before.before.before.before.before.before.before.before.before) (sym c.before.before.before.before.before.before.before.before.before.before.before.before.before.before.before.before.before.before.is-busy.ensures ∙ not-false c.before.before.before.before.before.before.before.before.before.before.before.before.before.before.before.before.before.before.is-busy.result c.before.before.before.before.before.before.before.before.before.before.before.before.before.before.before.before.before.if1.false) c.before.before.before.before.before.before.before.before.before.before.before.before.before.before.before.is_unchanged.ensures c.before.before.before.before.before.before.before.before.before.before.before.step.ensures c.before.before.before.before.before.before.before.before.effect.given.1 c.before.before.before.before.before.before.if2.false
+    list_reads (here c.before.before.before.before.before.before.before.before.before.before.before.before.before.before.before.before.before.before.before.before) (sym c.before.before.before.before.before.before.before.before.before.before.before.before.before.before.before.before.before.before.is-busy.ensures ∙ not-false c.before.before.before.before.before.before.before.before.before.before.before.before.before.before.before.before.before.before.is-busy.result c.before.before.before.before.before.before.before.before.before.before.before.before.before.before.before.before.before.if1.false) c.before.before.before.before.before.before.before.before.before.before.before.before.before.before.before.is_unchanged.ensures c.before.before.before.before.before.before.before.before.before.before.before.step.ensures c.before.before.before.before.before.before.before.before.effect.given.1 c.before.before.before.before.before.before.if2.false
 
 slice-aggregate-step-2 : tie.Need-slice-aggregate-step-2 invariant-loop decreases-loop
 slice-aggregate-step-2 c =
@@ -218,7 +218,7 @@ slice-aggregate-step-2 c =
 
 step-requires-2 : tie.Need-step-requires-2 invariant-loop decreases-loop
 step-requires-2 c κs =
-    list-told (here c.before.before.before.before.before.before.before.before.before.before.before.before.before.before.before.before.before.before.before.before.before.before.before.before) (sym c.before.before.before.before.before.before.before.before.before.before.before.before.before.before.before.before.before.before.before.before.before.before.is-busy.ensures ∙ not-false c.before.before.before.before.before.before.before.before.before.before.before.before.before.before.before.before.before.before.before.before.before.before.is-busy.result c.before.before.before.before.before.before.before.before.before.before.before.before.before.before.before.before.before.before.before.before.before.if1.false) c.before.before.before.before.before.before.before.before.before.before.before.before.before.before.before.before.before.before.before.is_unchanged.ensures c.before.before.before.before.before.before.before.before.before.before.before.before.before.before.before.step.ensures c.before.before.before.before.before.before.before.before.before.before.before.before.effect.given.1 c.before.before.before.before.before.before.before.before.before.before.if2.false c.before.before.before.answer-read.ensures
+    list_told (here c.before.before.before.before.before.before.before.before.before.before.before.before.before.before.before.before.before.before.before.before.before.before.before.before) (sym c.before.before.before.before.before.before.before.before.before.before.before.before.before.before.before.before.before.before.before.before.before.before.is-busy.ensures ∙ not-false c.before.before.before.before.before.before.before.before.before.before.before.before.before.before.before.before.before.before.before.before.before.before.is-busy.result c.before.before.before.before.before.before.before.before.before.before.before.before.before.before.before.before.before.before.before.before.before.if1.false) c.before.before.before.before.before.before.before.before.before.before.before.before.before.before.before.before.before.before.before.is_unchanged.ensures c.before.before.before.before.before.before.before.before.before.before.before.before.before.before.before.step.ensures c.before.before.before.before.before.before.before.before.before.before.before.before.effect.given.1 c.before.before.before.before.before.before.before.before.before.before.if2.false c.before.before.before.answer-read.ensures
 
 slice-aggregate-forget : tie.Need-slice-aggregate-forget invariant-loop decreases-loop
 slice-aggregate-forget c =
@@ -226,15 +226,15 @@ slice-aggregate-forget c =
 
 cast-forget : tie.Need-overflow-cast-forget invariant-loop decreases-loop
 cast-forget c =
-    omega (arith, (list-forgets (here c.before.before.before.before.before.before.before.before.before.before.before.before.before.before.before.before.before.before.before.before.before.before.before.before.before.before) (sym c.before.before.before.before.before.before.before.before.before.before.before.before.before.before.before.before.before.before.before.before.before.before.before.before.is-busy.ensures ∙ not-false c.before.before.before.before.before.before.before.before.before.before.before.before.before.before.before.before.before.before.before.before.before.before.before.before.is-busy.result c.before.before.before.before.before.before.before.before.before.before.before.before.before.before.before.before.before.before.before.before.before.before.before.if1.false) c.before.before.before.before.before.before.before.before.before.before.before.before.before.before.before.before.before.before.before.before.before.is_unchanged.ensures c.before.before.before.before.before.before.before.before.before.before.before.before.before.before.before.before.before.step.ensures c.before.before.before.before.before.before.before.before.before.before.before.before.before.before.effect.given.1 c.before.before.before.before.before.before.before.before.before.before.before.before.if2.false c.before.before.before.before.before.answer-read.ensures).object)
+    omega (arith, (list_forgets (here c.before.before.before.before.before.before.before.before.before.before.before.before.before.before.before.before.before.before.before.before.before.before.before.before.before.before) (sym c.before.before.before.before.before.before.before.before.before.before.before.before.before.before.before.before.before.before.before.before.before.before.before.before.is-busy.ensures ∙ not-false c.before.before.before.before.before.before.before.before.before.before.before.before.before.before.before.before.before.before.before.before.before.before.before.before.is-busy.result c.before.before.before.before.before.before.before.before.before.before.before.before.before.before.before.before.before.before.before.before.before.before.before.if1.false) c.before.before.before.before.before.before.before.before.before.before.before.before.before.before.before.before.before.before.before.before.before.is_unchanged.ensures c.before.before.before.before.before.before.before.before.before.before.before.before.before.before.before.before.before.step.ensures c.before.before.before.before.before.before.before.before.before.before.before.before.before.before.effect.given.1 c.before.before.before.before.before.before.before.before.before.before.before.before.if2.false c.before.before.before.before.before.answer-read.ensures).object)
 
 cast-forget-2 : tie.Need-overflow-cast-forget-2 invariant-loop decreases-loop
 cast-forget-2 c =
-    omega (arith, (list-forgets (here c.before.before.before.before.before.before.before.before.before.before.before.before.before.before.before.before.before.before.before.before.before.before.before.before.before.before) (sym c.before.before.before.before.before.before.before.before.before.before.before.before.before.before.before.before.before.before.before.before.before.before.before.before.is-busy.ensures ∙ not-false c.before.before.before.before.before.before.before.before.before.before.before.before.before.before.before.before.before.before.before.before.before.before.before.before.is-busy.result c.before.before.before.before.before.before.before.before.before.before.before.before.before.before.before.before.before.before.before.before.before.before.before.if1.false) c.before.before.before.before.before.before.before.before.before.before.before.before.before.before.before.before.before.before.before.before.before.is_unchanged.ensures c.before.before.before.before.before.before.before.before.before.before.before.before.before.before.before.before.before.step.ensures c.before.before.before.before.before.before.before.before.before.before.before.before.before.before.effect.given.1 c.before.before.before.before.before.before.before.before.before.before.before.before.if2.false c.before.before.before.before.before.answer-read.ensures).field)
+    omega (arith, (list_forgets (here c.before.before.before.before.before.before.before.before.before.before.before.before.before.before.before.before.before.before.before.before.before.before.before.before.before.before) (sym c.before.before.before.before.before.before.before.before.before.before.before.before.before.before.before.before.before.before.before.before.before.before.before.before.is-busy.ensures ∙ not-false c.before.before.before.before.before.before.before.before.before.before.before.before.before.before.before.before.before.before.before.before.before.before.before.before.is-busy.result c.before.before.before.before.before.before.before.before.before.before.before.before.before.before.before.before.before.before.before.before.before.before.before.if1.false) c.before.before.before.before.before.before.before.before.before.before.before.before.before.before.before.before.before.before.before.before.before.is_unchanged.ensures c.before.before.before.before.before.before.before.before.before.before.before.before.before.before.before.before.before.step.ensures c.before.before.before.before.before.before.before.before.before.before.before.before.before.before.effect.given.1 c.before.before.before.before.before.before.before.before.before.before.before.before.if2.false c.before.before.before.before.before.answer-read.ensures).field)
 
 forget-requires : tie.Need-forget-requires invariant-loop decreases-loop
 forget-requires c κs =
-    list-forgets (here c.before.before.before.before.before.before.before.before.before.before.before.before.before.before.before.before.before.before.before.before.before.before.before.before.before.before) (sym c.before.before.before.before.before.before.before.before.before.before.before.before.before.before.before.before.before.before.before.before.before.before.before.before.is-busy.ensures ∙ not-false c.before.before.before.before.before.before.before.before.before.before.before.before.before.before.before.before.before.before.before.before.before.before.before.before.is-busy.result c.before.before.before.before.before.before.before.before.before.before.before.before.before.before.before.before.before.before.before.before.before.before.before.if1.false) c.before.before.before.before.before.before.before.before.before.before.before.before.before.before.before.before.before.before.before.before.before.is_unchanged.ensures c.before.before.before.before.before.before.before.before.before.before.before.before.before.before.before.before.before.step.ensures c.before.before.before.before.before.before.before.before.before.before.before.before.before.before.effect.given.1 c.before.before.before.before.before.before.before.before.before.before.before.before.if2.false c.before.before.before.before.before.answer-read.ensures
+    list_forgets (here c.before.before.before.before.before.before.before.before.before.before.before.before.before.before.before.before.before.before.before.before.before.before.before.before.before.before) (sym c.before.before.before.before.before.before.before.before.before.before.before.before.before.before.before.before.before.before.before.before.before.before.before.before.is-busy.ensures ∙ not-false c.before.before.before.before.before.before.before.before.before.before.before.before.before.before.before.before.before.before.before.before.before.before.before.before.is-busy.result c.before.before.before.before.before.before.before.before.before.before.before.before.before.before.before.before.before.before.before.before.before.before.before.if1.false) c.before.before.before.before.before.before.before.before.before.before.before.before.before.before.before.before.before.before.before.before.before.is_unchanged.ensures c.before.before.before.before.before.before.before.before.before.before.before.before.before.before.before.before.before.step.ensures c.before.before.before.before.before.before.before.before.before.before.before.before.before.before.effect.given.1 c.before.before.before.before.before.before.before.before.before.before.before.before.if2.false c.before.before.before.before.before.answer-read.ensures
 
 mul-managers-3 : tie.Need-overflow-mul-managers-3 invariant-loop decreases-loop
 mul-managers-3 c =
@@ -246,7 +246,7 @@ array-set-from-managers-3 c =
 
 done-requires-2 : tie.Need-done-requires-2 invariant-loop decreases-loop
 done-requires-2 c κs =
-    list-performs (here c.before.before.before.before.before.before.before.before.before.before.before.before.before.before.before.before.before.before.before.before.before.before.before.before.before.before.before.before.before.before.before.before.before.before) (sym c.before.before.before.before.before.before.before.before.before.before.before.before.before.before.before.before.before.before.before.before.before.before.before.before.before.before.before.before.before.before.before.before.is-busy.ensures ∙ not-false c.before.before.before.before.before.before.before.before.before.before.before.before.before.before.before.before.before.before.before.before.before.before.before.before.before.before.before.before.before.before.before.before.is-busy.result c.before.before.before.before.before.before.before.before.before.before.before.before.before.before.before.before.before.before.before.before.before.before.before.before.before.before.before.before.before.before.before.if1.false) (list-answered (here c.before.before.before.before.before.before.before.before.before.before.before.before.before.before.before.before.before.before.before.before.before.before.before.before.before.before.before.before.before.before.before.before.before.before) (sym c.before.before.before.before.before.before.before.before.before.before.before.before.before.before.before.before.before.before.before.before.before.before.before.before.before.before.before.before.before.before.before.before.is-busy.ensures ∙ not-false c.before.before.before.before.before.before.before.before.before.before.before.before.before.before.before.before.before.before.before.before.before.before.before.before.before.before.before.before.before.before.before.before.is-busy.result c.before.before.before.before.before.before.before.before.before.before.before.before.before.before.before.before.before.before.before.before.before.before.before.before.before.before.before.before.before.before.before.if1.false) c.before.before.before.before.before.before.before.before.before.before.before.before.before.before.before.before.before.before.before.before.before.before.before.before.before.before.before.before.before.is_unchanged.ensures c.before.before.before.before.before.before.before.before.before.before.before.before.before.before.before.before.before.before.before.before.before.before.before.before.before.step.ensures c.before.before.before.before.before.before.before.before.before.before.before.before.before.before.before.before.before.before.before.before.before.before.effect.given.1 c.before.before.before.before.before.before.before.before.before.before.before.before.before.before.before.before.before.before.before.before.if2.false c.before.before.before.before.before.before.before.before.before.before.before.before.before.answer-read.ensures c.before.before.before.before.before.before.before.before.before.step2.ensures c.before.before.before.before.before.before.before.forget.ensures)
+    list_performs (here c.before.before.before.before.before.before.before.before.before.before.before.before.before.before.before.before.before.before.before.before.before.before.before.before.before.before.before.before.before.before.before.before.before.before) (sym c.before.before.before.before.before.before.before.before.before.before.before.before.before.before.before.before.before.before.before.before.before.before.before.before.before.before.before.before.before.before.before.before.is-busy.ensures ∙ not-false c.before.before.before.before.before.before.before.before.before.before.before.before.before.before.before.before.before.before.before.before.before.before.before.before.before.before.before.before.before.before.before.before.is-busy.result c.before.before.before.before.before.before.before.before.before.before.before.before.before.before.before.before.before.before.before.before.before.before.before.before.before.before.before.before.before.before.before.if1.false) (list_answered (here c.before.before.before.before.before.before.before.before.before.before.before.before.before.before.before.before.before.before.before.before.before.before.before.before.before.before.before.before.before.before.before.before.before.before) (sym c.before.before.before.before.before.before.before.before.before.before.before.before.before.before.before.before.before.before.before.before.before.before.before.before.before.before.before.before.before.before.before.before.is-busy.ensures ∙ not-false c.before.before.before.before.before.before.before.before.before.before.before.before.before.before.before.before.before.before.before.before.before.before.before.before.before.before.before.before.before.before.before.before.is-busy.result c.before.before.before.before.before.before.before.before.before.before.before.before.before.before.before.before.before.before.before.before.before.before.before.before.before.before.before.before.before.before.before.if1.false) c.before.before.before.before.before.before.before.before.before.before.before.before.before.before.before.before.before.before.before.before.before.before.before.before.before.before.before.before.before.is_unchanged.ensures c.before.before.before.before.before.before.before.before.before.before.before.before.before.before.before.before.before.before.before.before.before.before.before.before.before.step.ensures c.before.before.before.before.before.before.before.before.before.before.before.before.before.before.before.before.before.before.before.before.before.before.effect.given.1 c.before.before.before.before.before.before.before.before.before.before.before.before.before.before.before.before.before.before.before.before.if2.false c.before.before.before.before.before.before.before.before.before.before.before.before.before.answer-read.ensures c.before.before.before.before.before.before.before.before.before.step2.ensures c.before.before.before.before.before.before.before.forget.ensures)
 
 add-i-3 : tie.Need-overflow-add-i-3 invariant-loop decreases-loop
 add-i-3 c =
@@ -260,7 +260,7 @@ loop-less-3 c =
 loop-again-3 : tie.Need-loop-preserved-3 invariant-loop decreases-loop
 loop-again-3 c =
     let r = c.before.before.before.before.before.before.before.before.before.before.done2 in
-    list_done (here c.before.before.before.before.before.before.before.before.before.before.before.before.before.before.before.before.before.before.before.before.before.before.before.before.before.before.before.before.before.before.before.before.before.before.before.before.before.before.before.before.before.before.before.before.before) (sym c.before.before.before.before.before.before.before.before.before.before.before.before.before.before.before.before.before.before.before.before.before.before.before.before.before.before.before.before.before.before.before.before.before.before.before.before.before.before.before.before.before.before.before.is-busy.ensures ∙ not-false c.before.before.before.before.before.before.before.before.before.before.before.before.before.before.before.before.before.before.before.before.before.before.before.before.before.before.before.before.before.before.before.before.before.before.before.before.before.before.before.before.before.before.before.is-busy.result c.before.before.before.before.before.before.before.before.before.before.before.before.before.before.before.before.before.before.before.before.before.before.before.before.before.before.before.before.before.before.before.before.before.before.before.before.before.before.before.before.before.before.if1.false) (list-answered (here c.before.before.before.before.before.before.before.before.before.before.before.before.before.before.before.before.before.before.before.before.before.before.before.before.before.before.before.before.before.before.before.before.before.before.before.before.before.before.before.before.before.before.before.before.before) (sym c.before.before.before.before.before.before.before.before.before.before.before.before.before.before.before.before.before.before.before.before.before.before.before.before.before.before.before.before.before.before.before.before.before.before.before.before.before.before.before.before.before.before.before.is-busy.ensures ∙ not-false c.before.before.before.before.before.before.before.before.before.before.before.before.before.before.before.before.before.before.before.before.before.before.before.before.before.before.before.before.before.before.before.before.before.before.before.before.before.before.before.before.before.before.before.is-busy.result c.before.before.before.before.before.before.before.before.before.before.before.before.before.before.before.before.before.before.before.before.before.before.before.before.before.before.before.before.before.before.before.before.before.before.before.before.before.before.before.before.before.before.if1.false) c.before.before.before.before.before.before.before.before.before.before.before.before.before.before.before.before.before.before.before.before.before.before.before.before.before.before.before.before.before.before.before.before.before.before.before.before.before.before.before.before.is_unchanged.ensures c.before.before.before.before.before.before.before.before.before.before.before.before.before.before.before.before.before.before.before.before.before.before.before.before.before.before.before.before.before.before.before.before.before.before.before.before.step.ensures c.before.before.before.before.before.before.before.before.before.before.before.before.before.before.before.before.before.before.before.before.before.before.before.before.before.before.before.before.before.before.before.before.before.effect.given.1 c.before.before.before.before.before.before.before.before.before.before.before.before.before.before.before.before.before.before.before.before.before.before.before.before.before.before.before.before.before.before.before.if2.false c.before.before.before.before.before.before.before.before.before.before.before.before.before.before.before.before.before.before.before.before.before.before.before.before.answer-read.ensures c.before.before.before.before.before.before.before.before.before.before.before.before.before.before.before.before.before.before.before.before.step2.ensures c.before.before.before.before.before.before.before.before.before.before.before.before.before.before.before.before.before.before.forget.ensures) r.ensures (c.before.before.before.before.before.before.before.before.before.before.before.before.before.before.before.before.before.before.forget.auto.0 ∙ c.before.before.before.before.before.before.before.before.before.before.before.before.before.before.before.before.before.before.before.before.before.before.before.before.answer-read.auto.1.1.1.1.1.1.1.0) r.auto.0 r.auto.1.0 r.auto.1.1.0 r.auto.1.1.1.0 r.auto.1.1.1.1.0
+    list_done (here c.before.before.before.before.before.before.before.before.before.before.before.before.before.before.before.before.before.before.before.before.before.before.before.before.before.before.before.before.before.before.before.before.before.before.before.before.before.before.before.before.before.before.before.before.before) (sym c.before.before.before.before.before.before.before.before.before.before.before.before.before.before.before.before.before.before.before.before.before.before.before.before.before.before.before.before.before.before.before.before.before.before.before.before.before.before.before.before.before.before.before.is-busy.ensures ∙ not-false c.before.before.before.before.before.before.before.before.before.before.before.before.before.before.before.before.before.before.before.before.before.before.before.before.before.before.before.before.before.before.before.before.before.before.before.before.before.before.before.before.before.before.before.is-busy.result c.before.before.before.before.before.before.before.before.before.before.before.before.before.before.before.before.before.before.before.before.before.before.before.before.before.before.before.before.before.before.before.before.before.before.before.before.before.before.before.before.before.before.if1.false) (list_answered (here c.before.before.before.before.before.before.before.before.before.before.before.before.before.before.before.before.before.before.before.before.before.before.before.before.before.before.before.before.before.before.before.before.before.before.before.before.before.before.before.before.before.before.before.before.before) (sym c.before.before.before.before.before.before.before.before.before.before.before.before.before.before.before.before.before.before.before.before.before.before.before.before.before.before.before.before.before.before.before.before.before.before.before.before.before.before.before.before.before.before.before.is-busy.ensures ∙ not-false c.before.before.before.before.before.before.before.before.before.before.before.before.before.before.before.before.before.before.before.before.before.before.before.before.before.before.before.before.before.before.before.before.before.before.before.before.before.before.before.before.before.before.before.is-busy.result c.before.before.before.before.before.before.before.before.before.before.before.before.before.before.before.before.before.before.before.before.before.before.before.before.before.before.before.before.before.before.before.before.before.before.before.before.before.before.before.before.before.before.if1.false) c.before.before.before.before.before.before.before.before.before.before.before.before.before.before.before.before.before.before.before.before.before.before.before.before.before.before.before.before.before.before.before.before.before.before.before.before.before.before.before.before.is_unchanged.ensures c.before.before.before.before.before.before.before.before.before.before.before.before.before.before.before.before.before.before.before.before.before.before.before.before.before.before.before.before.before.before.before.before.before.before.before.before.step.ensures c.before.before.before.before.before.before.before.before.before.before.before.before.before.before.before.before.before.before.before.before.before.before.before.before.before.before.before.before.before.before.before.before.before.effect.given.1 c.before.before.before.before.before.before.before.before.before.before.before.before.before.before.before.before.before.before.before.before.before.before.before.before.before.before.before.before.before.before.before.if2.false c.before.before.before.before.before.before.before.before.before.before.before.before.before.before.before.before.before.before.before.before.before.before.before.before.answer-read.ensures c.before.before.before.before.before.before.before.before.before.before.before.before.before.before.before.before.before.before.before.before.step2.ensures c.before.before.before.before.before.before.before.before.before.before.before.before.before.before.before.before.before.before.forget.ensures) r.ensures (c.before.before.before.before.before.before.before.before.before.before.before.before.before.before.before.before.before.before.forget.auto.0 ∙ c.before.before.before.before.before.before.before.before.before.before.before.before.before.before.before.before.before.before.before.before.before.before.before.before.answer-read.auto.1.1.1.1.1.1.1.0) r.auto.0 r.auto.1.0 r.auto.1.1.0 r.auto.1.1.1.0 r.auto.1.1.1.1.0
 
 enum-told-2 : tie.Need-enum-told-2 invariant-loop decreases-loop
 enum-told-2 c =
@@ -268,7 +268,7 @@ enum-told-2 c =
 
 change-requires : tie.Need-change-requires invariant-loop decreases-loop
 change-requires c κs =
-    list-changes (here c.before.before.before.before.before.before.before.before.before.before.before.before.before.before.before.before) (sym c.before.before.before.before.before.before.before.before.before.before.before.before.before.before.is-busy.ensures ∙ not-false c.before.before.before.before.before.before.before.before.before.before.before.before.before.before.is-busy.result c.before.before.before.before.before.before.before.before.before.before.before.before.before.if1.false) c.before.before.before.before.before.before.before.before.before.before.before.is_unchanged.ensures c.before.before.before.before.before.before.before.step.ensures c.before.before.before.enum-told2.given.1
+    list_changes (here c.before.before.before.before.before.before.before.before.before.before.before.before.before.before.before.before) (sym c.before.before.before.before.before.before.before.before.before.before.before.before.before.before.is-busy.ensures ∙ not-false c.before.before.before.before.before.before.before.before.before.before.before.before.before.before.is-busy.result c.before.before.before.before.before.before.before.before.before.before.before.before.before.if1.false) c.before.before.before.before.before.before.before.before.before.before.before.is_unchanged.ensures c.before.before.before.before.before.before.before.step.ensures c.before.before.before.enum-told2.given.1
 
 mul-managers-4 : tie.Need-overflow-mul-managers-4 invariant-loop decreases-loop
 mul-managers-4 c =
@@ -281,7 +281,7 @@ array-set-from-managers-4 c =
 settle-requires : tie.Need-settle-requires invariant-loop decreases-loop
 settle-requires c κs =
     let made = c.before.before.before.before.before.before.before.before.before.before.change.ensures in
-    (list-settles (here c.before.before.before.before.before.before.before.before.before.before.before.before.before.before.before.before.before.before.before.before.before.before.before.before.before.before.before) (sym c.before.before.before.before.before.before.before.before.before.before.before.before.before.before.before.before.before.before.before.before.before.before.before.before.before.is-busy.ensures ∙ not-false c.before.before.before.before.before.before.before.before.before.before.before.before.before.before.before.before.before.before.before.before.before.before.before.before.before.is-busy.result c.before.before.before.before.before.before.before.before.before.before.before.before.before.before.before.before.before.before.before.before.before.before.before.before.if1.false) c.before.before.before.before.before.before.before.before.before.before.before.before.before.before.before.before.before.before.before.before.before.before.is_unchanged.ensures c.before.before.before.before.before.before.before.before.before.before.before.before.before.before.before.before.before.before.step.ensures c.before.before.before.before.before.before.before.before.before.before.before.before.before.before.enum-told2.given.1 made, held_fits made.held)
+    (list_settles (here c.before.before.before.before.before.before.before.before.before.before.before.before.before.before.before.before.before.before.before.before.before.before.before.before.before.before.before) (sym c.before.before.before.before.before.before.before.before.before.before.before.before.before.before.before.before.before.before.before.before.before.before.before.before.before.is-busy.ensures ∙ not-false c.before.before.before.before.before.before.before.before.before.before.before.before.before.before.before.before.before.before.before.before.before.before.before.before.before.is-busy.result c.before.before.before.before.before.before.before.before.before.before.before.before.before.before.before.before.before.before.before.before.before.before.before.before.if1.false) c.before.before.before.before.before.before.before.before.before.before.before.before.before.before.before.before.before.before.before.before.before.before.is_unchanged.ensures c.before.before.before.before.before.before.before.before.before.before.before.before.before.before.before.before.before.before.step.ensures c.before.before.before.before.before.before.before.before.before.before.before.before.before.before.enum-told2.given.1 made, held_fits made.held)
 
 add-i-4 : tie.Need-overflow-add-i-4 invariant-loop decreases-loop
 add-i-4 c =
@@ -296,7 +296,7 @@ loop-again-4 : tie.Need-loop-preserved-4 invariant-loop decreases-loop
 loop-again-4 c =
     let made = c.before.before.before.before.before.before.before.before.before.before.before.before.before.before.before.change in
     let r = c.before.before.before.before.settle in
-    list-changed (here c.before.before.before.before.before.before.before.before.before.before.before.before.before.before.before.before.before.before.before.before.before.before.before.before.before.before.before.before.before.before.before.before) (sym c.before.before.before.before.before.before.before.before.before.before.before.before.before.before.before.before.before.before.before.before.before.before.before.before.before.before.before.before.before.before.is-busy.ensures ∙ not-false c.before.before.before.before.before.before.before.before.before.before.before.before.before.before.before.before.before.before.before.before.before.before.before.before.before.before.before.before.before.before.is-busy.result c.before.before.before.before.before.before.before.before.before.before.before.before.before.before.before.before.before.before.before.before.before.before.before.before.before.before.before.before.before.if1.false) c.before.before.before.before.before.before.before.before.before.before.before.before.before.before.before.before.before.before.before.before.before.before.before.before.before.before.before.is_unchanged.ensures c.before.before.before.before.before.before.before.before.before.before.before.before.before.before.before.before.before.before.before.before.before.before.before.step.ensures c.before.before.before.before.before.before.before.before.before.before.before.before.before.before.before.before.before.before.before.enum-told2.given.1 made.ensures r.ensures made.auto.1.1.1.0 r.auto.0 (r.auto.1.0 ∙ made.auto.1.1.1.1.0) made.auto.1.1.1.1.1.0
+    list_changed (here c.before.before.before.before.before.before.before.before.before.before.before.before.before.before.before.before.before.before.before.before.before.before.before.before.before.before.before.before.before.before.before.before) (sym c.before.before.before.before.before.before.before.before.before.before.before.before.before.before.before.before.before.before.before.before.before.before.before.before.before.before.before.before.before.before.is-busy.ensures ∙ not-false c.before.before.before.before.before.before.before.before.before.before.before.before.before.before.before.before.before.before.before.before.before.before.before.before.before.before.before.before.before.before.is-busy.result c.before.before.before.before.before.before.before.before.before.before.before.before.before.before.before.before.before.before.before.before.before.before.before.before.before.before.before.before.before.if1.false) c.before.before.before.before.before.before.before.before.before.before.before.before.before.before.before.before.before.before.before.before.before.before.before.before.before.before.before.is_unchanged.ensures c.before.before.before.before.before.before.before.before.before.before.before.before.before.before.before.before.before.before.before.before.before.before.before.step.ensures c.before.before.before.before.before.before.before.before.before.before.before.before.before.before.before.before.before.before.before.enum-told2.given.1 made.ensures r.ensures made.auto.1.1.1.0 r.auto.0 (r.auto.1.0 ∙ made.auto.1.1.1.1.0) made.auto.1.1.1.1.1.0
 
 mul-managers-5 : tie.Need-overflow-mul-managers-5 invariant-loop decreases-loop
 mul-managers-5 c =
@@ -308,7 +308,7 @@ array-set-from-managers-5 c =
 
 done-requires-3 : tie.Need-done-requires-3 invariant-loop decreases-loop
 done-requires-3 c κs =
-    list-performs (here c.before.before.before.before.before.before.before.before.before.before.before.before.before.before.before.before.before) (sym c.before.before.before.before.before.before.before.before.before.before.before.before.before.before.before.is-busy.ensures ∙ not-false c.before.before.before.before.before.before.before.before.before.before.before.before.before.before.before.is-busy.result c.before.before.before.before.before.before.before.before.before.before.before.before.before.before.if1.false) (list-made (here c.before.before.before.before.before.before.before.before.before.before.before.before.before.before.before.before.before) (sym c.before.before.before.before.before.before.before.before.before.before.before.before.before.before.before.is-busy.ensures ∙ not-false c.before.before.before.before.before.before.before.before.before.before.before.before.before.before.before.is-busy.result c.before.before.before.before.before.before.before.before.before.before.before.before.before.before.if1.false) c.before.before.before.before.before.before.before.before.before.before.before.before.is_unchanged.ensures c.before.before.before.before.before.before.before.before.step.ensures (asks_nothing c.before.before.before.before.before.before.before.before.step.result.core.effect c.before.before.before.before.before.before.match2.keys2 c.before.before.before.before.before.match3.keys2))
+    list_performs (here c.before.before.before.before.before.before.before.before.before.before.before.before.before.before.before.before.before) (sym c.before.before.before.before.before.before.before.before.before.before.before.before.before.before.before.is-busy.ensures ∙ not-false c.before.before.before.before.before.before.before.before.before.before.before.before.before.before.before.is-busy.result c.before.before.before.before.before.before.before.before.before.before.before.before.before.before.if1.false) (list_made (here c.before.before.before.before.before.before.before.before.before.before.before.before.before.before.before.before.before) (sym c.before.before.before.before.before.before.before.before.before.before.before.before.before.before.before.is-busy.ensures ∙ not-false c.before.before.before.before.before.before.before.before.before.before.before.before.before.before.before.is-busy.result c.before.before.before.before.before.before.before.before.before.before.before.before.before.before.if1.false) c.before.before.before.before.before.before.before.before.before.before.before.before.is_unchanged.ensures c.before.before.before.before.before.before.before.before.step.ensures (asks_nothing c.before.before.before.before.before.before.before.before.step.result.core.effect c.before.before.before.before.before.before.match2.keys2 c.before.before.before.before.before.match3.keys2))
 
 add-i-5 : tie.Need-overflow-add-i-5 invariant-loop decreases-loop
 add-i-5 c =
@@ -322,7 +322,7 @@ loop-less-5 c =
 loop-again-5 : tie.Need-loop-preserved-5 invariant-loop decreases-loop
 loop-again-5 c =
     let r = c.before.before.before.before.before.before.before.before.before.before.done3 in
-    list_done (here c.before.before.before.before.before.before.before.before.before.before.before.before.before.before.before.before.before.before.before.before.before.before.before.before.before.before.before.before) (sym c.before.before.before.before.before.before.before.before.before.before.before.before.before.before.before.before.before.before.before.before.before.before.before.before.before.before.is-busy.ensures ∙ not-false c.before.before.before.before.before.before.before.before.before.before.before.before.before.before.before.before.before.before.before.before.before.before.before.before.before.before.is-busy.result c.before.before.before.before.before.before.before.before.before.before.before.before.before.before.before.before.before.before.before.before.before.before.before.before.before.if1.false) (list-made (here c.before.before.before.before.before.before.before.before.before.before.before.before.before.before.before.before.before.before.before.before.before.before.before.before.before.before.before.before) (sym c.before.before.before.before.before.before.before.before.before.before.before.before.before.before.before.before.before.before.before.before.before.before.before.before.before.before.is-busy.ensures ∙ not-false c.before.before.before.before.before.before.before.before.before.before.before.before.before.before.before.before.before.before.before.before.before.before.before.before.before.before.is-busy.result c.before.before.before.before.before.before.before.before.before.before.before.before.before.before.before.before.before.before.before.before.before.before.before.before.before.if1.false) c.before.before.before.before.before.before.before.before.before.before.before.before.before.before.before.before.before.before.before.before.before.before.before.is_unchanged.ensures c.before.before.before.before.before.before.before.before.before.before.before.before.before.before.before.before.before.before.before.step.ensures (asks_nothing c.before.before.before.before.before.before.before.before.before.before.before.before.before.before.before.before.before.before.before.step.result.core.effect c.before.before.before.before.before.before.before.before.before.before.before.before.before.before.before.before.before.match2.keys2 c.before.before.before.before.before.before.before.before.before.before.before.before.before.before.before.before.match3.keys2)) r.ensures refl r.auto.0 r.auto.1.0 r.auto.1.1.0 r.auto.1.1.1.0 r.auto.1.1.1.1.0
+    list_done (here c.before.before.before.before.before.before.before.before.before.before.before.before.before.before.before.before.before.before.before.before.before.before.before.before.before.before.before.before) (sym c.before.before.before.before.before.before.before.before.before.before.before.before.before.before.before.before.before.before.before.before.before.before.before.before.before.before.is-busy.ensures ∙ not-false c.before.before.before.before.before.before.before.before.before.before.before.before.before.before.before.before.before.before.before.before.before.before.before.before.before.before.is-busy.result c.before.before.before.before.before.before.before.before.before.before.before.before.before.before.before.before.before.before.before.before.before.before.before.before.before.if1.false) (list_made (here c.before.before.before.before.before.before.before.before.before.before.before.before.before.before.before.before.before.before.before.before.before.before.before.before.before.before.before.before) (sym c.before.before.before.before.before.before.before.before.before.before.before.before.before.before.before.before.before.before.before.before.before.before.before.before.before.before.is-busy.ensures ∙ not-false c.before.before.before.before.before.before.before.before.before.before.before.before.before.before.before.before.before.before.before.before.before.before.before.before.before.before.is-busy.result c.before.before.before.before.before.before.before.before.before.before.before.before.before.before.before.before.before.before.before.before.before.before.before.before.before.if1.false) c.before.before.before.before.before.before.before.before.before.before.before.before.before.before.before.before.before.before.before.before.before.before.before.is_unchanged.ensures c.before.before.before.before.before.before.before.before.before.before.before.before.before.before.before.before.before.before.before.step.ensures (asks_nothing c.before.before.before.before.before.before.before.before.before.before.before.before.before.before.before.before.before.before.before.step.result.core.effect c.before.before.before.before.before.before.before.before.before.before.before.before.before.before.before.before.before.match2.keys2 c.before.before.before.before.before.before.before.before.before.before.before.before.before.before.before.before.match3.keys2)) r.ensures refl r.auto.0 r.auto.1.0 r.auto.1.1.0 r.auto.1.1.1.0 r.auto.1.1.1.1.0
 
 at-end-requires : tie.Need-at-end-requires invariant-loop decreases-loop
 at-end-requires c κs =

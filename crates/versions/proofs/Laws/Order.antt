@@ -47,8 +47,8 @@ bracket_all w start n bound =
 module _ {w : List ℕ} {start n bound low high : ℕ} (b : Bracket w start n bound low high) where
   -- the version in the middle settles all on one side of it
   module _ (rise : StampsRise w start n) (m : ℕ) (lm : low ≤ m) (mh : m < high) where
-    pub bracket-up : stamp_at w start m ≤ bound → Bracket w start n bound (m + 1) high
-    bracket-up h =
+    pub bracket_up : stamp_at w start m ≤ bound → Bracket w start n bound (m + 1) high
+    bracket_up h =
         record {
           ordered = omega arith;
           within = b.within;
@@ -56,8 +56,8 @@ module _ {w : List ℕ} {start n bound low high : ℕ} (b : Bracket w start n bo
           after = b.after;
         }
 
-    pub bracket-down : bound < stamp_at w start m → Bracket w start n bound low m
-    bracket-down h =
+    pub bracket_down : bound < stamp_at w start m → Bracket w start n bound low m
+    bracket_down h =
         record {
           ordered = lm;
           within = omega (arith, mh, b.within);

@@ -40,10 +40,10 @@ module _ (packed number object field d : ℕ) (h : Distance packed object field 
   pub far_is_not : 2 ^ 17 ≤ d → is_of object field (version_of packed number) ≡ false
   unfolding version_of
   far_is_not l = refuted (is_of object field (version_of packed number)) λ t.
-      let isObject = eqb (packed / 2 ^ 19) object in
-      let isField = eqb (packed / 2 ^ 17 % 2 ^ 2) field in
-      let o : packed / 2 ^ 19 ≡ object = eqb-true _ _ (and_left isObject isField t) in
-      let k : packed / 2 ^ 17 % 2 ^ 2 ≡ field = eqb-true _ _ (and_right isObject isField t) in
+      let is_object = eqb (packed / 2 ^ 19) object in
+      let is_field = eqb (packed / 2 ^ 17 % 2 ^ 2) field in
+      let o : packed / 2 ^ 19 ≡ object = eqb-true _ _ (and_left is_object is_field t) in
+      let k : packed / 2 ^ 17 % 2 ^ 2 ≡ field = eqb-true _ _ (and_right is_object is_field t) in
       absurd (too_far (packed % 2 ^ 17) (distance_is h (packed % 2 ^ 17) (parts packed object field o k)) (omega arith) l)
 
 module _ (w : List ℕ) (start n : ℕ) (initial : Value) (object field : ℕ) where

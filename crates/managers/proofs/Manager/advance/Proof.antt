@@ -23,8 +23,8 @@ use Rattle.cores.specs.declared.Core.{Core}
 use Rattle.cores.specs.declared.Effect.{Effect}
 use Rattle.cores.specs.declared.Effect.TheVariants.{Nothing, End, Write, Read, Change, Fork, Call, Pop}
 use Rattle.cores.specs.contracts.Effect as effect
-use Rattle.managers.proofs.Laws.Advance.{Turning, turns_left, unfinished_internal, turning_start, turning-operable, turning-made, turning-less, turning-pushed, pushed-less, turning-popped, popped-less}
-use Rattle.managers.proofs.Laws.Closing.{Lowering, lowering_start, lowering-two, lowering-waits, lowering-on, lowering-less}
+use Rattle.managers.proofs.Laws.Advance.{Turning, turns_left, unfinished_internal, turning_start, turning_operable, turning_made, turning_less, turning_pushed, pushed_less, turning_popped, popped_less}
+use Rattle.managers.proofs.Laws.Closing.{Lowering, lowering_start, lowering_two, lowering_waits, lowering_on, lowering_less}
 use Rattle.managers.proofs.Laws.Done.{advance_done, advanced_self, self_able}
 use Rattle.managers.proofs.Manager.advance.Statement.{statement}
 use Rattle.managers.proofs.Manager.advance.Tie as tie
@@ -70,7 +70,7 @@ operate-requires : tie.Need-operate-requires invariant-loop decreases-loop invar
 operate-requires c κs =
     let at = c.before.before.before in
     let is = c.causing2.ensures ∙ calm at.before.before.loop.core (go at).0 in
-    (subst (Operable _ _ _ _) (sym is) (turning-operable _ _ _ _ _ _ _ _ _ _ _ _ at.before.before.loop.invariant.0 (go at).0 (go at).1), c.before.next-step.ensures ∙ ap (λ z. next_step (program_of (start at.before.before).args.session.now) (frame_of z.top)) (sym is))
+    (subst (Operable _ _ _ _) (sym is) (turning_operable _ _ _ _ _ _ _ _ _ _ _ _ at.before.before.loop.invariant.0 (go at).0 (go at).1), c.before.next-step.ensures ∙ ap (λ z. next_step (program_of (start at.before.before).args.session.now) (frame_of z.top)) (sym is))
 
 -- src/lib.rt:203:26
 -- script steps led from the manager to a core above frames
@@ -89,7 +89,7 @@ operated x =
 made : (x : tie.After-operate invariant-loop decreases-loop invariant-loop2 decreases-loop2) → Now x.before.before.before.before.before.before x.operate.result x.before.before.before.before.before.before.loop.waiting
 made x =
     let at = x.before.before.before.before in
-    turning-made _ _ _ _ _ _ _ _ _ _ _ _ at.before.before.loop.invariant.0 (go at).0 (go at).1 x.operate.result (operated x)
+    turning_made _ _ _ _ _ _ _ _ _ _ _ _ at.before.before.loop.invariant.0 (go at).0 (go at).1 x.operate.result (operated x)
 
 sub_at : tie.Need-overflow-sub-at invariant-loop decreases-loop invariant-loop2 decreases-loop2
 sub_at c = (made c.before.before.before.before.before).sits.some (ap is_over c.before.before.before.effect.given.1)
@@ -127,14 +127,14 @@ loop-less : tie.Need-loop-smaller invariant-loop decreases-loop invariant-loop2 
 loop-less c =
     let x = c.before.before.before.before.before in
     let at = x.before.before.before.before.before.before in
-    pushed-less _ _ _ _ _ _ _ _ _ _ _ _ at.before.before.loop.invariant.0 (go at).0 (go at).1 _ (operated x.before.before) _ _ _ x.effect.given.1 _ c.before.set-aside.ensures _ c.pushed.ensures
+    pushed_less _ _ _ _ _ _ _ _ _ _ _ _ at.before.before.loop.invariant.0 (go at).0 (go at).1 _ (operated x.before.before) _ _ _ x.effect.given.1 _ c.before.set-aside.ensures _ c.pushed.ensures
 
 -- src/lib.rt:189:9
 loop-again : tie.Need-loop-preserved invariant-loop decreases-loop invariant-loop2 decreases-loop2
 loop-again c =
     let x = c.before.before.before.before.before in
     let at = x.before.before.before.before.before.before in
-    (turning-pushed _ _ _ _ _ _ _ _ _ _ _ _ at.before.before.loop.invariant.0 (go at).0 (go at).1 _ (operated x.before.before) _ _ _ x.effect.given.1 _ c.before.set-aside.ensures _ c.pushed.ensures, ap (λ z. is_done z.effect) c.pushed.ensures.core_is)
+    (turning_pushed _ _ _ _ _ _ _ _ _ _ _ _ at.before.before.loop.invariant.0 (go at).0 (go at).1 _ (operated x.before.before) _ _ _ x.effect.given.1 _ c.before.set-aside.ensures _ c.pushed.ensures, ap (λ z. is_done z.effect) c.pushed.ensures.core_is)
 
 -- src/lib.rt:206:39
 -- src/lib.rt:207:26
@@ -162,14 +162,14 @@ loop-less-2 : tie.Need-loop-smaller-2 invariant-loop decreases-loop invariant-lo
 loop-less-2 c =
     let x = c.before.before.before.before.before.before.before in
     let at = x.before.before.before.before in
-    popped-less _ _ _ _ _ _ _ _ _ _ _ _ at.before.before.loop.invariant.0 (go at).0 (go at).1 _ (operated x) _ c.before.before.before.before.effect2.given.1 _ c.popped.ensures
+    popped_less _ _ _ _ _ _ _ _ _ _ _ _ at.before.before.loop.invariant.0 (go at).0 (go at).1 _ (operated x) _ c.before.before.before.before.effect2.given.1 _ c.popped.ensures
 
 -- src/lib.rt:189:9
 loop-again-2 : tie.Need-loop-preserved-2 invariant-loop decreases-loop invariant-loop2 decreases-loop2
 loop-again-2 c =
     let x = c.before.before.before.before.before.before.before in
     let at = x.before.before.before.before in
-    (turning-popped _ _ _ _ _ _ _ _ _ _ _ _ at.before.before.loop.invariant.0 (go at).0 (go at).1 _ (operated x) _ c.before.before.before.before.effect2.given.1 _ c.popped.ensures, ap (λ z. is_done z.effect) c.popped.ensures.core_is)
+    (turning_popped _ _ _ _ _ _ _ _ _ _ _ _ at.before.before.loop.invariant.0 (go at).0 (go at).1 _ (operated x) _ c.before.before.before.before.effect2.given.1 _ c.popped.ensures, ap (λ z. is_done z.effect) c.popped.ensures.core_is)
 
 -- an effect of another tag than a call's and a pop's
 other : (e : Effect) → OneOf (0 ∷ 1 ∷ 2 ∷ 3 ∷ 4 ∷ 5 ∷ 7 ∷ []) (tag_of effect.the_type e) → OneOf (0 ∷ 1 ∷ 2 ∷ 3 ∷ 4 ∷ 5 ∷ 6 ∷ []) (tag_of effect.the_type e) → is_done e ≡ true
@@ -186,7 +186,7 @@ loop-less-3 : tie.Need-loop-smaller-3 invariant-loop decreases-loop invariant-lo
 loop-less-3 c =
     let x = c.before.before in
     let at = x.before.before.before.before in
-    turning-less _ _ _ _ _ _ _ _ _ _ _ _ at.before.before.loop.invariant.0 (go at).0 (go at).1 _ (operated x) (other x.operate.result.effect c.before.match.keys2 c.match2.keys2)
+    turning_less _ _ _ _ _ _ _ _ _ _ _ _ at.before.before.loop.invariant.0 (go at).0 (go at).1 _ (operated x) (other x.operate.result.effect c.before.match.keys2 c.match2.keys2)
 
 -- src/lib.rt:189:9
 loop-again-3 : tie.Need-loop-preserved-3 invariant-loop decreases-loop invariant-loop2 decreases-loop2
@@ -206,35 +206,35 @@ c-pops x = sym x.before.pops.ensures ∙ x.if2.true
 
 -- src/lib.rt:212:22
 sub-at-3 : tie.Need-overflow-sub-at-3 invariant-loop decreases-loop invariant-loop2 decreases-loop2
-sub-at-3 c = lowering-two _ _ _ _ _ c.before.before.before.loop2.invariant (c-pops c.before)
+sub-at-3 c = lowering_two _ _ _ _ _ c.before.before.before.loop2.invariant (c-pops c.before)
 
 -- src/lib.rt:214:53
 -- src/lib.rt:214:53
 array-copy-out-popped-2 : tie.Need-array-copy-out-popped-2 invariant-loop decreases-loop invariant-loop2 decreases-loop2
 array-copy-out-popped-2 c =
     let t = c.before.before.before.loop2.invariant in
-    let two = lowering-two _ _ _ _ _ t (c-pops c.before) in
+    let two = lowering_two _ _ _ _ _ t (c-pops c.before) in
     omega (arith, two, t.sits.low)
 
 -- src/lib.rt:214:17
 popped-requires-2 : tie.Need-popped-requires-2 invariant-loop decreases-loop invariant-loop2 decreases-loop2
 popped-requires-2 c κs =
     let t = c.before.before.before.before.loop2.invariant in
-    let two = lowering-two _ _ _ _ _ t (c-pops c.before.before) in
-    (t.indexed, lowering-waits _ _ _ _ _ t (c-pops c.before.before), omega arith)
+    let two = lowering_two _ _ _ _ _ t (c-pops c.before.before) in
+    (t.indexed, lowering_waits _ _ _ _ _ t (c-pops c.before.before), omega arith)
 
 -- src/lib.rt:215:13
 -- src/lib.rt:211:9
 loop2-less : tie.Need-loop2-smaller invariant-loop decreases-loop invariant-loop2 decreases-loop2
 loop2-less c =
     let x = c.before.before.before.before in
-    lowering-less _ _ _ _ _ x.before.before.loop2.invariant (c-pops x) _ c.before.popped2.ensures _ c.causing3.ensures
+    lowering_less _ _ _ _ _ x.before.before.loop2.invariant (c-pops x) _ c.before.popped2.ensures _ c.causing3.ensures
 
 -- src/lib.rt:211:9
 loop2-again : tie.Need-loop2-preserved invariant-loop decreases-loop invariant-loop2 decreases-loop2
 loop2-again c =
     let x = c.before.before.before.before in
-    lowering-on _ _ _ _ _ x.before.before.loop2.invariant (c-pops x) _ c.before.popped2.ensures _ c.causing3.ensures
+    lowering_on _ _ _ _ _ x.before.before.loop2.invariant (c-pops x) _ c.before.popped2.ensures _ c.causing3.ensures
 
 -- src/lib.rt:217:9
 -- src/lib.rt:173:5

@@ -9,7 +9,7 @@ use Rattle.scripts.specs.Ending.{is_running}
 use Rattle.scripts.specs.Manager.{next_step}
 use Rattle.frames.specs.Frames.{frame_of, Placed}
 use Rattle.changes.specs.Changes.{IsChange, Changeable, Stood, StepChanged}
-use Rattle.managers.proofs.Laws.Closing.{Lowering, lowering-two, lowering-waits, lowering-on, lowering-less}
+use Rattle.managers.proofs.Laws.Closing.{Lowering, lowering_two, lowering_waits, lowering_on, lowering_less}
 use Rattle.managers.proofs.Laws.Changes.{core_changeable, lowering_changed, changed_done}
 use Rattle.managers.proofs.Manager.change.Statement.{statement}
 use Rattle.managers.proofs.Manager.change.Tie as tie
@@ -44,29 +44,29 @@ c-pops : (x : tie.Then1 invariant-loop decreases-loop) → (is_running x.before.
 c-pops x = sym x.before.pops.ensures ∙ x.if1.true
 
 sub_at : tie.Need-overflow-sub-at invariant-loop decreases-loop
-sub_at c = lowering-two _ _ _ _ _ c.before.before.before.loop.invariant (c-pops c.before)
+sub_at c = lowering_two _ _ _ _ _ c.before.before.before.loop.invariant (c-pops c.before)
 
 array-copy-out-popped : tie.Need-array-copy-out-popped invariant-loop decreases-loop
 array-copy-out-popped c =
     let t = c.before.before.before.loop.invariant in
-    let two = lowering-two _ _ _ _ _ t (c-pops c.before) in
+    let two = lowering_two _ _ _ _ _ t (c-pops c.before) in
     omega (arith, two, t.sits.low)
 
 popped-requires : tie.Need-popped-requires invariant-loop decreases-loop
 popped-requires c κs =
     let t = c.before.before.before.before.loop.invariant in
-    let two = lowering-two _ _ _ _ _ t (c-pops c.before.before) in
-    (t.indexed, lowering-waits _ _ _ _ _ t (c-pops c.before.before), omega arith)
+    let two = lowering_two _ _ _ _ _ t (c-pops c.before.before) in
+    (t.indexed, lowering_waits _ _ _ _ _ t (c-pops c.before.before), omega arith)
 
 loop-less : tie.Need-loop-smaller invariant-loop decreases-loop
 loop-less c =
     let x = c.before.before.before.before in
-    lowering-less _ _ _ _ _ x.before.before.loop.invariant (c-pops x) _ c.before.popped.ensures _ c.causing2.ensures
+    lowering_less _ _ _ _ _ x.before.before.loop.invariant (c-pops x) _ c.before.popped.ensures _ c.causing2.ensures
 
 loop-again : tie.Need-loop-preserved invariant-loop decreases-loop
 loop-again c =
     let x = c.before.before.before.before in
-    lowering-on _ _ _ _ _ x.before.before.loop.invariant (c-pops x) _ c.before.popped.ensures _ c.causing2.ensures
+    lowering_on _ _ _ _ _ x.before.before.loop.invariant (c-pops x) _ c.before.popped.ensures _ c.causing2.ensures
 
 returns : tie.Need-returns invariant-loop decreases-loop
 returns c =

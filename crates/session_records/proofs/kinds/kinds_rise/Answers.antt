@@ -12,11 +12,11 @@ pub returns-then-kind-low : goal.returns-then-kind-low
 returns-then-kind-low c =
     let s = c.args.session.now in
     let at = c.loop-r in
-    let in-range : at.r < record_count s = c.loop-r-test.true in
+    let in_range : at.r < record_count s = c.loop-r-test.true in
     sym (refuted (kinds_rise s) λ t.
     climbed_fails (λ i. kind_of (record_at s i)) 1 at.r at.low at.invariant.1
     (rw c.byte_at-kind.ensures at c.if-kind-low.true)
-    (kind_least s t at.r in-range)
+    (kind_least s t at.r in_range)
     (λ i e. kind_next s t i (omega arith)))
 
 pub returns : goal.returns

@@ -30,7 +30,7 @@ use Rattle.theorems.proofs.Laws.Order.Accepted.{sound}
 use Rattle.theorems.proofs.Laws.Order.PlainRun.{accepted_plain}
 use Rattle.theorems.proofs.Laws.Deep.Root.{same_result}
 use Rattle.theorems.proofs.Laws.Code.Bounds.{PacedBy, Paced}
-use Rattle.theorems.proofs.Laws.Code.Reached.{Kept, ReachedState, present, live_start, live-step}
+use Rattle.theorems.proofs.Laws.Code.Reached.{Kept, ReachedState, present, live_start, live_step}
 use Rattle.theorems.proofs.Laws.Code.Progress.{allowed, unmanaged_idle}
 
 abbrev is_finished : Outcome → Bool
@@ -57,7 +57,7 @@ run_reached s a i [] st t r e = elim (truth (question15 (program_of s) st)) [
 run_reached s a i (l ∷ ls) st t r e = elim (truth (eqb (step_refusal (program_of s) st l) 0)) [
   | holds q ↦
       let ok = eqb-true (step_refusal (program_of s) st l) 0 q in
-      run_reached s a (suc i) ls (step_at (program_of s) l st) t (live-step s a st r l (unfold program_of in (allowed question14 (program_of s) st l ok).0) ok) (rw q at e)
+      run_reached s a (suc i) ls (step_at (program_of s) l st) t (live_step s a st r l (unfold program_of in (allowed question14 (program_of s) st l ok).0) ok) (rw q at e)
   | fails q ↦ absurd (not_both false (ap is_finished (rw q at e)) refl)
 ]
 

@@ -32,7 +32,7 @@ use Rattle.theorems.proofs.Laws.Order.Accepted.{sound}
 use Rattle.theorems.proofs.Laws.Order.Orderly.{behind}
 use Rattle.theorems.proofs.Laws.Order.Progress.{progress, quiet_below, conservative_may}
 use Rattle.theorems.proofs.Laws.Order.Chosen.{run_over, run_next}
-use Rattle.theorems.proofs.Laws.Code.Reached.{ReachedState, present, live_start, live-step}
+use Rattle.theorems.proofs.Laws.Code.Reached.{ReachedState, present, live_start, live_step}
 
 -- the number of a step's refusal under a rule, by the first question that says no
 module _ (rule : Rule) (p : Program) (st : State) (l : ℕ) where
@@ -138,11 +138,11 @@ module _ (s : List ℕ) (a : verdict_of s ≡ Accepted) (st : State) (i : Reache
         firsts_each x.stamp j hj (forks_of (level_at st j)) refl
         (not-true (first_holds (forks_of (level_at st j)) x.stamp) (implies_then (p.dom l j) _ (all_each p.levels _ e j hj) d)))
         ∙ sym e
-    | fails e ↦ refuted (question14 p st l) (λ t. not_both _ (all-every p.levels _ λ j hj. implies_when (p.dom l j) _ λ d. ap not (first-free x.stamp j (level_at st j) (free_each p st l x xs q t j hj d))) e) ∙ sym e
+    | fails e ↦ refuted (question14 p st l) (λ t. not_both _ (all-every p.levels _ λ j hj. implies_when (p.dom l j) _ λ d. ap not (first_free_lem x.stamp j (level_at st j) (free_each p st l x xs q t j hj d))) e) ∙ sym e
   ]
     where
-      first-free : (stamp j : ℕ) (v : Level) → Each (λ e. stamp < up_to e) (entries_of j v) → first_holds (forks_of v) stamp ≡ false
-      first-free stamp j v f = by (forks_of v) (entries_forks (Before stamp) j v f)
+      first_free_lem : (stamp j : ℕ) (v : Level) → Each (λ e. stamp < up_to e) (entries_of j v) → first_holds (forks_of v) stamp ≡ false
+      first_free_lem stamp j v f = by (forks_of v) (entries_forks (Before stamp) j v f)
         where
           by : (ys : List Fork) → Each (λ y. stamp < y.stamp + span y.depth) ys → first_holds ys stamp ≡ false
           by [] g = refl
@@ -191,7 +191,7 @@ module _ (s : List ℕ) (a : verdict_of s ≡ Accepted) where
   unfolding Leads program_of
   leads_preserves st [] t i b = rw (sym b) i
   leads_preserves st (l ∷ ls) t i b =
-      leads_preserves (step_at (program_of s) l st) ls t (live-step s a st i l (allowed question14 (program_of s) st l b.0).0 b.0) b.1
+      leads_preserves (step_at (program_of s) l st) ls t (live_step s a st i l (allowed question14 (program_of s) st l b.0).0 b.0) b.1
 
   pub leads_live : (ls : List ℕ) (t : State) → Leads (program_of s) (read_in (program_of s) (root_of s)) ls t → ReachedState s t
   leads_live ls t b = leads_preserves (read_in (program_of s) (root_of s)) ls t (live_start s a) b

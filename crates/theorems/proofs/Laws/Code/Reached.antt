@@ -35,7 +35,7 @@ use Rattle.model.specs.Level.{Version, Activity, idle, busy, Level, started_coun
 use Rattle.model.specs.Step.{State, level_at, read_at, Arrival, none, at, arrival_of, begun, advanced, moved, move_at, step_at}
 use Rattle.model.specs.Schedule.{read_in, step_refusal}
 use Rattle.lists.specs.Each.{Each}
-use Rattle.lists.proofs.Laws.Each.{each_map, each_take, each-inserted}
+use Rattle.lists.proofs.Laws.Each.{each_map, each_take, each_inserted}
 use Rattle.theorems.proofs.Laws.Invariant.Preserved.{grown_level}
 use Rattle.theorems.proofs.Laws.Invariant.Measure.{Bounded}
 use Rattle.theorems.proofs.Laws.Invariant.Became.{Became, own, got, stayed, became}
@@ -108,14 +108,14 @@ after_held s l v ws vs x m e g t f k = elim (truth (is_running m.ending)) [
   | holds q ↦ rw q (record { waiting = e; activity = (g, (t, q)); ended = k })
   | fails q ↦
       let kept : Kept (history_of x m) = record { stamp = f; writes = g.wrote; first = omega (arith, g.stamped); steps = g.made } in
-      rw q (record { waiting = e; activity = tt; ended = each-inserted (λ h. h.stamp) Kept (history_of x m) kept v.ended k })
+      rw q (record { waiting = e; activity = tt; ended = each_inserted (λ h. h.stamp) Kept (history_of x m) kept v.ended k })
 ]
 
 arrived_held : (s : List ℕ) (l : ℕ) (x : Fork) (v : Level) → Sendable s x → LevelReached s l v → LevelReached s l (arrived x v)
 unfolding arrived
 arrived_held s l x v g h =
     record {
-      waiting = each_take (Sendable s) (max_managers - started_count v) (inserted (λ y. y.stamp) x v.waiting) (each-inserted (λ y. y.stamp) (Sendable s) x g v.waiting h.waiting);
+      waiting = each_take (Sendable s) (max_managers - started_count v) (inserted (λ y. y.stamp) x v.waiting) (each_inserted (λ y. y.stamp) (Sendable s) x g v.waiting h.waiting);
       activity = h.activity;
       ended = h.ended;
     }
@@ -183,8 +183,8 @@ module _ (s : List ℕ) (a : verdict_of s ≡ Accepted) where
         entries_forks (λ stamp depth. stamp < 2 ^ 32) l (level_at st l)
         (each_map Fits32 (λ e. e.stamp < 2 ^ 32) (λ e f. omega (arith, f, span_positive e.depth)) (entries_in st l) (i.reachable.fits l (present s l h)))
 
-    step-held : (l : ℕ) → l < level_count s → (k : ℕ) → k < level_count s → LevelReached s k (level_at (step_at (program_of s) l st) k)
-    step-held l h k hk =
+    step_held : (l : ℕ) → l < level_count s → (k : ℕ) → k < level_count s → LevelReached s k (level_at (step_at (program_of s) l st) k)
+    step_held l h k hk =
         by (level_at (step_at (program_of s) l st) k) (became (program_of s) (sound s a) st i.reachable.steady.fork_invariant l (present s l h) k)
       where
         made : move_at (program_of s) l st ≡ moved (program_of s) st l (level_at st l) (level_at st l).activity
@@ -201,11 +201,11 @@ module _ (s : List ℕ) (a : verdict_of s ≡ Accepted) where
         by v (stayed n q) = rw q (held k hk)
 
     -- and the state after an allowed step
-    pub live-step : (l : ℕ) → l < level_count s → step_refusal (program_of s) st l ≡ 0 → ReachedState s (step_at (program_of s) l st)
-    live-step l h e =
+    pub live_step : (l : ℕ) → l < level_count s → step_refusal (program_of s) st l ≡ 0 → ReachedState s (step_at (program_of s) l st)
+    live_step l h e =
         record {
           reachable = reachable_step (program_of s) (sound s a) st i.reachable l (may_step (program_of s) st l e);
-          waiting = λ k hk. (step-held l h k hk).waiting;
-          activity = λ k hk. (step-held l h k hk).activity;
-          ended = λ k hk. (step-held l h k hk).ended;
+          waiting = λ k hk. (step_held l h k hk).waiting;
+          activity = λ k hk. (step_held l h k hk).activity;
+          ended = λ k hk. (step_held l h k hk).ended;
         }

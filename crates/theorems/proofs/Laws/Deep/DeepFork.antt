@@ -200,7 +200,7 @@ module _ (p : Program) (so : Sound p) (st : State) (g : Progress) (u : ℕ) (hu 
         versions = quiescent.versions;
         is = reached ∙ ap (arrived child) quiescent.is ∙ arrived-kept child (tally_at g t) quiescent.versions room;
         past = rw child_stamp_lem quiescent.past;
-        reaches = reached-object;
+        reaches = reached_object;
         around = record {
           below = child_below;
           quiescent = λ j h d.
@@ -213,8 +213,8 @@ module _ (p : Program) (so : Sound p) (st : State) (g : Progress) (u : ℕ) (hu 
         };
       }
     where
-      reached-object : p.dom t (p.level child.message.object) ≡ true
-      reached-object = unfold child_of in object made.effect e (stepped_reaches p (field_now p g) m so (rw w.level hu))
+      reached_object : p.dom t (p.level child.message.object) ≡ true
+      reached_object = unfold child_of in object made.effect e (stepped_reaches p (field_now p g) m so (rw w.level hu))
         where
           object : (e : Effect) → e ≡ effect.Fork t message → Reaches p e → p.dom t (p.level message.object) ≡ true
           object e q f = rw q at f

@@ -25,7 +25,7 @@ use Rattle.model.specs.Level.{Version, after}
 use Rattle.model.specs.Step.{State, level_at, step_at}
 use Rattle.model.specs.DepthFirst.{Tally, Progress, new_tally, tally_at, field_now, close, effected, finish, run_fork}
 use Rattle.lists.proofs.Laws.Changed.{modify-length, modify_at, modify_other}
-use Rattle.lists.proofs.Laws.Each.{each_map, each-inserted}
+use Rattle.lists.proofs.Laws.Each.{each_map, each_inserted}
 use Rattle.theorems.proofs.Laws.Invariant.Rank.{rank, rank_falls, rank_positive}
 use Rattle.model.proofs.Laws.Stamps.{span_positive}
 use Rattle.theorems.proofs.Laws.Deep.Quiescent.{quiescent_level, LevelQuiescent, quiescent_raised, last_inserted}
@@ -86,7 +86,7 @@ module _ (p : Program) (so : Sound p) (u : ℕ) (hu : u < p.levels) (c : Fork) w
             versions = w.versions;
             is = w.is ∙ ended_is (tally_at g u) w.versions c m e;
             past = record {
-              early = each-inserted (λ h. h.stamp) (λ h. h.stamp < end_of c) (history_of c m) (omega (arith, span_positive c.depth)) (tally_at g u).ended
+              early = each_inserted (λ h. h.stamp) (λ h. h.stamp < end_of c) (history_of c m) (omega (arith, span_positive c.depth)) (tally_at g u).ended
                   (each_map (λ h. h.stamp < c.stamp) (λ h. h.stamp < end_of c) (λ h l. omega (arith, l)) (tally_at g u).ended w.early);
               last = ap (λ n. n + 1) (last_inserted 0 (history_of c m) (tally_at g u).ended w.early);
               written = each_map (λ v. v.stamp ≤ m.stamp) (λ v. v.stamp < m.stamp + 1) (λ v l. omega (arith, l)) w.versions w.written;

@@ -121,8 +121,8 @@ current_other i o k [] gs n = refl
 current_other i o k (w ∷ ws) gs n = rw (ne_eqb w.object o n.0) (current_other i o k ws gs n.1)
 
 module _ (p : Program) (so : Sound p) (st : State) (g : Progress) (u : ℕ) (hu : u < p.levels) (c : Fork) (m : Manager) (k : ℕ) (w : Working p st g u c m (suc k)) (r : is_running m.ending ≡ true) where
-  abbrev pub after-it : Stepped
-  after-it = stepped p (field_now p g) m
+  abbrev pub after_it : Stepped
+  after_it = stepped p (field_now p g) m
 
   abbrev here : ForkInvariant p st
   here = w.around.steady.fork_invariant
@@ -138,13 +138,13 @@ module _ (p : Program) (so : Sound p) (st : State) (g : Progress) (u : ℕ) (hu 
   versions_before =
       ap (λ v. v.versions) w.is ∙ after_versions (quiescent_level (tally_at g u) w.versions) [] w.versions c m
 
-  pub versions_next : (level_at (step_at p u st) u).versions ≡ versions_after m after-it.effect w.versions
+  pub versions_next : (level_at (step_at p u st) u).versions ≡ versions_after m after_it.effect w.versions
   versions_next =
       ap (λ v. v.versions) (own_next p so st g u hu c m k w r)
-      ∙ after_versions (quiescent_level (tally_at g u) w.versions) [] (versions_after m after-it.effect w.versions) c after-it.manager
+      ∙ after_versions (quiescent_level (tally_at g u) w.versions) [] (versions_after m after_it.effect w.versions) c after_it.manager
 
   -- a step without a fork leaves the other levels
-  internal_advances : (move_at p u st).arrival ≡ none → (g' : Progress) → g'.levels ≡ g.levels → FieldsAgree p (step_at p u st) g' → after-it.manager.forks ≡ m.forks → Advances p st g g' u c after-it.manager k
+  internal_advances : (move_at p u st).arrival ≡ none → (g' : Progress) → g'.levels ≡ g.levels → FieldsAgree p (step_at p u st) g' → after_it.manager.forks ≡ m.forks → Advances p st g g' u c after_it.manager k
   internal_advances q g' t f e =
       record {
         to = step_at p u st;
@@ -162,14 +162,14 @@ module _ (p : Program) (so : Sound p) (st : State) (g : Progress) (u : ℕ) (hu 
       other : (j : ℕ) → (j ≡ u → ⊥) → level_at (step_at p u st) j ≡ level_at st j
       other j n = level_internal p so st here u hu q j n
 
-  fits : Fits p m after-it.effect
+  fits : Fits p m after_it.effect
   fits = stepped_fits p (field_now p g) m so (rw w.level hu)
 
-  answered_it : counts after-it.manager ≡ one_more (grown (counts m) after-it.effect)
+  answered_it : counts after_it.manager ≡ one_more (grown (counts m) after_it.effect)
   answered_it = stepped_counts p (field_now p g) m
 
   -- a step that does nothing outside
-  pub nothing_advances : after-it.effect ≡ effect.Nothing → Advances p st g g u c after-it.manager k
+  pub nothing_advances : after_it.effect ≡ effect.Nothing → Advances p st g g u c after_it.manager k
   nothing_advances e =
       internal_advances (sends_next p so st g u hu c m k w r ∙ ap (arrival_of u c m) e) g refl
       (fields-kept p st (step_at p u st) g versions w.around.fields)
@@ -182,13 +182,13 @@ module _ (p : Program) (so : Sound p) (st : State) (g : Progress) (u : ℕ) (hu 
       ]
 
   -- a write
-  pub write_advances : (ws : List Written) → after-it.effect ≡ effect.Write ws → Advances p st g (wrote ws g) u c after-it.manager k
+  pub write_advances : (ws : List Written) → after_it.effect ≡ effect.Write ws → Advances p st g (wrote ws g) u c after_it.manager k
   write_advances ws e =
       internal_advances (sends_next p so st g u hu c m k w r ∙ ap (arrival_of u c m) e) (wrote ws g) refl fields
       (ap (λ c. c.forks) answered_it ∙ ap (λ e. (one_more (grown (counts m) e)).forks) e)
     where
       places : Each (λ w. p.level w.object ≡ m.level) ws
-      places = each_seen _ ws (fitted after-it.effect e fits).0
+      places = each_seen _ ws (fitted after_it.effect e fits).0
         where
           fitted : (e : Effect) → e ≡ effect.Write ws → Fits p m e → Fits p m (effect.Write ws)
           fitted e q t = rw q at t

@@ -41,11 +41,11 @@ module _ (p : Program) (so : Sound p) where
   seen_itself : (l : ℕ) (st : State) → length st ≡ p.levels → level_at (view_of p l st) l ≡ level_at st l
   seen_itself l st n = elim (dec_lt l p.levels) [
     | yes h ↦ seen_level p l l st h (so.lattice.order.itself l h)
-    | no h ↦ absent_new l (view_of p l st) (omega (arith, h, view-length)) ∙ sym (absent_new l st (omega (arith, h, n)))
+    | no h ↦ absent_new l (view_of p l st) (omega (arith, h, view_length)) ∙ sym (absent_new l st (omega (arith, h, n)))
   ]
     where
-      view-length : length (view_of p l st) ≡ p.levels
-      view-length = unfold view_of in length-tab p.levels _
+      view_length : length (view_of p l st) ≡ p.levels
+      view_length = unfold view_of in length-tab p.levels _
 
   -- the step of a level with no manager changes nothing
   step_none : (l : ℕ) (st : State) → length st ≡ p.levels → has_manager (level_at st l) ≡ false → step_at p l st ≡ st
@@ -65,9 +65,9 @@ module _ (p : Program) (so : Sound p) where
       | fails m ↦ rw (step_none l st i.fork_invariant.size m) (i, q)
     ]
 
-    pub any-steps : (ls : List ℕ) (st : State) → StateInvariant p st → P st → StateInvariant p (stepped_at p ls st) × P (stepped_at p ls st)
+    pub any_steps : (ls : List ℕ) (st : State) → StateInvariant p st → P st → StateInvariant p (stepped_at p ls st) × P (stepped_at p ls st)
     unfolding stepped_at
-    any-steps [] st i q = (i, q)
-    any-steps (l ∷ ls) st i q =
+    any_steps [] st i q = (i, q)
+    any_steps (l ∷ ls) st i q =
         let next = any_step l st i q in
-        any-steps ls (step_at p l st) next.0 next.1
+        any_steps ls (step_at p l st) next.0 next.1

@@ -26,7 +26,7 @@ use Rattle.model.specs.Fork.{Fork, child_of}
 use Rattle.model.specs.Level.{Version, version_of, Activity, idle, busy, Level, started_count, arrived, after, is_of, newest, newest_to}
 use Rattle.model.specs.Step.{State, level_at, view_of, read_at, Arrival, none, at, versions_after, arrival_of, begun, advanced, moved, move_at, step_at}
 use Rattle.lists.specs.Each.{Each}
-use Rattle.lists.proofs.Laws.Each.{each_append, each_made, each_take, each-inserted}
+use Rattle.lists.proofs.Laws.Each.{each_append, each_made, each_take, each_inserted}
 use Rattle.theorems.proofs.Laws.Seen.{each_seen}
 use Rattle.theorems.proofs.Laws.Steps.Reads.{read_own, read_below, reads_direct}
 use Rattle.theorems.proofs.Laws.Steps.Moves.{AtLevel, move_is}
@@ -170,7 +170,7 @@ arrived_contained : (p : Program) (l : ℕ) (x : Fork) (v : Level) → Reached p
 unfolding arrived
 arrived_contained p l x v r c =
     record {
-      waiting = each_take (Reached p l) (max_managers - started_count v) (inserted (λ y. y.stamp) x v.waiting) (each-inserted (λ y. y.stamp) (Reached p l) x r v.waiting c.waiting);
+      waiting = each_take (Reached p l) (max_managers - started_count v) (inserted (λ y. y.stamp) x v.waiting) (each_inserted (λ y. y.stamp) (Reached p l) x r v.waiting c.waiting);
       activity = c.activity;
       versions = c.versions;
     }

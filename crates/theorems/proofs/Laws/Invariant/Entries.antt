@@ -12,7 +12,7 @@ use Rattle.lists.specs.Changed.{inserted}
 use Rattle.model.specs.Fork.{Fork, child_stamp, child_of, span}
 use Rattle.model.specs.Level.{Activity, idle, busy, Level, started_count, arrived}
 use Rattle.lists.specs.Each.{Each, Pairwise}
-use Rattle.lists.proofs.Laws.Each.{each_take, each-inserted, pairwise_take, pairwise-inserted, inserted-map, take-map}
+use Rattle.lists.proofs.Laws.Each.{each_take, each_inserted, pairwise_take, pairwise_inserted, inserted-map, take-map}
 use Rattle.model.proofs.Laws.Stamps.{child_at, child_next}
 use Rattle.theorems.proofs.Laws.Invariant.Tree.{Entry, forked_from, child_in}
 use Rattle.theorems.proofs.Laws.Invariant.Forest.{Joins}
@@ -51,8 +51,8 @@ child_entry l u x m message =
 joins_taken : (r : ℕ) (c : Entry) (xs : List Entry) → Joins c xs (take r (inserted (λ e. e.stamp) c xs))
 joins_taken r c xs =
     record {
-      each = λ P p e. each_take P r (inserted (λ e. e.stamp) c xs) (each-inserted (λ e. e.stamp) P c p xs e);
-      pairs = λ R s e w. pairwise_take R r (inserted (λ e. e.stamp) c xs) (pairwise-inserted (λ e. e.stamp) R s c xs e w);
+      each = λ P p e. each_take P r (inserted (λ e. e.stamp) c xs) (each_inserted (λ e. e.stamp) P c p xs e);
+      pairs = λ R s e w. pairwise_take R r (inserted (λ e. e.stamp) c xs) (pairwise_inserted (λ e. e.stamp) R s c xs e w);
     }
 
 joins_after : (h c : Entry) (xs ys : List Entry) → Joins c xs ys → Joins c (h ∷ xs) (h ∷ ys)

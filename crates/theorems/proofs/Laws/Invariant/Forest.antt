@@ -48,10 +48,10 @@ forest_rest n dom F G f r =
     }
 
 -- the first manager a of level l forks at level u
-module _ (n : ℕ) (dom : Dominance) (po : PartialOrder n dom) (F G : ℕ → List Entry) (f : Forest n dom F) (l u : ℕ) (hl : l < n) (hu : u < n) (lu : l ≡ u → ⊥) (a : Entry) (W : List Entry) (at-l : F l ≡ a ∷ W) (s : strictly dom u l ≡ true) (fertile : Fertile a) (w : ℕ) (positive : 0 < w) (to-l : G l ≡ forked_from a ∷ W) (to-u : Joins (child_in u w a) (F u) (G u)) (others : (k : ℕ) → (k ≡ l → ⊥) → (k ≡ u → ⊥) → G k ≡ F k) where
+module _ (n : ℕ) (dom : Dominance) (po : PartialOrder n dom) (F G : ℕ → List Entry) (f : Forest n dom F) (l u : ℕ) (hl : l < n) (hu : u < n) (lu : l ≡ u → ⊥) (a : Entry) (W : List Entry) (at_l : F l ≡ a ∷ W) (s : strictly dom u l ≡ true) (fertile : Fertile a) (w : ℕ) (positive : 0 < w) (to-l : G l ≡ forked_from a ∷ W) (to-u : Joins (child_in u w a) (F u) (G u)) (others : (k : ℕ) → (k ≡ l → ⊥) → (k ≡ u → ⊥) → G k ≡ F k) where
   a_home : a.level ≡ l
   unfolding Each
-  a_home = (rw at-l at (f.home l hl)).0
+  a_home = (rw at_l at (f.home l hl)).0
 
   -- what a is related to, its child is related to
   child_each : (k : ℕ) → k < n → (xs : List Entry) → Each (λ b. b.level ≡ k) xs → Each (Related dom a) xs → Each (Related dom (child_in u w a)) xs
@@ -61,23 +61,23 @@ module _ (n : ℕ) (dom : Dominance) (po : PartialOrder n dom) (F G : ℕ → Li
 
   a_across : (k : ℕ) → k < n → (l ≡ k → ⊥) → Each (Related dom a) (F k)
   unfolding Each
-  a_across k hk d = (rw at-l at (f.across l k hl hk d)).0
+  a_across k hk d = (rw at_l at (f.across l k hl hk d)).0
 
   w_across : (k : ℕ) → k < n → (l ≡ k → ⊥) → Each (λ w. Each (Related dom w) (F k)) W
   unfolding Each
-  w_across k hk d = (rw at-l at (f.across l k hl hk d)).1
+  w_across k hk d = (rw at_l at (f.across l k hl hk d)).1
 
   a_same : Each (Related dom a) W
   unfolding Pairwise
-  a_same = (rw at-l at (f.same l hl)).0
+  a_same = (rw at_l at (f.same l hl)).0
 
   w_same : Pairwise (Related dom) W
   unfolding Pairwise
-  w_same = (rw at-l at (f.same l hl)).1
+  w_same = (rw at_l at (f.same l hl)).1
 
   w_home : Each (λ b. b.level ≡ l) W
   unfolding Each
-  w_home = (rw at-l at (f.home l hl)).1
+  w_home = (rw at_l at (f.home l hl)).1
 
   -- a level by its place in the fork
   home_l : Each (λ b. b.level ≡ l) (G l)

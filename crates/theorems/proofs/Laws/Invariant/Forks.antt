@@ -107,24 +107,24 @@ grown_fork p F G so g l u hl hu lu a W e s f w z tl tu o =
       wide = λ k hk. long k hk (ℕ_discrete k l) (ℕ_discrete k u);
     }
   where
-    at-l : Each (λ a. a.depth + rank p.levels p.dom l ≤ stamp_digits + 1) (a ∷ W)
-    at-l = rw e at (g.shallow l hl)
+    at_l : Each (λ a. a.depth + rank p.levels p.dom l ≤ stamp_digits + 1) (a ∷ W)
+    at_l = rw e at (g.shallow l hl)
 
     child : a.depth + 1 + rank p.levels p.dom u ≤ stamp_digits + 1
-    child = unfold Each in omega (arith, at-l.0, rank_falls p.levels p.dom so.lattice.order u l hu hl s)
+    child = unfold Each in omega (arith, at_l.0, rank_falls p.levels p.dom so.lattice.order u l hu hl s)
 
     deep : (k : ℕ) → k < p.levels → Dec (k ≡ l) → Dec (k ≡ u) → Each (λ a. a.depth + rank p.levels p.dom k ≤ stamp_digits + 1) (G k)
-    deep k hk (yes q) d = rw (q, tl) (unfold Each in (at-l.0, at-l.1))
+    deep k hk (yes q) d = rw (q, tl) (unfold Each in (at_l.0, at_l.1))
     deep k hk (no n) (yes q) = rw q (tu.each (λ a. a.depth + rank p.levels p.dom u ≤ stamp_digits + 1) child (g.shallow u hu))
     deep k hk (no n) (no q) = rw (o k n q) (g.shallow k hk)
 
-    wide-l : Each (λ a. length a.carried ≡ p.levels) (a ∷ W)
-    wide-l = rw e at (g.wide l hl)
+    wide_l : Each (λ a. length a.carried ≡ p.levels) (a ∷ W)
+    wide_l = rw e at (g.wide l hl)
 
     long : (k : ℕ) → k < p.levels → Dec (k ≡ l) → Dec (k ≡ u) → Each (λ a. length a.carried ≡ p.levels) (G k)
-    long k hk (yes q) d = rw (q, tl) (unfold Each in (wide-l.0, wide-l.1))
+    long k hk (yes q) d = rw (q, tl) (unfold Each in (wide_l.0, wide_l.1))
     long k hk (no n) (yes q) =
-        rw q (tu.each (λ a. length a.carried ≡ p.levels) (length-set a.carried a.level w ∙ unfold Each in wide-l.0) (g.wide u hu))
+        rw q (tu.each (λ a. length a.carried ≡ p.levels) (length-set a.carried a.level w ∙ unfold Each in wide_l.0) (g.wide u hu))
     long k hk (no n) (no q) = rw (o k n q) (g.wide k hk)
 
 -- the invariant of a state: with them, a write stamp that is not 0

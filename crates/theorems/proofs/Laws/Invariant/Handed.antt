@@ -196,11 +196,11 @@ module _ (p : Program) (so : Sound p) (few : p.objects ≤ max_objects) (st : St
 pub step_handed : (p : Program) → Sound p → p.objects ≤ max_objects → (st : State) → ForkInvariant p st → AllContained p st → ((l : ℕ) → l < p.levels → Handed p l (level_at st l).versions) → (l : ℕ) → l < p.levels → (k : ℕ) → k < p.levels → Handed p k (level_at (step_at p l st) k).versions
 step_handed p so few st o c i l h k hk = by (level_at (step_at p l st) k) (became p so st o l h k)
   where
-    own-handed : Handed p l (move_at p l st).own.versions
-    own-handed =
+    own_handed : Handed p l (move_at p l st).own.versions
+    own_handed =
         rw (ap (λ m. m.own.versions) (move_direct p so st o c l h)) (moved_handed p so few st l h (i l h) (level_at st l).activity (o.placed l h))
 
     by : (v : Level) → Became p l st k v → Handed p k v.versions
-    by v (own e q) = rw (ap (λ v. v.versions) q, e) own-handed
+    by v (own e q) = rw (ap (λ v. v.versions) q, e) own_handed
     by v (got x e s q) = rw (ap (λ v. v.versions) q) (unfold arrived in i k hk)
     by v (stayed n q) = rw (ap (λ v. v.versions) q) (i k hk)

@@ -133,7 +133,7 @@ module _ (p : Program) (so : Sound p) (l : ℕ) (h : l < p.levels) (st : State) 
         size = delivered-length (at u c) _ ∙ modify-length l (λ _. done.own) st ∙ o.size;
         placed = λ k hk. placed k hk (ℕ_discrete l k) (ℕ_discrete u k);
         grown = grown_rest p between _
-            (grown_fork p (entries_in st) between so o.grown l u h hu lu a W e s f w z between-l (rw between-u joins) (λ k n g. between-other k n ∙ others k n g))
+            (grown_fork p (entries_in st) between so o.grown l u h hu lu a W e s f w z between_l (rw between_u joins) (λ k n g. between_other k n ∙ others k n g))
             (λ k. rest k (ℕ_discrete k l));
         positive = λ k hk. positive k hk (ℕ_discrete l k) (ℕ_discrete u k);
       }
@@ -154,14 +154,14 @@ module _ (p : Program) (so : Sound p) (l : ℕ) (h : l < p.levels) (st : State) 
       target : level_at next u ≡ arrived c (level_at st u)
       target = level_target u c l done.own st lu (rw o.size hu)
 
-      between-l : between l ≡ forked_from a ∷ W
-      between-l = rw (eq-eqb l l refl) refl
+      between_l : between l ≡ forked_from a ∷ W
+      between_l = rw (eq-eqb l l refl) refl
 
-      between-other : (k : ℕ) → (k ≡ l → ⊥) → between k ≡ entries_in next k
-      between-other k n = rw (ne_eqb k l n) refl
+      between_other : (k : ℕ) → (k ≡ l → ⊥) → between k ≡ entries_in next k
+      between_other k n = rw (ne_eqb k l n) refl
 
-      between-u : between u ≡ entries_in next u
-      between-u = between-other u (λ t. lu (sym t))
+      between_u : between u ≡ entries_in next u
+      between_u = between_other u (λ t. lu (sym t))
 
       joins : Joins (child_in u w a) (entries_in st u) (entries_in next u)
       joins = rw (ap (entries_of u) target, sym q) (arrived_joins u c (level_at st u))
@@ -170,8 +170,8 @@ module _ (p : Program) (so : Sound p) (l : ℕ) (h : l < p.levels) (st : State) 
       others k n g = ap (entries_of k) (level_other (at u c) l k done.own st (λ t. n (sym t)) (λ t. g (sym t)))
 
       rest : (k : ℕ) → Dec (k ≡ l) → Rest (between k) (entries_in next k)
-      rest k (yes t) = rw (t, between-l, ap (entries_of l) own) r
-      rest k (no n) = whole (sym (between-other k n))
+      rest k (yes t) = rw (t, between_l, ap (entries_of l) own) r
+      rest k (no n) = whole (sym (between_other k n))
 
       placed : (k : ℕ) → k < p.levels → Dec (l ≡ k) → Dec (u ≡ k) → AtLevel k (level_at next k).activity
       placed k hk (yes t) d = rw (sym t) (rw (ap (λ v. v.activity) own) own_at)

@@ -15,7 +15,7 @@ use Rattle.model.specs.History.{History}
 use Rattle.model.specs.Level.{Activity, idle, busy, Level, has_manager, started_count, arrived, forks_by, forks_of}
 use Rattle.model.specs.Step.{State, level_at, Arrival, at, move_at, step_at}
 use Rattle.lists.specs.Each.{Each}
-use Rattle.lists.proofs.Laws.Each.{each_map, each_take, each-inserted}
+use Rattle.lists.proofs.Laws.Each.{each_map, each_take, each_inserted}
 use Rattle.theorems.proofs.Laws.Invariant.Forest.{rest_each}
 use Rattle.theorems.proofs.Laws.Invariant.Forks.{ForkInvariant}
 use Rattle.theorems.proofs.Laws.Invariant.Preserved.{other_level, step_preserves}
@@ -36,7 +36,7 @@ arrived_forks P x v q e = by v.activity e
     waits : Each P v.waiting → Each P (arrived x v).waiting
     waits f =
         unfold arrived in
-        each_take P (max_managers - started_count v) (inserted (λ y. y.stamp) x v.waiting) (each-inserted (λ y. y.stamp) P x q v.waiting f)
+        each_take P (max_managers - started_count v) (inserted (λ y. y.stamp) x v.waiting) (each_inserted (λ y. y.stamp) P x q v.waiting f)
 
     by : (a : Activity) → Each P (forks_by a v.waiting) → Each P (forks_by a (arrived x v).waiting)
     by idle f = waits f
@@ -74,7 +74,7 @@ module _ (p : Program) (so : Sound p) (st : State) (o : ForkInvariant p st) (l :
       closing : (w : Level) → write_stamp (level_at st l) ≤ write_stamp w → Closes (level_at st l) w → Each (λ h. h.last < write_stamp w) w.ended
       closing w g (kept q) = rw q (rises (write_stamp (level_at st l)) (write_stamp w) g (level_at st l).ended (i.ended l hl))
       closing w g (closed x xs h f t b q) =
-          rw q (each-inserted (λ h. h.stamp) (λ h. h.last < write_stamp w) h b (level_at st l).ended (rises (write_stamp (level_at st l)) (write_stamp w) g (level_at st l).ended (i.ended l hl)))
+          rw q (each_inserted (λ h. h.stamp) (λ h. h.last < write_stamp w) h b (level_at st l).ended (rises (write_stamp (level_at st l)) (write_stamp w) g (level_at st l).ended (i.ended l hl)))
 
       by : (v : Level) → Became p l st k v → write_stamp (level_at st k) ≤ write_stamp v → Each (λ h. h.last < write_stamp v) v.ended
       by v (own e q) g = rw q (closing (move_at p l st).own (step_marks p so st o l hl).grows (step_marks p so st o l hl).closes)
@@ -94,8 +94,8 @@ module _ (p : Program) (so : Sound p) (st : State) (o : ForkInvariant p st) (l :
       first : (P : Fork → Type 0) (x : Fork) (xs ys : List Fork) → ys ≡ x ∷ xs → Each P ys → P x
       first P x xs ys q e = unfold Each in (rw q at e).0
 
-      own-stamp : j ≡ l → write_stamp (move_at p l st).own ≡ bound
-      own-stamp e = is (became p so st o l hl j)
+      own_stamp : j ≡ l → write_stamp (move_at p l st).own ≡ bound
+      own_stamp e = is (became p so st o l hl j)
         where
           is : Became p l st j (level_at (step_at p l st) j) → write_stamp (move_at p l st).own ≡ bound
           is (own g q) = sym (ap write_stamp q)
@@ -105,7 +105,7 @@ module _ (p : Program) (so : Sound p) (st : State) (o : ForkInvariant p st) (l :
       child : (c : Fork) → Child l (level_at st l) (move_at p l st).own c → get_or c.carried j 0 < bound
       child c d =
           let parent = first (λ x. get_or x.carried j 0 < bound) d.sender d.others (forks_of (level_at st l)) d.first (rises (forks_of (level_at st l)) (i.carried l j hl hj)) in
-          rw d.carried (set_below bound l d.past j d.sender.carried parent (λ e. rw (sym (own-stamp e)) d.below))
+          rw d.carried (set_below bound l d.past j d.sender.carried parent (λ e. rw (sym (own_stamp e)) d.below))
 
       sent : (b : Arrival) (c : Fork) → b ≡ at k c → Sends l (level_at st l) (move_at p l st).own b → Child l (level_at st l) (move_at p l st).own c
       sent b c q s = rw q at s

@@ -57,10 +57,10 @@ module _ (p : Program) (po : PartialOrder p.levels p.dom) (st : State) where
   -- from a level with a manager down to one that the conservative rule lets step, in at most c stages
   pub some_below : (c l : ℕ) → count p.levels (p.dom l) ≤ c → l < p.levels → has_manager (level_at st l) ≡ true → (k : ℕ) × (refusal_under conservative p st k ≡ 0)
   unfolding refusal_under conservative
-  some_below zero l b h m = absurd (omega (arith, b, below-some l h))
+  some_below zero l b h m = absurd (omega (arith, b, below_some l h))
     where
-      below-some : (l : ℕ) → l < p.levels → 0 < count p.levels (p.dom l)
-      below-some l h =
+      below_some : (l : ℕ) → l < p.levels → 0 < count p.levels (p.dom l)
+      below_some l h =
           omega (arith, count_lt p.levels (λ k. false) (p.dom l) (λ k g e. absurd (not_both false e refl)) l h refl (po.itself l h))
   some_below (suc c) l b h m = elim (truth (conservative p st l)) [
     | holds q ↦ (l, rw (lt-ltb l p.levels h, m, q) refl)

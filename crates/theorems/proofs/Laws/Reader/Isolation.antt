@@ -117,9 +117,9 @@ module _ (p : Program) (so : Sound p) (c : ℕ) (hc : c < p.levels) where
   -- a step at a level l that c dominates
   module _ (l : ℕ) (hl : l < p.levels) (d : p.dom c l ≡ true) where
     -- what l sees lies at levels that c dominates
-    view-same : (st st' : State) → SameUnder p c st st' → view_of p l st ≡ view_of p l st'
+    view_same : (st st' : State) → SameUnder p c st st' → view_of p l st ≡ view_of p l st'
     unfolding view_of
-    view-same st st' same = tab_ext p.levels _ _ λ j hj. elim (truth (p.dom l j)) [
+    view_same st st' same = tab_ext p.levels _ _ λ j hj. elim (truth (p.dom l j)) [
       | holds e ↦ rw e (same j hj (so.lattice.order.through c l j hc hl hj d e))
       | fails e ↦ rw e refl
     ]
@@ -131,26 +131,26 @@ module _ (p : Program) (so : Sound p) (c : ℕ) (hc : c < p.levels) where
         let view = view_of p l st in
         ap (λ q. moved q view l (level_at view l) (level_at view l).activity) (seen_twice p c l so hc hl d)
 
-    pub move-echoes : (st st' : State) → SameUnder p c st st' → move_at (seen_by c p) l st' ≡ move_at p l st
-    move-echoes st st' same = move_seen st' ∙ sym (local p l st st' (view-same st st' same))
+    pub move_echoes : (st st' : State) → SameUnder p c st st' → move_at (seen_by c p) l st' ≡ move_at p l st
+    move_echoes st st' same = move_seen st' ∙ sym (local p l st st' (view_same st st' same))
 
     -- it is allowed too
-    pub may-echo : (st st' : State) → SameUnder p c st st' → MayStep p st l → MayStep (seen_by c p) st' l
+    pub may_echo : (st st' : State) → SameUnder p c st st' → MayStep p st l → MayStep (seen_by c p) st' l
     unfolding seen_by
-    may-echo st st' same m =
-        let may = may_local p so.lattice.order l st st' (view-same st st' same) m in
+    may_echo st st' same m =
+        let may = may_local p so.lattice.order l st st' (view_same st st' same) m in
         record { present = may.present; fork = may.fork; others = may.others; first = may.first; free = may.free }
 
     pub echoes : (st st' : State) → SameUnder p c st st' → MayStep p st l → Echoes p (seen_by c p) l st st'
     echoes st st' same m =
-        record { allowed = step_may (seen_by c p) st' l (may-echo st st' same m); move = move-echoes st st' same }
+        record { allowed = step_may (seen_by c p) st' l (may_echo st st' same m); move = move_echoes st st' same }
 
     -- and leaves the same at the levels that c dominates
-    pub echoed-step : (st st' : State) → length st ≡ p.levels → length st' ≡ p.levels → SameUnder p c st st' → SameUnder p c (step_at p l st) (step_at (seen_by c p) l st')
+    pub echoed_step : (st st' : State) → length st ≡ p.levels → length st' ≡ p.levels → SameUnder p c st st' → SameUnder p c (step_at p l st) (step_at (seen_by c p) l st')
     unfolding step_at
-    echoed-step st st' n n' same j hj e =
+    echoed_step st st' n n' same j hj e =
         applied_same l (move_at p l st) j st st' (rw n hj) (rw n' hj) (same j hj e)
-        ∙ ap (λ done. level_at (applied l done st') j) (sym (move-echoes st st' same))
+        ∙ ap (λ done. level_at (applied l done st') j) (sym (move_echoes st st' same))
 
   -- a finishing list and beside it what is left of it
   pub isolated : (ls : List ℕ) (st st' t : State) → ForkInvariant p st → length st' ≡ p.levels → SameUnder p c st st' → Finishes p ls st t → Isolated p (seen_by c p) c ls st st'
@@ -165,7 +165,7 @@ module _ (p : Program) (so : Sound p) (c : ℕ) (hc : c < p.levels) where
         (
           λ d. (
             echoes l hl d st st' same m,
-            isolated ls (step_at p l st) (step_at (seen_by c p) l st') t o' (step_length (seen_by c p) l st' ∙ n) (echoed-step l hl d st st' o.size n same) rest,
+            isolated ls (step_at p l st) (step_at (seen_by c p) l st') t o' (step_length (seen_by c p) l st' ∙ n) (echoed_step l hl d st st' o.size n same) rest,
           ),
           λ e. isolated ls (step_at p l st) st' t o' n (λ j hj d. unseen_step l st o hl e j hj d ∙ same j hj d) rest,
         ),

@@ -81,17 +81,17 @@ module _ (p : Program) (l : ℕ) (c : Fork) (v : Level) (x : Fork) (xs : List Fo
       ys : List Fork
       ys = take (max_managers - (length v.ended + 1)) (inserted (λ y. y.stamp) c xs)
 
-      idle-count : length v.ended + cond (is_busy v.activity) 1 0 ≡ length v.ended + 0
-      idle-count = ap (λ a. length v.ended + cond (is_busy a) 1 0) q
+      idle_count : length v.ended + cond (is_busy v.activity) 1 0 ≡ length v.ended + 0
+      idle_count = ap (λ a. length v.ended + cond (is_busy a) 1 0) q
 
       front : (arrived c v).waiting ≡ x ∷ ys
       front =
           let some : length v.waiting ≡ suc (length xs) = ap length e in
           let less : room - 1 ≡ max_managers - (length v.ended + 1) = omega arith in
           let now : (arrived c v).waiting ≡ take room (inserted (λ y. y.stamp) c (x ∷ xs)) =
-          unfold arrived in ap₂ (λ n ws. take (max_managers - n) (inserted (λ y. y.stamp) c ws)) idle-count e in
+          unfold arrived in ap₂ (λ n ws. take (max_managers - n) (inserted (λ y. y.stamp) c ws)) idle_count e in
           now
-          ∙ taken_past room x c xs (omega (arith, t.room, some, idle-count)) h
+          ∙ taken_past room x c xs (omega (arith, t.room, some, idle_count)) h
           ∙ ap (λ n. x ∷ take n (inserted (λ y. y.stamp) c xs)) less
 
       starts : begun p st l (arrived c v) (x ∷ ys) ≡ beside c (begun p st l v (x ∷ xs))
@@ -208,9 +208,9 @@ module _ (p : Program) (so : Sound p) (st : State) (i : StateInvariant p st) (l 
   pub delayed_beside : (c : Fork) → level_at next l ≡ arrived c (level_at st l) → x.stamp < c.stamp → move_at p l next ≡ beside c (move_at p l st)
   delayed_beside c q h =
       move_next (arrived c (level_at st l)) q
-      ∙ ap (moved (seen_by l p) (view_of p l next) l (arrived c (level_at st l))) (same-activity c (level_at st l))
+      ∙ ap (moved (seen_by l p) (view_of p l next) l (arrived c (level_at st l))) (same_activity c (level_at st l))
       ∙ moved_beside (seen_by l p) l (view_of p l st) (view_of p l next) x s.others reads c (level_at st l) (i.bounded l) h (level_at st l).activity refl s.first
       ∙ sym (ap (beside c) (move_is p l st so s.present))
     where
-      same-activity : (c : Fork) (v : Level) → (arrived c v).activity ≡ v.activity
-      same-activity c v = unfold arrived in refl
+      same_activity : (c : Fork) (v : Level) → (arrived c v).activity ≡ v.activity
+      same_activity c v = unfold arrived in refl

@@ -102,14 +102,14 @@ marks_look l k x v w b m h a n =
           sym (ap (newest_to (bound_at x k v) i o f) m.versions ∙ newest_added (bound_at x k v) i o f m.fresh v.versions (each_map (λ r. r.stamp ≡ write_stamp v) (λ r. bound_at x k v < r.stamp) (λ r g. omega (arith, g, h)) m.fresh m.current));
     }
   where
-    not-smaller : get_or x.carried k 0 ≡ 0 → (s : ℕ) → (e : Entry) × ((e.stamp ≡ s) × Later x k e) → x.stamp ≤ s
-    not-smaller z s (e, (q, younger g t)) = omega (arith, q, g)
-    not-smaller z s (e, (q, ancestor g t)) = absurd (g z)
+    not_smaller : get_or x.carried k 0 ≡ 0 → (s : ℕ) → (e : Entry) × ((e.stamp ≡ s) × Later x k e) → x.stamp ≤ s
+    not_smaller z s (e, (q, younger g t)) = omega (arith, q, g)
+    not_smaller z s (e, (q, ancestor g t)) = absurd (g z)
 
     same : Truth (eqb (get_or x.carried k 0) 0) → Closes v w → bound_at x k v ≡ bound_at x k w
     same (fails q) c = rw q refl
     same (holds q) (kept e) = rw q (ap (end_before x.stamp) (sym e))
     same (holds q) (closed y ys g f t u e) =
         let old : x.stamp ≤ g.stamp =
-        rw t (not-smaller (eqb-true (get_or x.carried k 0) 0 q) y.stamp (first_entry (Later x k) k v y ys f a)) in
+        rw t (not_smaller (eqb-true (get_or x.carried k 0) 0 q) y.stamp (first_entry (Later x k) k v y ys f a)) in
         rw q (sym (ap (end_before x.stamp) e ∙ end_inserted x.stamp g old v.ended))

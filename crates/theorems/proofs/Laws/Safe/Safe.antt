@@ -86,11 +86,11 @@ first_entry P j v y ys q f = by v.activity v.waiting q f
     by (busy x m) ws q f = (running_entry j x m.forks, (ap (λ z. z.stamp) (head_same x y ws ys q), unfold Each in f.0))
 
 pub at_fork : (u w : ℕ) (x y : Fork) → at u x ≡ at w y → x ≡ y
-at_fork u w x y q = ap (λ b. forkIn x b) q
+at_fork u w x y q = ap (λ b. fork_in x b) q
   where
-    forkIn : Fork → Arrival → Fork
-    forkIn d none = d
-    forkIn d (at u x) = x
+    fork_in : Fork → Arrival → Fork
+    fork_in d none = d
+    fork_in d (at u x) = x
 
 pub at_none : (b : Arrival) (u : ℕ) (x : Fork) → b ≡ at u x → b ≡ none → ⊥
 at_none b u x q e = not_both (is_none b) (ap is_none e) (ap is_none q)

@@ -58,15 +58,15 @@ unfolding move_at
 move_above p l st so h q =
     let view = view_of p l st in
     let same = seen_level p l l st h (so.lattice.order.itself l h) in
-    above-seen (moved (seen_by l p) view l (level_at view l) (level_at view l).activity).arrival
+    above_seen (moved (seen_by l p) view l (level_at view l) (level_at view l).activity).arrival
     (moved_above (seen_by l p) view l (level_at view l) (level_at view l).activity (seen_sound l p so) (here l p h) (rw same q))
   where
     here : (l : ℕ) (p : Program) → l < p.levels → l < (seen_by l p).levels
     here l p h = unfold seen_by in h
 
-    above-seen : (b : Arrival) → Above (seen_by l p) l b → Above p l b
-    above-seen none a = tt
-    above-seen (at u x) a = unfold seen_by in a
+    above_seen : (b : Arrival) → Above (seen_by l p) l b → Above p l b
+    above_seen none a = tt
+    above_seen (at u x) a = unfold seen_by in a
 
 -- a step is made from what the level sees, with the level as it is
 pub move_is : (p : Program) (l : ℕ) (st : State) → Sound p → l < p.levels → move_at p l st ≡ moved (seen_by l p) (view_of p l st) l (level_at st l) (level_at st l).activity
