@@ -14,7 +14,6 @@ use Rattle.session.specs.declared.Value.TheVariants.{Nil}
 use Rattle.lists.proofs.Laws.Lists.{holds, fails, truth}
 use Rattle.scripts.specs.Limits.{max_script_steps}
 use Rattle.scripts.specs.Ending.{is_running}
-use Rattle.scripts.specs.Effect as effect
 use Rattle.scripts.specs.State as defined
 use Rattle.scripts.specs.Frame.{with_register}
 use Rattle.scripts.specs.Manager.{is_end, next_step, concluded}

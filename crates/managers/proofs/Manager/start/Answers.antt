@@ -1,10 +1,8 @@
--- `managers::Manager::start` meets its contract. Assumes nothing.
 use Prim.Native.Nat.{ℕ, ◌+◌, ◌≤◌, ◌<◌}
 use mathlib.Core.Path.{◌≡◌, refl, sym, ◌∙◌, ap, ap₂}
 use mathlib.Core.Bool.{true, false}
 use mathlib.Core.List.{List, [], ◌∷◌}
 use native.Mathlib.Omega.{arith}
-use borrow.Author.Rules.{rules}
 use borrow.Author.Tests.{leb-false}
 use lib.Dec.{leb}
 use lib.ListN.{length}
@@ -35,8 +33,7 @@ use Rattle.cores.specs.declared.Effect.TheVariants.{Nothing}
 use Rattle.cores.proofs.Laws.Closed.{closed_last, closed_unfinished}
 use Rattle.managers.specs.Manager.{manager_of}
 use Rattle.managers.specs.Steps.{waiting_frames, Starts, WellFormed}
-use Rattle.managers.proofs.Manager.start.Statement.{statement}
-use Rattle.managers.proofs.Manager.start.Tie as tie
+use Rattle.managers.proofs.Manager.start.Goals as goal
 
 -- a manager with its first frame
 abbrev begun : ℕ → ℕ → Frame → Core
@@ -86,8 +83,8 @@ module _ (s : List ℕ) (a : verdict_of s ≡ Accepted) (level stamp : ℕ) (m :
       rw none (sym (concluded_last (program_of s) (alone level stamp stamp g) g (ap (λ x. is_end (next_step (program_of s) x)) (sym is) ∙ at_end s a f p q)))
 
   -- it is within its limits, however it stands
-  stood-held : (n : ℕ) (e : Ending) → n ≤ 1 → (is_running e ≡ true → (0 < n) × (f.next < f.count)) → WellFormed s (record { core = stood_as (begun level stamp f) n e Nil; waiting = ws })
-  stood-held n e low live =
+  stood_held : (n : ℕ) (e : Ending) → n ≤ 1 → (is_running e ≡ true → (0 < n) × (f.next < f.count)) → WellFormed s (record { core = stood_as (begun level stamp f) n e Nil; waiting = ws })
+  stood_held n e low live =
       record {
         level = h.placed;
         low = omega (arith, low);
@@ -114,8 +111,8 @@ module _ (s : List ℕ) (a : verdict_of s ≡ Accepted) (level stamp : ℕ) (m :
 
   stands : (c : Core) → c ≡ closed_as (begun level stamp f) → (manager_of (record { core = c; waiting = ws }) ≡ alike) × WellFormed s (record { core = c; waiting = ws })
   stands c e = elim (truth (leb f.count f.next)) [
-    | holds q ↦ rw (e ∙ closed_last (begun level stamp f) refl q) (ends q, stood-held 0 Finished (omega arith) (λ r. absurd (not_both false r refl)))
-    | fails q ↦ rw (e ∙ closed_unfinished (begun level stamp f) refl q (omega arith)) (unfinished q, stood-held 1 Running (omega arith) (λ _. (omega arith, leb-false f.count f.next q)))
+    | holds q ↦ rw (e ∙ closed_last (begun level stamp f) refl q) (ends q, stood_held 0 Finished (omega arith) (λ r. absurd (not_both false r refl)))
+    | fails q ↦ rw (e ∙ closed_unfinished (begun level stamp f) refl q (omega arith)) (unfinished q, stood_held 1 Running (omega arith) (λ _. (omega arith, leb-false f.count f.next q)))
   ]
 
   starts : (c : Core) → c ≡ closed_as (begun level stamp f) → Starts s level stamp m script (record { core = c; waiting = ws }) × WellFormed s (record { core = c; waiting = ws })
@@ -127,17 +124,8 @@ module _ (s : List ℕ) (a : verdict_of s ≡ Accepted) (level stamp : ℕ) (m :
 found : (o script name slot : ℕ) (v : Value) → name < names → slot ≡ slot_of script name → frame_for o (script_in slot) (name_in slot) 0 true v ≡ frame_for o script name 0 true v
 found o script name slot v h e = rw (e, slot_script script name h, slot_name script name h) refl
 
-new-requires : tie.Need-new-requires
-new-requires c κs =
-    let s = c.before.before.before in
-    (s.requires.0, (s.requires.1.present, rw (c.slot_of.ensures, slot_script s.args.script s.args.message.name s.requires.1.named) s.requires.2))
-
-returns : tie.Need-returns
+pub returns : goal.returns
 returns c =
-    let n = c.before.before.new in
-    let w = c.before.before.before.slot_of in
-    let s = c.before.before.before.before.before.before in
-    starts s.args.session.now s.requires.0.accepted s.args.level s.args.stamp s.args.message s.requires.1 s.args.script n.result (ap frame_of n.ensures.0 ∙ found s.args.message.object s.args.script s.args.message.name w.result s.args.message.parameter s.requires.1.named w.ensures) n.ensures.1 _ refl c.before.closed.result c.before.closed.ensures
-
-pub start_spec : {M : Type 1} → statement M
-start_spec = tie.close (tie.spec (λ c κs. search rules) new-requires (λ c κs. search rules) (λ c κs. search rules) returns)
+    let n = c.new-top in
+    let w = c.slot_of in
+    starts c.args.session.now c.requires.0.accepted c.args.level c.args.stamp c.args.message c.requires.1 c.args.script n.result (ap frame_of n.ensures.0 ∙ found c.args.message.object c.args.script c.args.message.name w.result c.args.message.parameter c.requires.1.named w.ensures) n.ensures.1 _ refl c.closed-core.result c.closed-core.ensures
