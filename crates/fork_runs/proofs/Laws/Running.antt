@@ -38,7 +38,7 @@ use Rattle.managers.proofs.Laws.Advance.{saying_of, saying_agrees}
 use Rattle.managers.specs.declared.Manager as code
 use Rattle.model.specs.Fork.{Fork}
 use Rattle.model.specs.Step.{State, read_at}
-use Rattle.theorems.proofs.Laws.Code.Goals.{live-runs, live-fork}
+use Rattle.theorems.proofs.Laws.Code.Needs.{live-runs, live-fork}
 use Rattle.tallies.specs.Places.{busy_place, unchanged}
 use Rattle.level_state.specs.Representation.{Words, placed}
 use Rattle.level_state.specs.Steps.{Tables, found_in, Readable, ReadReady, Answered, Parts, EffectReady, EffectDone, Changing, ChangedBy, PerformReady, Performed, SettleReady}

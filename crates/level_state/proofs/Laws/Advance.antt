@@ -27,7 +27,7 @@ use Rattle.theorems.proofs.Laws.Order.Accepted.{sound}
 use Rattle.theorems.proofs.Laws.Invariant.Measure.{arrived_bounded}
 use Rattle.theorems.proofs.Laws.Code.Direct.{step_advance}
 use Rattle.theorems.proofs.Laws.Code.Reached.{ReachedState, present}
-use Rattle.theorems.proofs.Laws.Code.Goals.{live-room, live-versions, live-write, live-fork}
+use Rattle.theorems.proofs.Laws.Code.Needs.{live-room, live-versions, live-write, live-fork}
 use Rattle.queues.specs.Queue.{fork_of_row, fork_at}
 use Rattle.versions.specs.Log.{max_versions}
 use Rattle.level_state.specs.Representation.{Words, Runs, Represents, placed}

@@ -26,7 +26,7 @@ use Rattle.model.specs.Step.{State, level_at}
 use Rattle.model.specs.Schedule.{question12, question14, question15, refusal_under, step_refusal, holds_back}
 use Rattle.model.specs.Rules.{conservative}
 use Rattle.theorems.proofs.Laws.Code.Reached.{ReachedState}
-use Rattle.theorems.proofs.Laws.Code.Goals.{live-shallow}
+use Rattle.theorems.proofs.Laws.Code.Needs.{live-shallow}
 use Rattle.theorems.proofs.Laws.Code.Progress.{refusal_absent, refusal_idle, refusal_blocked, refusal_none, allowed, busy_free, first_holds, firsts_asked}
 use Rattle.queues.specs.Queue.{fork_at, forks_at}
 use Rattle.queues.proofs.Laws.Queue.{forks_first}

@@ -31,7 +31,7 @@ use Rattle.model.specs.Level.{Version, newest, newest_to}
 use Rattle.model.specs.Step.{State, level_at, read_bound, read_at}
 use Rattle.theorems.proofs.Laws.Steps.Reads.{read_own, read_below}
 use Rattle.theorems.proofs.Laws.Code.Reached.{ReachedState}
-use Rattle.theorems.proofs.Laws.Code.Goals.{live-ends, live-versions, live-falling}
+use Rattle.theorems.proofs.Laws.Code.Needs.{live-ends, live-versions, live-falling}
 use Rattle.histories.specs.Histories.{histories_at}
 use Rattle.queues.specs.Queue.{There}
 use Rattle.versions.specs.Log.{max_versions, log_start, log_of, Within}

@@ -26,7 +26,7 @@ use Rattle.model.specs.Fork.{Fork}
 use Rattle.model.specs.Level.{Activity, idle, busy, Level, is_busy, is_empty, has_manager}
 use Rattle.model.specs.Step.{State, level_at}
 use Rattle.theorems.proofs.Laws.Code.Reached.{ReachedState}
-use Rattle.theorems.proofs.Laws.Code.Goals.{live-startable, live-write, live-fork}
+use Rattle.theorems.proofs.Laws.Code.Needs.{live-startable, live-write, live-fork}
 use Rattle.queues.specs.Queue.{fork_at}
 use Rattle.queues.proofs.Laws.Queue.{stamp_any, depth_any, message_any}
 use Rattle.tallies.specs.Places.{waiting_place, versions_place, busy_place, changed}

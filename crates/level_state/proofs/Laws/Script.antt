@@ -27,7 +27,7 @@ use Rattle.managers.specs.Steps as managers
 use Rattle.managers.specs.declared.Manager as code
 use Rattle.model.specs.Fork.{Fork}
 use Rattle.model.specs.Step.{State, level_at, read_at}
-use Rattle.theorems.proofs.Laws.Code.Goals.{live-runs}
+use Rattle.theorems.proofs.Laws.Code.Needs.{live-runs}
 use Rattle.level_state.specs.Representation.{Words}
 use Rattle.level_state.specs.Steps.{Tables, Busy, running_fork, Readable, ReadReady}
 use Rattle.level_state.specs.Script.{Blank, RunsAt, StepIs}

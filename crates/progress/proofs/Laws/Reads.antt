@@ -30,7 +30,7 @@ use Rattle.scripts.specs.Valid.{Aimed}
 use Rattle.scripts.specs.Value.{number_in}
 use Rattle.scripts.proofs.Laws.Existence.{first_there, first_none}
 use Rattle.fields.specs.Fields.{script_in}
-use Rattle.fields.specs.Reads.{own_script_of, unknown, script_found, found_of, Small, Agrees}
+use Rattle.fields.specs.Reads.{own_script_of, unknown, is_own, script_found, found_of, Small, Agrees}
 use Rattle.fields.specs.declared.reads.Found.{Found}
 use Rattle.fields.specs.declared.reads.Found.TheVariants.{Missing, Is}
 use Rattle.fields.proofs.Laws.Reads.{own_known}
@@ -113,7 +113,12 @@ waits_change found script becomes o op.Withdraw q = tt
 
 pub pause_change : (s current cache : List ℕ) (all unchanged : Bool) (level o : ℕ) (i : Step) → pause_on s current cache all unchanged level o i ≡ change → IsChange i
 unfolding pause_on
-pause_change s current cache all unchanged level o i q = waits_change _ _ _ o i q
+pause_change s current cache all unchanged level o i q =
+    waits_change
+    (λ x. found_of current cache (is_own s all level x) unchanged x)
+    (λ x. script_found current cache (is_own s all level x) unchanged x)
+    (λ x y. fate_of (level_count s) (dominates (masks_of s)) level (level_of s x) (level_of s y))
+    o i q
 
 -- where every object is shown, no step waits for a value
 module _ (s : List ℕ) (a : verdict_of s ≡ Accepted) (current cache : List ℕ) (unchanged : Bool) (level : ℕ) (small : Small current) (x k : ℕ) where
