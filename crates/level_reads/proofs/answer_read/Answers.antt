@@ -1,0 +1,6 @@
+use Rattle.level_state.proofs.Laws.Script.{field_there}
+use Rattle.level_reads.proofs.answer_read.Goals as goal
+
+pub remember-requires : goal.remember-requires
+remember-requires c =
+    field_there c.requires.leveled.accepted c.requires.read_ready.0
