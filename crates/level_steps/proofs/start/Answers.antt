@@ -1,0 +1,12 @@
+use Rattle.managers.specs.Manager.{manager_of}
+use Rattle.level_state.proofs.Laws.Made.{begun, settled_of_lem}
+use Rattle.level_steps.proofs.start.Goals as goal
+
+pub returns : goal.returns
+returns c =
+    let called = c.settle in
+    let made = c.start-m in
+    let seen = c.script_of-script in (
+      begun c.message_at-message.result c.requires c.message_at-message.ensures seen.result called.new.ended called.new.tallies (manager_of made.result) seen.ensures.0 made.ensures.0 (settled_of_lem made.result called.ensures),
+      made.ensures.1,
+    )
