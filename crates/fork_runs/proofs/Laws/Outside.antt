@@ -92,4 +92,6 @@ module _ (s : List ℕ) (acc : verdict_of s ≡ Accepted) (w : Words) (l : ℕ) 
       let same = noted_count a l ws (versions_place (level_of s o)) (λ e. omega (arith, e, h, low)) (λ e. omega (arith, e, low)) in
       writes_found (noted a l ws) b stamp ws (rw same few) d ∙ noted_found a ws
   effect_found a b stamp forks (effect.Fork u message) few ready up (d, (e, e')) =
-      rw (e, e') (fork_known_read s (with_parts w a) l h o k low apart b.tallies b.queue stamp forks u message d ready.room.level (up u message refl) ready.there.placed)
+      ap (λ c. found_in s (record { current = c; ended = w.ended; tallies = b.tallies; queue = b.queue; work = b.work }) l o k) e
+      ∙ ap (λ v. found_in s (record { current = a.current; ended = w.ended; tallies = b.tallies; queue = b.queue; work = v }) l o k) e'
+      ∙ fork_known_read s (with_parts w a) l h o k low apart b.tallies b.queue stamp forks u message d ready.room.level (up u message refl) ready.there.placed
