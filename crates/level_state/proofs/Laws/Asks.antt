@@ -27,10 +27,10 @@ asked (Call o way parameter) = not_asks refl
 asked (Pop v) = not_asks refl
 
 -- none is where the code has met another tag than a question's, and another than a change's
-pub asks_nothing : (e : Effect) → OneOf (0 ∷ 1 ∷ 2 ∷ 4 ∷ 5 ∷ 6 ∷ 7 ∷ []) (tag_of effect.the_type e) → OneOf (0 ∷ 1 ∷ 2 ∷ 3 ∷ 4 ∷ 6 ∷ 7 ∷ []) (tag_of effect.the_type e) → is_asking e ≡ false
+pub asks_nothing : (e : Effect) → ((o k : ℕ) → e ≡ Read o k → ⊥) → (e ≡ Change → ⊥) → is_asking e ≡ false
 asks_nothing e h k = by (asked e)
   where
     by : Asking e → is_asking e ≡ false
-    by (asks o i is) = absurd (miss (0 ∷ 1 ∷ 2 ∷ 4 ∷ 5 ∷ 6 ∷ 7 ∷ []) 3 tt (rw is at h))
-    by (changes is) = absurd (miss (0 ∷ 1 ∷ 2 ∷ 3 ∷ 4 ∷ 6 ∷ 7 ∷ []) 5 tt (rw is at k))
+    by (asks o i is) = absurd (h o i is)
+    by (changes is) = absurd (k is)
     by (not_asks q) = q
