@@ -1,0 +1,35 @@
+use Prim.Native.Nat.{◌-◌}
+use mathlib.Core.List.{[]}
+use lib.ListN.{length}
+use Rattle.session.specs.declared.Value.TheVariants.{Nil}
+use Rattle.scripts.specs.declared.Ending.TheVariants.{Running}
+use Rattle.cores.specs.declared.Effect.TheVariants.{Nothing}
+use Rattle.managers.specs.declared.Manager.{Manager}
+use Rattle.timetabled.proofs.Laws.Listed.{ListLoop}
+use Rattle.timetabled.proofs.run.Given as goal
+
+-- what stands for a manager past the array
+abbrev pub none : Manager
+none =
+    record {
+      core = record {
+        level = 0;
+        first = 0;
+        steps = 0;
+        writes = 0;
+        forks = 0;
+        height = 0;
+        ending = Running;
+        reply = Nil;
+        top = record { object = 0; slot = 0; next = 0; start = 0; count = 0; answer = 0; r0 = Nil; r1 = Nil; r2 = Nil; r3 = Nil };
+        effect = Nothing;
+      };
+      waiting = [];
+    }
+
+abbrev pub invariant-loop-i : goal.invariant-loop-i
+invariant-loop-i l =
+    ListLoop l.session l.timetable none (record { current = l.initial.current; ended = l.initial.ended; tallies = l.initial.tallies; queue = l.initial.queue; work = l.initial.work }) (record { current = l.current; ended = l.ended; tallies = l.tallies; queue = l.queue; work = l.work }) l.managers l.cache l.i
+
+abbrev pub decreases-loop-i : goal.decreases-loop-i
+decreases-loop-i l = length l.timetable - l.i
