@@ -91,3 +91,53 @@ fn main(rt: HostRuntime) {
         eprintln!(rt; "standard output: {error}").ok();
     }
 }
+
+#[cfg(test)]
+mod tests {
+    use super::*;
+
+    // Gives at most three bytes a read, once so many reads were interrupted. At the bytes' end it ends or fails.
+    #[derive(Drop)]
+    struct Hindered<'a> {
+        interruptions: usize,
+        bytes: &'a [u8],
+        ends: bool,
+    }
+
+    impl Read for Hindered<'_> {
+        fn read(&mut self, buf: &mut [u8]) -> io::Result<usize> {
+            if self.interruptions > 0 {
+                self.interruptions -= 1;
+                return Err(io::Error::from(ErrorKind::Interrupted));
+            }
+            if self.bytes.is_empty() && !self.ends {
+                return Err(io::Error::from(ErrorKind::TimedOut));
+            }
+            let most = buf.len().min(3);
+            self.bytes.read(&mut buf[..most])
+        }
+    }
+
+    #[test]
+    fn reads_are_tried_again(rt: HostRuntime) {
+        for (interruptions, ends, want) in [
+            (0, true, Some(7)),
+            (1000, true, Some(7)),
+            (1001, true, None),
+            (2, false, None),
+        ] {
+            let mut input = Hindered {
+                interruptions,
+                bytes: b"session",
+                ends,
+            };
+            let mut buffer = [0u8; SESSION_BYTES + 1];
+            let read = match read_input(&mut input, &mut buffer) {
+                Input::Read(length) => Some(length),
+                Input::Failed(_) => None,
+            };
+            assert_eq!(rt; read, want, "after {interruptions} interruptions");
+            assert!(rt; read.is_none() || buffer.starts_with(b"session"));
+        }
+    }
+}
