@@ -1,7 +1,7 @@
 /*
  * The entries of the library for C, and for every language that calls C.
  *
- * Link libexports.a, which `rt staticlib exports` makes in target/staticlib/.
+ * Link libexports.a, which `rt lib` in crates/exports makes in crates/exports/out/.
  *
  * Every function takes any bytes, of any length and content: no input makes it
  * trap or run for ever. It returns a number: 0, or that of the first question that

@@ -68,7 +68,7 @@ pub extern "C" fn lupinpause_run_timetable(
     res: &mut [u8],
     place_and_count: &mut [u32],
 ) -> u32
-    ensures { Call (timetabled (record { session = session.entry.now; clearance = clearance; work = work.old; buffer = res.old }) timetable.now) work.new res.new place_and_count.old place_and_count.new result }
+    ensures { Call (timetabled (record { session = session.now; clearance = clearance; work = work.old; buffer = res.old }) timetable.now) work.new res.new place_and_count.old place_and_count.new result }
 {
     let answer = scheduler::run_timetable(session, timetable, clearance, work, res);
     report(place_and_count, answer)
@@ -83,7 +83,7 @@ pub extern "C" fn lupinpause_run_plain(
     res: &mut [u8],
     place_and_count: &mut [u32],
 ) -> u32
-    ensures { Call (plain (record { session = session.entry.now; clearance = clearance; work = work.old; buffer = res.old })) work.new res.new place_and_count.old place_and_count.new result }
+    ensures { Call (plain (record { session = session.now; clearance = clearance; work = work.old; buffer = res.old })) work.new res.new place_and_count.old place_and_count.new result }
 {
     let answer = scheduler::run_plain(session, clearance, work, res);
     report(place_and_count, answer)
@@ -97,7 +97,7 @@ pub extern "C" fn lupinpause_run_depth_first(
     res: &mut [u8],
     place_and_count: &mut [u32],
 ) -> u32
-    ensures { Call (deep (record { session = session.entry.now; clearance = clearance; work = []; buffer = res.old })) [] res.new place_and_count.old place_and_count.new result }
+    ensures { Call (deep (record { session = session.now; clearance = clearance; work = []; buffer = res.old })) [] res.new place_and_count.old place_and_count.new result }
 {
     let answer = depth_first::run_depth_first(session, clearance, res);
     report(place_and_count, answer)
@@ -112,7 +112,7 @@ pub extern "C" fn lupinpause_run_page(
     page: &mut [u8],
     place_and_counts: &mut [u32],
 ) -> u32
-    ensures { PageCall (paged (record { session = session.entry.now; clearance = clearance; work = []; buffer = res.old }) page.old) res.new page.new place_and_counts.old place_and_counts.new result }
+    ensures { PageCall (paged (record { session = session.now; clearance = clearance; work = []; buffer = res.old }) page.old) res.new page.new place_and_counts.old place_and_counts.new result }
 {
     let answer = page::run_page(session, clearance, res, page);
     report_page(place_and_counts, answer)

@@ -1,4 +1,4 @@
--- What an answer's count, a text's count and the count of what was read say of the buffers that they count in. Assumes nothing.
+-- What an answer's count and the count of what was read say of the buffers that they count in. Assumes nothing.
 use Prim.Native.Nat.{ℕ, ◌*◌, ◌%◌, ◌≤◌, ◌<◌}
 use mathlib.Core.Path.{◌≡◌, refl, ap}
 use mathlib.Core.Bool.{false}
@@ -8,8 +8,6 @@ use borrow.Author.Tests.{eqb-true, le-leb, lt-leb}
 use lib.Dec.{eqb}
 use lib.ListN.{length, take, drop, length-append}
 use lib.Seq.{length-take-le}
-use Rattle.io.specs.Counts.{IsPrefixLen}
-use Rattle.io.proofs.Counting.{prefix_len_of_le}
 use Rattle.session.specs.Limits.{record_bytes, max_records}
 use Rattle.session.specs.Record.{record_count}
 use Rattle.session.specs.Questions.{question1}
@@ -19,7 +17,6 @@ use Rattle.lists.proofs.Laws.Lists.{holds, fails, truth}
 use Rattle.model.specs.Schedule.{Outcome, finished, refused, plain_order}
 use Rattle.model.specs.Result.{result_of}
 use Rattle.calls.specs.Entries.{Request, question10, entry_refusal, bytes_for, answer_of, timetabled, plain, Answers}
-use Rattle.lists.specs.Placed.{Written}
 
 -- the count of an answer is within its buffer
 answer_fits : (q : Request) (o : Outcome) → (answer_of q o).count ≤ length (answer_of q o).buffer
@@ -46,11 +43,6 @@ answered_fits q number place count work buffer a =
       ap (λ x. length x.buffer) a,
       timetabled_fits q (plain_order (program_of q.session) (root_of q.session)),
     )
-
--- what is written stands in the text
-pub written_counts : (bytes before after : List ℕ) (n : ℕ) → Written bytes before after n → IsPrefixLen n after
-written_counts bytes before after n w =
-    prefix_len_of_le n after (omega (arith, w.number, ap length w.buffer, length-append bytes (drop (length bytes) before)))
 
 -- more bytes than any session has
 pub too_long : (s : List ℕ) → record_bytes * max_records < length s → question1 s ≡ false

@@ -7,12 +7,13 @@ ghost use Rattle.session.specs.Limits.{record_bytes, max_records};
 ghost use Rattle.session.specs.Meaning.{level_of, root_object};
 ghost use Rattle.model.specs.Limits.{result_bytes};
 ghost use Rattle.text.specs.Lines.{text_size};
-ghost use Rattle.lupinpause.specs.Program.{Prints, Within};
+ghost use Rattle.lupinpause.specs.Program.{Prints, Taken, Within};
 
-use libc::{STDIN_FILENO, STDOUT_FILENO};
 use lines::LINE_BYTES;
 use model::{RESULT_BYTES, WORK_NUMBERS};
 use session::limits::{MAX_RECORDS, RECORD_BYTES};
+use std::io;
+use std::io::{ErrorKind, Read};
 
 // The bytes of the longest session.
 const SESSION_BYTES: usize = RECORD_BYTES * MAX_RECORDS;
@@ -28,33 +29,31 @@ const INTERRUPTIONS: usize = 1000;
 enum Input {
     // So many bytes stand at the buffer's start.
     Read(usize),
-    // A read failed, and errno says why.
-    Failed,
+    // A read failed, and this says why.
+    Failed(io::Error),
 }
 
-// Reads standard input to its end, or until the buffer is full, which is longer than any session: then question 1
+// Reads an input to its end, or until the buffer is full, which is longer than any session: then question 1
 // says no of what was read. A read may give less than it is asked for, and one that a signal interrupts is tried
 // again.
-fn read_input(buffer: &mut [u8]) -> Input
+fn read_input<R: Read>(input: &mut R, buffer: &mut [u8]) -> Input
     requires { record_bytes * max_records < length buffer.old }
-    ensures { Within result buffer.new }
+    ensures within { Within result buffer.new }
+    ensures taken { Taken (R.remaining input.old) (R.remaining input.new) result buffer.new }
 {
     let mut done = 0;
     let mut interruptions = INTERRUPTIONS;
     while done < buffer.len() {
-        let got = libc::read(STDIN_FILENO, &mut buffer[done..]);
-        let more = io::count(got, &buffer[done..]);
-        if more > 0 {
-            done += more;
-        } else {
+        match input.read(&mut buffer[done..]) {
             // No bytes and no failure: the input's end.
-            if got >= 0 {
-                return Input::Read(done);
+            Ok(0) => return Input::Read(done),
+            Ok(more) => done += more,
+            Err(error) => {
+                if interruptions == 0 || error.kind() != ErrorKind::Interrupted {
+                    return Input::Failed(error);
+                }
+                interruptions -= 1;
             }
-            if interruptions == 0 || os::errno() != libc::EINTR {
-                return Input::Failed;
-            }
-            interruptions -= 1;
         }
     }
     Input::Read(done)
@@ -63,7 +62,7 @@ fn read_input(buffer: &mut [u8]) -> Input
 // Runs a session, writes what is printed of it to the text's start, and returns how many bytes that is.
 fn answer(session: &[u8], work: &mut [u32], res: &mut [u8], text: &mut [u8]) -> usize
     requires { (length res.old ≤ result_bytes) × (text_size ≤ length text.old) }
-    ensures { Prints (record { session = session.entry.now; clearance = level_of session.entry.now (root_object session.entry.now); work = work.old; buffer = res.old }) work.new res.new text.old text.new result }
+    ensures { Prints (record { session = session.now; clearance = level_of session.now (root_object session.now); work = work.old; buffer = res.old }) work.new res.new text.old text.new result }
 {
     let run = scheduler::run_for_root(session, work, res);
     if run.number != 0 {
@@ -73,19 +72,72 @@ fn answer(session: &[u8], work: &mut [u32], res: &mut [u8], text: &mut [u8]) -> 
     lines::put_records(text, &res[..count])
 }
 
-fn main() {
+// An error of input or output is told on standard error, where that takes it, and ends the program as any other end.
+fn main(rt: HostRuntime) {
     // One byte more than the longest session, so that a longer input is refused for its length.
     let mut session = [0u8; SESSION_BYTES + 1];
-    let input = read_input(&mut session);
-    let Input::Read(length) = input else {
-        os::fail(b"standard input");
-        return;
+    let length = match read_input(&mut rt.stdin(), &mut session) {
+        Input::Read(length) => length,
+        Input::Failed(error) => {
+            eprintln!(rt; "standard input: {error}").ok();
+            return;
+        }
     };
     let mut work = [0u32; WORK_NUMBERS];
     let mut result = [0u8; RESULT_BYTES];
     let mut text = [0u8; TEXT_BYTES];
     let count = answer(&session[..length], &mut work, &mut result, &mut text);
-    if !io::write_all(STDOUT_FILENO, &text[..count]) {
-        os::fail(b"standard output");
+    if let Err(error) = rt.stdout().write_all(&text[..count]) {
+        eprintln!(rt; "standard output: {error}").ok();
+    }
+}
+
+#[cfg(test)]
+mod tests {
+    use super::*;
+
+    // Gives at most three bytes a read, once so many reads were interrupted. At the bytes' end it ends or fails.
+    #[derive(Drop)]
+    struct Hindered<'a> {
+        interruptions: usize,
+        bytes: &'a [u8],
+        ends: bool,
+    }
+
+    impl Read for Hindered<'_> {
+        fn read(&mut self, buf: &mut [u8]) -> io::Result<usize> {
+            if self.interruptions > 0 {
+                self.interruptions -= 1;
+                return Err(io::Error::from(ErrorKind::Interrupted));
+            }
+            if self.bytes.is_empty() && !self.ends {
+                return Err(io::Error::from(ErrorKind::TimedOut));
+            }
+            let most = buf.len().min(3);
+            self.bytes.read(&mut buf[..most])
+        }
+    }
+
+    #[test]
+    fn reads_are_tried_again(rt: HostRuntime) {
+        for (interruptions, ends, want) in [
+            (0, true, Some(7)),
+            (1000, true, Some(7)),
+            (1001, true, None),
+            (2, false, None),
+        ] {
+            let mut input = Hindered {
+                interruptions,
+                bytes: b"session",
+                ends,
+            };
+            let mut buffer = [0u8; SESSION_BYTES + 1];
+            let read = match read_input(&mut input, &mut buffer) {
+                Input::Read(length) => Some(length),
+                Input::Failed(_) => None,
+            };
+            assert_eq!(rt; read, want, "after {interruptions} interruptions");
+            assert!(rt; read.is_none() || buffer.starts_with(b"session"));
+        }
     }
 }

@@ -1,2 +1,0 @@
--- Laws of what the exported entries hand back.
-pub mod Reported
