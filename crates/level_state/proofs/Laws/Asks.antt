@@ -2,13 +2,9 @@
 use Prim.Native.Nat.{ℕ}
 use mathlib.Core.Path.{◌≡◌, refl}
 use mathlib.Core.Bool.{false}
-use mathlib.Core.List.{[], ◌∷◌}
-use types.Run.{OneOf, miss}
-use denote.Enum.Declared.{tag_of}
 use Rattle.cores.specs.Core.{is_asking}
 use Rattle.cores.specs.declared.Effect.{Effect}
 use Rattle.cores.specs.declared.Effect.TheVariants.{Nothing, End, Write, Read, Change, Fork, Call, Pop}
-use Rattle.cores.specs.contracts.Effect as effect
 
 -- is a value asked for, or a CREATE or WITHDRAW to be made
 pub data Asking (e : Effect) : Type 0 where

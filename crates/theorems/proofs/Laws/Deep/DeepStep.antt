@@ -24,7 +24,7 @@ use Rattle.scripts.proofs.Laws.Endings.{running_few}
 use Rattle.scripts.proofs.Laws.Within.{stepped_within}
 use Rattle.model.specs.Fork.{Fork, child_stamp}
 use Rattle.model.specs.Level.{Version, version_of, after, newest}
-use Rattle.model.specs.Step.{State, level_at, none, at, versions_after, arrival_of, move_at, step_at}
+use Rattle.model.specs.Step.{State, level_at, none, versions_after, arrival_of, move_at, step_at}
 use Rattle.model.specs.DepthFirst.{Tally, Progress, new_tally, tally_at, current, field_now}
 use Rattle.lists.specs.Each.{Each}
 use Rattle.lists.proofs.Laws.Each.{each_map, each_any, each_append, each_made}

@@ -18,7 +18,7 @@ use Rattle.lists.specs.Changed.{inserted}
 use Rattle.model.specs.Fork.{Fork}
 use Rattle.model.specs.History.{history_of}
 use Rattle.model.specs.Level.{Version, Activity, idle, busy, Level, new_level, is_busy, arrived, after, forks_by, forks_of}
-use Rattle.model.specs.Step.{State, level_at, view_of, read_at, none, at, Moved, versions_after, arrival_of, begun, advanced, moved, move_at, step_at}
+use Rattle.model.specs.Step.{State, level_at, view_of, read_at, none, Moved, versions_after, arrival_of, begun, advanced, moved, move_at, step_at}
 use Rattle.lists.specs.Each.{Each}
 use Rattle.theorems.proofs.Laws.Steps.Diamond.{seen_level}
 use Rattle.theorems.proofs.Laws.Steps.Reads.{bound_at}
