@@ -7,8 +7,10 @@ use native.Mathlib.Decide.{dec_lt}
 use native.Mathlib.Omega.{arith}
 use borrow.Author.Tests.{ltb-true, lt-ltb, le-ltb}
 use lib.Dec.{ltb}
-use lib.ListN.{length, get_or, drop, get_or-map, get_or-eq_default}
+use lib.ListN.{length, get_or, take, drop, get_or-map, get_or-eq_default}
 use lib.Seq.{drop-length}
+use Rattle.std.proofs.Common.{subst}
+use Rattle.std.proofs.Math.Seq.{take-append_seam}
 use Rattle.lists.proofs.Laws.Range.{and_left}
 use Rattle.session.specs.Limits.{names, max_methods}
 use Rattle.lists.specs.Lists.{rising_from, count_below}
@@ -112,6 +114,9 @@ module _ (s : List ℕ) (a : verdict_of s ≡ Accepted) where
   pub index_length : length (index_of s) ≡ max_methods + 1
   unfolding index_of
   index_length = length-tab (max_methods + 1) _
+
+  pub index_front : (rest : List ℕ) → take (max_methods + 1) (index_of s ++ rest) ≡ index_of s
+  index_front rest = subst (λ n. take n (index_of s ++ rest) ≡ index_of s) index_length (take-append_seam (index_of s) rest)
 
   pub index_at : (i : ℕ) → i < max_methods + 1 → get_or (index_of s) i 0 ≡ method_start s (key (i / names) (i % names))
   unfolding index_of
