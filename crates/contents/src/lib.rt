@@ -166,3 +166,88 @@ impl Session<'_> {
         }
     }
 }
+
+// TRANSITION: the functions below go once no crate calls them.
+
+// How many objects there are.
+pub fn object_count(session: &[u8]) -> usize
+    requires { verdict_of session.now ≡ Verdict.Accepted }
+    ensures { result ≡ object_count session.now }
+{
+    let layout = kinds::count_kinds(session);
+    layout.objects
+}
+
+// The level of an object: one of the session's has it in its record, one that a level can make in its number.
+pub fn level_of(session: &[u8], masks: &[u16], object: usize) -> usize
+    requires { (verdict_of session.now ≡ Verdict.Accepted) × (masks.now ≡ masks_of session.now) × Numbered session.now object }
+    ensures { result ≡ level_of session.now object }
+{
+    if object < FIRST_MADE {
+        record::byte_at(session, masks.len() + object, places::LEVEL) as usize
+    } else {
+        (object - FIRST_MADE) / MADE_OBJECTS
+    }
+}
+
+// What field `k` of an object of the session holds at first.
+pub fn field_of(session: &[u8], masks: &[u16], object: usize, k: usize) -> Value
+    requires { (verdict_of session.now ≡ Verdict.Accepted) × (masks.now ≡ masks_of session.now) × (object < object_count session.now) × (k < fields) }
+    ensures { result ≡ field_of session.now object k }
+{
+    let r = masks.len() + object;
+    let mask = record::byte_at(session, r, places::FIELD_MASK);
+    if (mask >> k) % 2 == 1 {
+        Value::Number(record::word_at(session, r, places::FIRST_FIELD + places::WORD_BYTES * k))
+    } else {
+        Value::Nil
+    }
+}
+
+// Where the steps of a method stand, by its number: 16 times that of its object, and its name. A run that
+// keeps it reads the index once a message.
+pub fn method_of(session: &[u8], index: &[u16], slot: usize) -> Method
+    requires { (verdict_of session.now ≡ Verdict.Accepted) × (index.now ≡ index_of session.now) × (slot / names < object_count session.now) }
+    ensures { MethodAt session.now (slot / names) (slot % names) result.start result.count }
+{
+    let start = index[slot] as usize;
+    let end = index[slot + 1] as usize;
+    let count = end - start;
+    Method { start, count }
+}
+
+// Step `j` of a method of which it is known where its steps stand, or the script's end.
+pub fn step_in_method(session: &[u8], start: usize, count: usize, j: usize) -> Step
+    requires { (verdict_of session.now ≡ Verdict.Accepted) × IsMethod session.now start count }
+    ensures { ((object name : ℕ) → MethodAt session.now object name start count → result ≡ step_at session.now object name j) × (count ≡ 0 → result ≡ Step.End) }
+{
+    if j < count {
+        record::step_in(session, start + j)
+    } else {
+        Step::End
+    }
+}
+
+// The root message.
+pub fn root(session: &[u8]) -> Message
+    requires { verdict_of session.now ≡ Verdict.Accepted }
+    ensures { result ≡ root_of session.now }
+{
+    let r = session.len() / RECORD_BYTES - 1;
+    let object = record::byte_at(session, r, places::OBJECT);
+    let name = record::byte_at(session, r, places::NAME);
+    if record::byte_at(session, r, places::TAG) == places::NUMBER_TAG {
+        let parameter = Value::Number(record::word_at(session, r, places::PARAMETER));
+        Message {
+            object,
+            name,
+            parameter,
+        }
+    } else {
+        Message {
+            object,
+            name,
+            parameter: Value::Nil,
+        }
+    }
+}
