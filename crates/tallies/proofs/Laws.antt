@@ -2,3 +2,4 @@
 pub mod First
 pub mod Closed
 pub mod Changed
+pub mod Numbers

@@ -1,9 +1,10 @@
 -- What is counted of each level, and where it stands. No meaning rests on these. Assumes nothing.
 -- Laws: what is counted before a run (`proofs/Laws/First`), once a manager has ended (`Closed`), and once existence was written (`Changed`).
-use Rattle.std.specs.Prelude.{ℕ, ◌+◌, ◌*◌, ◌≡◌, Bool, ◌||◌, List, ◌++◌, eqb, ltb, get_or, set, replicate}
+use Rattle.std.specs.Prelude.{ℕ, ◌+◌, ◌-◌, ◌*◌, ◌≡◌, Bool, cond, ◌||◌, List, [], ◌∷◌, ◌++◌, eqb, ltb, get_or, set, map, replicate}
 use Rattle.session.specs.Limits.{max_levels}
 use Rattle.scripts.specs.declared.Ended.{Ended}
 use Rattle.histories.specs.Histories.{Added}
+use Rattle.tallies.specs.declared.Tally.{Tally}
 
 -- of level l: how many managers have ended stands at l itself; then the write stamp of the next one; the forks that wait; the versions; 1 where
 -- a manager runs; 0 as long as no existence was written at the level
@@ -28,6 +29,24 @@ all_changes_place = 6 * max_levels
 
 abbrev pub tally_numbers : ℕ
 tally_numbers = all_changes_place + 1
+
+abbrev pub number_of : Bool → ℕ
+number_of b = cond b 1 0
+
+-- the numbers, part by part, of what is counted of each level and of whether existence was written at any
+abbrev pub numbers_of : List Tally → Bool → List ℕ
+numbers_of ts c =
+    map (λ (t : Tally). t.ended) ts
+    ++ (map (λ (t : Tally). t.next) ts
+    ++ (map (λ (t : Tally). t.waiting) ts
+    ++ (map (λ (t : Tally). t.versions) ts
+    ++ (map (λ (t : Tally). number_of t.runs) ts
+    ++ (map (λ (t : Tally). number_of t.changed) ts
+    ++ number_of c ∷ [])))))
+
+-- the counts once a fork that waited at level l has started
+abbrev pub begun : ℕ → List ℕ → List ℕ
+begun l t = set (set t (waiting_place l) (get_or t (waiting_place l) 0 - 1)) (busy_place l) 1
 
 -- what is counted before any manager started: "A level's write stamp starts at 1"
 abbrev pub start_tallies : List ℕ

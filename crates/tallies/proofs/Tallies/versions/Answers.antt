@@ -1,0 +1,9 @@
+use Rattle.std.proofs.Common.{◌∙◌, ap, get_or}
+use Rattle.tallies.specs.Places.{versions_place}
+use Rattle.tallies.proofs.Laws.Numbers.{versions_at}
+use Rattle.tallies.proofs.Tallies.versions.Goals as goal
+
+pub returns : goal.returns
+returns c =
+    versions_at c.self.inside.levels c.self.inside.changed c.self.invariant c.args.level c.requires _
+    ∙ ap (λ t. get_or t (versions_place c.args.level) 0) c.self.view_is
