@@ -5,8 +5,8 @@
 // dominates level k. A mask of 16 bits has room for sixteen levels.
 #![tactic(auto)]
 
-ghost use Rattle.std.specs.Prelude.{◌≡◌, true, not, ◌&&◌, ◌^◌, ltb, length};
-ghost use Rattle.lists.specs.Range.{implies, first};
+ghost use Rattle.std.specs.Prelude.{◌≡◌, true, not, ◌&&◌, ◌^◌, eqb, ltb, length};
+ghost use Rattle.lists.specs.Range.{implies, all, first};
 ghost use Rattle.dominance.specs.Order.{reflexive, antisymmetric, transitive};
 ghost use Rattle.dominance.specs.Join.{is_upper, is_least};
 ghost use Rattle.dominance.specs.Meet.{is_lowest};
@@ -21,33 +21,21 @@ const WIDTH: usize = 16;
 fn has_bit(mask: u16, k: usize) -> bool
     ensures { result ≡ bit mask k }
 {
-    if k < WIDTH {
-        (mask >> k) % 2 == 1
-    } else {
-        false
-    }
+    k < WIDTH && (mask >> k) % 2 == 1
 }
 
 // Whether level `upper` dominates level `lower`. A level that is not in the table dominates none.
 pub fn dominates(masks: &[u16], upper: usize, lower: usize) -> bool
     ensures { result ≡ dominates masks.now upper lower }
 {
-    if upper < masks.len() {
-        has_bit(masks[upper], lower)
-    } else {
-        false
-    }
+    upper < masks.len() && has_bit(masks[upper], lower)
 }
 
 // Whether no bit of `mask` from `levels` on is set.
 fn names_below(mask: u16, levels: usize) -> bool
     ensures { result ≡ ltb mask (2 ^ levels) }
 {
-    if levels < WIDTH {
-        mask >> levels == 0
-    } else {
-        true
-    }
+    WIDTH <= levels || mask >> levels == 0
 }
 
 // Question 4, its first part: whether each mask names only present levels, and its own.
@@ -55,52 +43,35 @@ fn names_levels(masks: &[u16]) -> bool
     ensures { result ≡ (names_present masks.now && reflexive (length masks.now) (dominates masks.now)) }
 {
     let n = masks.len();
-    for i in 0..n {
-        if !names_below(masks[i], n) {
-            return false;
-        }
-        if !dominates(masks, i, i) {
-            return false;
-        }
-    }
-    true
+    masks.iter().all(|m| names_below(*m, n)) && (0..n).all(|i| dominates(masks, i, i))
 }
 
 // Whether levels `i` and `j` dominate each other.
 fn are_mutual(masks: &[u16], i: usize, j: usize) -> bool
     ensures { result ≡ (dominates masks.now i j && dominates masks.now j i) }
 {
-    if dominates(masks, i, j) {
-        dominates(masks, j, i)
-    } else {
-        false
-    }
+    dominates(masks, i, j) && dominates(masks, j, i)
+}
+
+// Whether level `i` and no level before it dominate each other.
+fn is_mutual_with_none(masks: &[u16], i: usize) -> bool
+    ensures { result ≡ all i (λ j. not (dominates masks.now i j && dominates masks.now j i)) }
+{
+    (0..i).all(|j| !are_mutual(masks, i, j))
 }
 
 // Question 4, its second part: whether no two levels dominate each other. A pair is tested once.
 fn no_two_mutual(masks: &[u16]) -> bool
     ensures { result ≡ antisymmetric (length masks.now) (dominates masks.now) }
 {
-    for i in 0..masks.len() {
-        for j in 0..i {
-            if are_mutual(masks, i, j) {
-                return false;
-            }
-        }
-    }
-    true
+    (0..masks.len()).all(|i| is_mutual_with_none(masks, i))
 }
 
 // Whether level `i` dominates `j`, `j` dominates `k`, and `i` does not dominate `k`.
 fn is_gap(masks: &[u16], i: usize, j: usize, k: usize) -> bool
     ensures { result ≡ not (implies (dominates masks.now i j && dominates masks.now j k) (dominates masks.now i k)) }
 {
-    if dominates(masks, i, j) {
-        if dominates(masks, j, k) {
-            return !dominates(masks, i, k);
-        }
-    }
-    false
+    dominates(masks, i, j) && dominates(masks, j, k) && !dominates(masks, i, k)
 }
 
 // Question 4, its third part: whether dominance carries through.
@@ -123,53 +94,32 @@ fn carries_through(masks: &[u16]) -> bool
 }
 
 // Question 4.
+#[tactic(auto, using(dominance::proofs::Laws::Table::ordered_parts))]
 fn is_ordered(masks: &[u16]) -> bool
     ensures { result ≡ is_ordered masks.now }
 {
-    if !names_levels(masks) {
-        return false;
-    }
-    if !no_two_mutual(masks) {
-        return false;
-    }
-    carries_through(masks)
+    names_levels(masks) && no_two_mutual(masks) && carries_through(masks)
 }
 
 // Whether level `u` dominates both `a` and `b`.
 fn is_upper(masks: &[u16], a: usize, b: usize, u: usize) -> bool
     ensures { result ≡ is_upper (dominates masks.now) a b u }
 {
-    if dominates(masks, u, a) {
-        dominates(masks, u, b)
-    } else {
-        false
-    }
+    dominates(masks, u, a) && dominates(masks, u, b)
 }
 
 // Whether `v` is an upper bound of `a` and `b` that does not dominate `u`: then `u` is not the least.
 fn undercuts(masks: &[u16], a: usize, b: usize, u: usize, v: usize) -> bool
     ensures { result ≡ not (implies (is_upper (dominates masks.now) a b v) (dominates masks.now v u)) }
 {
-    if is_upper(masks, a, b, v) {
-        !dominates(masks, v, u)
-    } else {
-        false
-    }
+    is_upper(masks, a, b, v) && !dominates(masks, v, u)
 }
 
 // Whether `u` is the least upper bound of `a` and `b`.
 fn is_least(masks: &[u16], a: usize, b: usize, u: usize) -> bool
     ensures { result ≡ is_least (length masks.now) (dominates masks.now) a b u }
 {
-    if !is_upper(masks, a, b, u) {
-        return false;
-    }
-    for v in 0..masks.len() {
-        if undercuts(masks, a, b, u, v) {
-            return false;
-        }
-    }
-    true
+    is_upper(masks, a, b, u) && (0..masks.len()).all(|v| !undercuts(masks, a, b, u, v))
 }
 
 // The first level below `k` that is the least upper bound of `a` and `b`, or `k` where none is. By recursion:
@@ -213,32 +163,28 @@ pub fn join(masks: &[u16], a: usize, b: usize) -> usize
     least_upper(masks, a, b)
 }
 
+// Whether level `a` has a join with each level before it.
+fn has_joins_before(masks: &[u16], a: usize) -> bool
+    requires { is_ordered masks.now ≡ true }
+    ensures { result ≡ all a (λ b. not (eqb (join_of masks.now a b) (length masks.now))) }
+{
+    let n = masks.len();
+    (0..a).all(|b| join(masks, a, b) != n)
+}
+
 // Question 5, of a table that passed question 4. A pair is tested once.
 fn has_joins(masks: &[u16]) -> bool
     requires { is_ordered masks.now ≡ true }
     ensures { result ≡ is_joined masks.now }
 {
-    let n = masks.len();
-    for a in 0..n {
-        for b in 0..a {
-            if join(masks, a, b) == n {
-                return false;
-            }
-        }
-    }
-    true
+    (0..masks.len()).all(|a| has_joins_before(masks, a))
 }
 
 // Whether all levels dominate level `l`.
 fn is_lowest(masks: &[u16], l: usize) -> bool
     ensures { result ≡ is_lowest (length masks.now) (dominates masks.now) l }
 {
-    for i in 0..masks.len() {
-        if !dominates(masks, i, l) {
-            return false;
-        }
-    }
-    true
+    (0..masks.len()).all(|i| dominates(masks, i, l))
 }
 
 // Question 17, of a table that passed questions 4 and 5: where there is a level, each pair has a greatest lower
@@ -248,12 +194,7 @@ fn has_meets(masks: &[u16]) -> bool
     ensures { result ≡ is_met masks.now }
 {
     let n = masks.len();
-    for l in 0..n {
-        if is_lowest(masks, l) {
-            return true;
-        }
-    }
-    n == 0
+    n == 0 || (0..n).any(|l| is_lowest(masks, l))
 }
 
 // What questions 4, 5 and 17, in this order, say of a table, of any length and content.

@@ -2,6 +2,6 @@
 pub mod Product
 pub mod Insert
 pub mod Outside
-pub mod Rows
 pub mod Moves
+pub mod Rows
 pub mod Kept

@@ -4,17 +4,7 @@
 use Rattle.std.specs.Prelude.{ℕ, ◌+◌, ◌*◌, ◌≤◌, ◌<◌, min, ◌≡◌, List, length, get_or, take}
 use Rattle.lists.specs.Outside.{Outside}
 use Rattle.lists.specs.Changed.{inserted}
-use Rattle.rows.specs.Rows.{row_at, rows_at, key_of, Rising}
-
--- the words from a up to e stand `by` places higher
-pub record Shifted (ws ws' : List ℕ) (a e by : ℕ) : Type 0 where
-  pub moved : (k : ℕ) → a ≤ k → k < e → get_or ws' (k + by) 0 ≡ get_or ws k 0
-  pub outside : Outside ws ws' (a + by) (e + by)
-
--- a row stands at a place
-pub record Stored (ws ws' : List ℕ) (at : ℕ) (row : List ℕ) : Type 0 where
-  pub stored : row_at ws' at (length row) ≡ row
-  pub outside : Outside ws ws' at (at + length row)
+use Rattle.rows.specs.Rows.{rows_at, key_of, Rising}
 
 -- `count` rows of a row's width, in order, and room for `cap` of them
 pub record Room (ws : List ℕ) (base count cap : ℕ) (row : List ℕ) : Type 0 where

@@ -1,10 +1,8 @@
-use mathlib.Core.Path.{sym}
-use native.Mathlib.Nat.{le_trans}
+use Rattle.std.proofs.Common.{sym, ◌∙◌, le_trans, le-ltb}
 use lib.Pow.{pow_mono}
 use Rattle.dominance.proofs.Laws.Table.{bit_beyond}
 use Rattle.lattice.proofs.has_bit.Goals as goal
 
 pub returns-else-k-lt-WIDTH : goal.returns-else-k-lt-WIDTH
 returns-else-k-lt-WIDTH c =
-    sym (bit_beyond c.args.mask c.args.k
-    (le_trans c.ranges.mask.fits (pow_mono c.if-k-lt-WIDTH.false)))
+    le-ltb _ _ c.if-k-lt-WIDTH.false ∙ sym (bit_beyond c.args.mask c.args.k (le_trans c.ranges.mask.fits (pow_mono c.if-k-lt-WIDTH.false)))

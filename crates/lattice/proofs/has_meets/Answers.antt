@@ -1,14 +1,15 @@
-use mathlib.Core.Path.{sym, ◌∙◌}
-use native.Mathlib.Omega.{arith}
-use Rattle.dominance.proofs.Laws.Table.{lowest_met, none_met}
+use Rattle.std.proofs.Common.{rules, tests, refl, sym, ◌∙◌, length, eq-eqb}
+use Rattle.dominance.specs.Meet.{is_lowest}
+use Rattle.dominance.specs.Table.{dominates}
+use Rattle.lattice.proofs.Laws.Ranges.{any_below}
+use Rattle.lattice.proofs.Laws.Tables.{met_where_any, met_of_none}
 use Rattle.lattice.proofs.has_meets.Goals as goal
 
-pub returns-then-is_lowest : goal.returns-then-is_lowest
-returns-then-is_lowest c =
-    sym (lowest_met c.args.masks.now c.requires.0 c.requires.1 c.loop-l.l
-    c.loop-l-test.true
-    (sym c.is_lowest.ensures ∙ c.if-is_lowest.true))
+pub returns-then-n-eq0 : goal.returns-then-n-eq0
+returns-then-n-eq0 c = eq-eqb _ _ c.if-n-eq0.true ∙ sym (met_of_none c.args.masks.now c.requires.0 c.requires.1 c.if-n-eq0.true)
 
-pub returns : goal.returns
-returns c =
-    sym (none_met c.args.masks.now c.requires.0 c.requires.1 (λ k h. c.loop-l.invariant.1 k (omega arith)))
+pub returns-else-n-eq0 : goal.returns-else-n-eq0
+returns-else-n-eq0 c =
+    let masks = c.args.masks.now in
+    any_below (length masks) (λ l. is_lowest (length masks) (dominates masks) l) _ _ _ _ refl c.any.ensures.ran (λ x b q k. search (rules, tests))
+    ∙ met_where_any masks c.requires.0 c.requires.1 c.if-n-eq0.false

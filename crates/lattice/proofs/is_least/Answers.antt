@@ -1,34 +1,19 @@
-use mathlib.Core.Path.{refl, sym, ◌∙◌}
-use lib.ListN.{length}
+use Rattle.std.proofs.Common.{rules, tests, refl, sym, ◌∙◌, length}
+use Rattle.lists.specs.Range.{implies}
+use Rattle.lists.proofs.Laws.Range.{and_taken, and_fails_left}
+use Rattle.dominance.specs.Join.{is_upper, is_least}
 use Rattle.dominance.specs.Table.{dominates}
-use Rattle.lists.proofs.Laws.Range.{tested_none, tested_more, tested_fails, tested_all}
-use Rattle.dominance.proofs.Laws.Join.{least_no_upper, least_undercut, least_every}
+use Rattle.lattice.proofs.Laws.Ranges.{all_below}
 use Rattle.lattice.proofs.is_least.Goals as goal
 
-pub returns-then-not-is_upper : goal.returns-then-not-is_upper
-returns-then-not-is_upper c =
+pub returns-then-is_upper : goal.returns-then-is_upper
+unfolding is_least
+returns-then-is_upper c =
     let g = c.args in
-    sym (least_no_upper (length g.masks.now) (dominates g.masks.now) g.a g.b g.u
-    (sym c.is_upper.ensures ∙ c.if-not-is_upper.true))
+    let dom = dominates g.masks.now in
+    and_taken _ _ _ (sym c.is_upper.ensures ∙ c.if-is_upper.true)
+    (all_below (length g.masks.now) (λ v. implies (is_upper dom g.a g.b v) (dom v g.u)) _ _ _ _ refl c.all.ensures.ran (λ x b q k. search (rules, tests)))
 
-pub loop-v-init : goal.loop-v-init
-loop-v-init c = tested_none _ _
-
-pub returns-then-undercuts : goal.returns-then-undercuts
-returns-then-undercuts c =
-    let g = c.args in
-    sym (least_undercut (length g.masks.now) (dominates g.masks.now) g.a g.b g.u
-    (sym (tested_fails _ _ c.loop-v.v _ c.loop-v-test.true refl
-    (sym c.undercuts.ensures ∙ c.if-undercuts.true))))
-
-pub loop-v-preserved : goal.loop-v-preserved
-loop-v-preserved c =
-    tested_more _ _ _ _ c.loop-v.invariant c.loop-v-test.true refl
-    (sym c.undercuts.ensures ∙ c.if-undercuts.false)
-
-pub returns : goal.returns
-returns c =
-    let g = c.args in
-    sym (least_every (length g.masks.now) (dominates g.masks.now) g.a g.b g.u
-    (sym c.is_upper.ensures ∙ c.if-not-is_upper.false)
-    (sym (tested_all _ _ _ c.loop-v.invariant c.loop-v-test.false)))
+pub returns-else-is_upper : goal.returns-else-is_upper
+unfolding is_least
+returns-else-is_upper c = c.if-is_upper.false ∙ sym (and_fails_left _ _ (sym c.is_upper.ensures ∙ c.if-is_upper.false))

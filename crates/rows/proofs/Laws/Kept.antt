@@ -11,8 +11,9 @@ use Rattle.lists.specs.Lists.{tab, rising_from}
 use Rattle.lists.proofs.Laws.Outside.{outside_none, outside_wider, outside_then}
 use Rattle.lists.specs.Changed.{inserted}
 use Rattle.rows.specs.Rows.{row_at, rows_at, key_of}
-use Rattle.rows.specs.Change.{Shifted, Stored, Room, Place, Put, Inserted}
+use Rattle.rows.specs.Change.{Room, Place, Put, Inserted}
 use Rattle.rows.proofs.Laws.Product.{row_within}
+use Rattle.rows.proofs.Laws.Moves.{Shifted, Stored}
 use Rattle.rows.proofs.Laws.Insert.{inserted-length, full_last, full_before, rising_inserted}
 use Rattle.rows.proofs.Laws.Rows.{row_key, rows_length, rows_key, rows_more, rising_fewer, rising_keys, put_rows}
 

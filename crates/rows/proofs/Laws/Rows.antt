@@ -15,8 +15,9 @@ use Rattle.lists.proofs.Laws.Rising.{rising_le, rising_lower, rising_tail}
 use Rattle.lists.specs.Changed.{inserted}
 use Rattle.lists.proofs.Laws.Each.{inserted-map, take-map}
 use Rattle.rows.specs.Rows.{row_at, rows_at, key_of, Rising}
-use Rattle.rows.specs.Change.{Shifted, Stored, Place, Inserted}
+use Rattle.rows.specs.Change.{Place, Inserted}
 use Rattle.rows.proofs.Laws.Product.{row_within}
+use Rattle.rows.proofs.Laws.Moves.{Shifted, Stored}
 use Rattle.rows.proofs.Laws.Insert.{inserted-tab, rising_take}
 
 -- a row's key is its first word

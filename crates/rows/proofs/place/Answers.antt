@@ -1,6 +1,4 @@
-use Prim.Native.Nat.{◌-◌}
-use native.Mathlib.Nat.{le_trans}
-use native.Mathlib.Omega.{arith}
+use Rattle.std.proofs.Common.{◌≡◌, ◌+◌, ◌-◌, le_trans, arith}
 use Rattle.rows.proofs.Laws.Rows.{rising_keys}
 use Rattle.rows.proofs.place.Goals as goal
 
@@ -9,9 +7,9 @@ returns-then-words-base c =
     let g = c.args in
     let at = c.loop-i in
     record {
-      within = at.invariant.0;
+      within = omega arith;
       before = λ j h.
           le_trans (rising_keys g.words.now g.base g.width c.requires.0 g.count c.requires.2 j (at.i - 1) (omega arith) (omega arith))
           c.if-words-base.true;
-      after = at.invariant.1;
+      after = λ h. let z : at.i - 1 + 1 ≡ at.i = omega arith in rw z (at.invariant (omega arith));
     }
