@@ -50,7 +50,7 @@ pub fn count_kinds(session: &[u8]) -> Layout
 }
 
 // The rest of question 2: whether there is a level, an object, and exactly one root message.
-#[tactic(auto, using(session::proofs::Laws::Parts::question2_is, session::proofs::Laws::Parts::below_5))]
+#[tactic(auto, using(session::proofs::Laws::Parts::question2_is))]
 pub fn are_present(session: &[u8], levels: usize, objects: usize, steps: usize) -> bool
     requires session_value { kinds_rise session.now ≡ true }
     requires counted { Counted session.now levels objects steps }

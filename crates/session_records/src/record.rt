@@ -33,6 +33,7 @@ const WITHDRAW: u8 = 9;
 pub const KEY_OBJECT: usize = 1 << 8;
 
 // The records of a session, in their order. Bytes that are left over belong to none.
+#[tactic(auto, using(crate::proofs::Laws::Kinds::chunks_are))]
 pub fn records(session: &[u8]) -> &[[u8; RECORD_BYTES]]
     ensures { result.now ≡ records_of session.now }
 {
@@ -40,6 +41,7 @@ pub fn records(session: &[u8]) -> &[[u8; RECORD_BYTES]]
 }
 
 // Byte `k` of record `r`.
+#[tactic(auto, using(session::proofs::Laws::Record::byte_is))]
 pub fn byte_at(session: &[u8], r: usize, k: usize) -> u8
     requires { (r < record_count session.now) × (k < record_bytes) }
     ensures { result ≡ byte_of (record_at session.now r) k }
@@ -95,6 +97,7 @@ pub fn are_unused(session: &[u8], r: usize, first: u64, second: u64) -> bool
 }
 
 // The script step that record `r` is.
+#[tactic(auto, unfolding(session::specs::Record::step_of))]
 pub fn step_in(session: &[u8], r: usize) -> Step
     requires { r < record_count session.now }
     ensures { result ≡ step_of (record_at session.now r) }
