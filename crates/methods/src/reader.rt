@@ -1,8 +1,8 @@
 // Reads the records of a session in their order. "A record is 16 bytes at 16 times its number".
 //
-// A function over a struct that holds a slice is proved by hand. So each one here is kept thin:
-// `record::key_at` does the work. No function here can change a byte. `falls_after` has plain parameters,
-// so its callers need no proof by hand.
+// A reader holds the lent bytes and the number of a record. Each function over it is thin: `record::key_at` does
+// the work. No function here can change a byte. `falls_after` has plain parameters, so its callers know nothing of
+// the reader.
 ghost use Rattle.std.specs.Prelude.{◌≡◌, ◌+◌, ◌≤◌, ◌<◌, ltb};
 ghost use Rattle.session.specs.Record.{record_at, record_count};
 ghost use Rattle.session.specs.Parts.{key_of};

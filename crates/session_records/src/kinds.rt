@@ -17,38 +17,21 @@ const STEP_RECORD: u8 = 3;
 
 const ROOT_RECORD: u8 = 4;
 
-// Whether kinds are 1 to 4 and never falling. Where they never fall the last bounds all.
+// Whether kinds are 1 to 4 and never falling.
 pub fn kinds_rise(session: &[u8]) -> bool
     ensures { result ≡ kinds_rise session.now }
 {
-    let mut low = LEVEL_RECORD;
-    for r in 0..session.len() / RECORD_BYTES {
-        let kind = record::byte_at(session, r, places::KIND);
-        if kind < low {
-            return false;
-        }
-        low = kind;
-    }
-    low <= ROOT_RECORD
+    let records = record::records(session);
+    records.iter().all(|record| (LEVEL_RECORD..=ROOT_RECORD).contains(&record[places::KIND]))
+        && records.is_sorted_by_key(|record| record[places::KIND])
 }
 
-// How many records have a kind below `kind`, at least `start` of them. They stand first.
-fn count_below(session: &[u8], start: usize, kind: u8) -> usize
-    requires session_value { kinds_rise session.now ≡ true }
-    requires start_bound { start ≤ count_below kind_of kind (records_of session.now) }
+// How many records have a kind below `kind`. They stand first.
+fn count_below(session: &[u8], kind: u8) -> usize
+    requires { kinds_rise session.now ≡ true }
     ensures { result ≡ count_below kind_of kind (records_of session.now) }
 {
-    let mut low = start;
-    let mut high = session.len() / RECORD_BYTES;
-    while low < high {
-        let middle = low + (high - low) / 2;
-        if record::byte_at(session, middle, places::KIND) < kind {
-            low = middle + 1;
-        } else {
-            high = middle;
-        }
-    }
-    low
+    record::records(session).partition_point(|record| record[places::KIND] < kind)
 }
 
 // How many levels, objects and steps there are, of a session whose kinds never fall.
@@ -56,9 +39,9 @@ pub fn count_kinds(session: &[u8]) -> Layout
     requires { kinds_rise session.now ≡ true }
     ensures { Counted session.now result.levels result.objects result.steps }
 {
-    let objects = count_below(session, 0, OBJECT_RECORD);
-    let steps = count_below(session, objects, STEP_RECORD);
-    let root = count_below(session, steps, ROOT_RECORD);
+    let objects = count_below(session, OBJECT_RECORD);
+    let steps = count_below(session, STEP_RECORD);
+    let root = count_below(session, ROOT_RECORD);
     Layout {
         levels: objects,
         objects: steps - objects,
@@ -67,16 +50,11 @@ pub fn count_kinds(session: &[u8]) -> Layout
 }
 
 // The rest of question 2: whether there is a level, an object, and exactly one root message.
+#[tactic(auto, using(session::proofs::Laws::Parts::question2_is))]
 pub fn are_present(session: &[u8], levels: usize, objects: usize, steps: usize) -> bool
     requires session_value { kinds_rise session.now ≡ true }
     requires counted { Counted session.now levels objects steps }
     ensures { result ≡ question2 session.now }
 {
-    if levels < 1 {
-        return false;
-    }
-    if objects < 1 {
-        return false;
-    }
-    levels + objects + steps + 1 == session.len() / RECORD_BYTES
+    levels >= 1 && objects >= 1 && levels + objects + steps + 1 == session.len() / RECORD_BYTES
 }

@@ -1,8 +1,8 @@
 // One record of a session: its bytes, its words, its (object, name), the test that unused bytes are 0,
 // and its step.
-ghost use Rattle.std.specs.Prelude.{◌≡◌, ◌+◌, ◌≤◌, ◌<◌};
+ghost use Rattle.std.specs.Prelude.{ℕ, ◌≡◌, ◌+◌, ◌≤◌, ◌<◌, get_or};
 ghost use Rattle.session.specs.Limits.{record_bytes};
-ghost use Rattle.session.specs.Record.{record_at, record_count, byte_of, word_of, step_of};
+ghost use Rattle.session.specs.Record.{record_at, record_count, records_of, byte_of, word_of, step_of};
 ghost use Rattle.session_records.specs.Words.{long_bytes, long_of, SaysUnused};
 ghost use Rattle.session.specs.Parts.{key_of};
 
@@ -29,27 +29,19 @@ const CREATE: u8 = 8;
 
 const WITHDRAW: u8 = 9;
 
-// "Numbers are little-endian": what the second, third and fourth byte of a number are worth.
-const SECOND: u32 = 1 << 8;
-
-const THIRD: u32 = 1 << 16;
-
-const FOURTH: u32 = 1 << 24;
-
-// And the second half of a 64-bit word.
-const HIGH_WORD: u64 = 1 << 32;
-
 // What a step's object is worth in the number that stands for (object, name).
 pub const KEY_OBJECT: usize = 1 << 8;
 
-// A byte as a 32-bit number.
-fn wide(b: u8) -> u32
-    ensures { result ≡ b }
+// The records of a session, in their order. Bytes that are left over belong to none.
+#[tactic(auto, using(crate::proofs::Laws::Kinds::chunks_are))]
+pub fn records(session: &[u8]) -> &[[u8; RECORD_BYTES]]
+    ensures { result.now ≡ records_of session.now }
 {
-    b as u32
+    session.as_chunks().0
 }
 
 // Byte `k` of record `r`.
+#[tactic(auto, using(session::proofs::Laws::Record::byte_is))]
 pub fn byte_at(session: &[u8], r: usize, k: usize) -> u8
     requires { (r < record_count session.now) × (k < record_bytes) }
     ensures { result ≡ byte_of (record_at session.now r) k }
@@ -67,33 +59,31 @@ pub fn key_at(session: &[u8], r: usize) -> usize
     KEY_OBJECT * object + name
 }
 
-// The 32-bit number in the bytes from `k` on of record `r`.
+// So many bytes of record `r`, from `k` on.
+fn bytes_at<const N: usize>(session: &[u8], r: usize, k: usize) -> [u8; N]
+    requires { (r < record_count session.now) × (k + N ≤ record_bytes) }
+    ensures { (i : ℕ) → i < N → get_or result i 0 ≡ byte_of (record_at session.now r) (k + i) }
+{
+    let at = RECORD_BYTES * r + k;
+    session[at..at + N].try_into().unwrap()
+}
+
+// The 32-bit number in the bytes from `k` on of record `r`. "Numbers are little-endian".
+#[tactic(auto, using(crate::proofs::Laws::Words::word_read))]
 pub fn word_at(session: &[u8], r: usize, k: usize) -> u32
     requires { (r < record_count session.now) × (k + 4 ≤ record_bytes) }
     ensures { result ≡ word_of (record_at session.now r) k }
 {
-    let b0 = wide(byte_at(session, r, k));
-    let b1 = wide(byte_at(session, r, k + 1));
-    let b2 = wide(byte_at(session, r, k + 2));
-    let b3 = wide(byte_at(session, r, k + 3));
-    b0 + SECOND * b1 + THIRD * b2 + FOURTH * b3
-}
-
-// A word of 32 bits as one of 64.
-fn long(w: u32) -> u64
-    ensures { result ≡ w }
-{
-    w as u64
+    u32::from_le_bytes(bytes_at(session, r, k))
 }
 
 // The 64-bit word in the bytes from `k` on of record `r`.
+#[tactic(auto, using(crate::proofs::Laws::Words::long_read))]
 fn long_at(session: &[u8], r: usize, k: usize) -> u64
     requires { (r < record_count session.now) × (k + long_bytes ≤ record_bytes) }
     ensures { result ≡ long_of (record_at session.now r) k }
 {
-    let low = long(word_at(session, r, k));
-    let high = long(word_at(session, r, k + places::WORD_BYTES));
-    low + HIGH_WORD * high
+    u64::from_le_bytes(bytes_at(session, r, k))
 }
 
 // Whether the chosen bytes of record `r` are 0. The choice is given as masks of its two 64-bit words: each
@@ -102,13 +92,12 @@ pub fn are_unused(session: &[u8], r: usize, first: u64, second: u64) -> bool
     requires { r < record_count session.now }
     ensures { SaysUnused (record_at session.now r) first second result }
 {
-    if long_at(session, r, places::FIRST_LONG) & first != 0 {
-        return false;
-    }
-    long_at(session, r, places::SECOND_LONG) & second == 0
+    long_at(session, r, places::FIRST_LONG) & first == 0
+        && long_at(session, r, places::SECOND_LONG) & second == 0
 }
 
 // The script step that record `r` is.
+#[tactic(auto, unfolding(session::specs::Record::step_of))]
 pub fn step_in(session: &[u8], r: usize) -> Step
     requires { r < record_count session.now }
     ensures { result ≡ step_of (record_at session.now r) }

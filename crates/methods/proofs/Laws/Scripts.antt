@@ -10,6 +10,8 @@ use borrow.Author.Tests.{leb-true, le-leb, ltb-true, lt-ltb, eqb-true, eqb-false
 use lib.Arith.{lt_of_le-ne}
 use lib.Dec.{eqb, leb, ltb}
 use lib.ListN.{length, get_or}
+use Rattle.std.proofs.Common.{Option, Some, None}
+use Rattle.std.specs.Option.{MatchOption, unwrap_or}
 use Rattle.lists.specs.Range.{all, first}
 use Rattle.lists.proofs.Laws.Range.{and_left, and_right, and_both, refuted, not_both, all_each, all-every, first_le, first_passes, first_before, first_at_lem, first_none}
 use Rattle.session.specs.Limits.{max_method}
@@ -34,7 +36,7 @@ module _ (s : List ℕ) (r e : ℕ) (h : r < e) where
   not_other : (i : ℕ) → key_at s (suc r + i) ≡ key_at s r → other i ≡ false
   not_other i q = ap not (eq-eqb (key_at s (suc r + i)) (key_at s r) q)
 
-  pub end_at : (i : ℕ) → suc r ≤ i → i < e → (key_at s i ≡ key_at s r → ⊥) → ((j : ℕ) → suc r ≤ j → j < i → key_at s j ≡ key_at s r) → i ≡ method_end s r e
+  end_at : (i : ℕ) → suc r ≤ i → i < e → (key_at s i ≡ key_at s r → ⊥) → ((j : ℕ) → suc r ≤ j → j < i → key_at s j ≡ key_at s r) → i ≡ method_end s r e
   unfolding method_end
   end_at i l m n f =
       let z : suc r + (i - suc r) ≡ i = omega arith in
@@ -43,12 +45,19 @@ module _ (s : List ℕ) (r e : ℕ) (h : r < e) where
       (λ k g. not_other k (f (suc r + k) (omega arith) (omega arith))) in
       omega arith
 
-  pub end_none : ((j : ℕ) → suc r ≤ j → j < e → key_at s j ≡ key_at s r) → e ≡ method_end s r e
+  end_none : ((j : ℕ) → suc r ≤ j → j < e → key_at s j ≡ key_at s r) → e ≡ method_end s r e
   unfolding method_end
   end_none f =
       let found : first (e - suc r) other ≡ e - suc r =
       first_none (e - suc r) other (λ k g. not_other k (f (suc r + k) (omega arith) (omega arith))) in
       omega arith
+
+  -- so what the search finds is the end, or e where it finds none
+  pub end_found : (found : Option ℕ)
+      → MatchOption found ((k : ℕ) → r + 1 ≤ k → k < e → key_at s k ≡ key_at s r) (λ i. (r + 1 ≤ i) × (i < e) × (key_at s i ≡ key_at s r → ⊥) × ((k : ℕ) → r + 1 ≤ k → k < i → key_at s k ≡ key_at s r))
+      → unwrap_or found e ≡ method_end s r e
+  end_found None f = end_none (λ j l m. f j (omega arith) m)
+  end_found (Some i) f = end_at i (omega (arith, f.0)) f.1 f.2 (λ j l m. f.3 j (omega arith) m)
 
   pub end_after : r < method_end s r e
   unfolding method_end

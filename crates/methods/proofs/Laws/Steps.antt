@@ -1,6 +1,6 @@
 -- The steps of one method: valid where the first one's object and name are, and the rest of each. Assumes nothing.
 use Prim.Native.Nat.{ℕ, ◌+◌, ◌^◌, ◌<◌}
-use mathlib.Core.Path.{◌≡◌, ◌∙◌, ap, ap₂}
+use mathlib.Core.Path.{◌≡◌, sym, ◌∙◌, ap, ap₂}
 use mathlib.Core.Bool.{true, false, ◌&&◌}
 use mathlib.Core.List.{List}
 use native.Mathlib.Omega.{arith}
@@ -8,6 +8,7 @@ use lib.Dec.{ltb}
 use lib.ListN.{get_or}
 use Rattle.lists.specs.Range.{all}
 use Rattle.lists.proofs.Laws.Range.{and_both, and_fails_left, and_fails_right, all_each, all-every, all_fails, all_refuted}
+use Rattle.lists.proofs.Laws.Lists.{holds, fails, truth}
 use Rattle.session.specs.Limits.{names}
 use Rattle.session.specs.Record.{record_at, object_of, name_of}
 use Rattle.session.specs.Questions.{step_valid}
@@ -33,12 +34,12 @@ module _ (s : List ℕ) (start count levels objects : ℕ) (small : (i : ℕ) �
   pub method_unnamed : is_named objects (record_at s start) ≡ false → all count (λ i. step_valid levels objects count (record_at s (start + i))) ≡ false
   method_unnamed e = all_fails count _ 0 one.some (step_parts 0 one.some ∙ and_fails_left _ _ e)
 
-  pub method_unfit : all count (λ i. is_fit levels objects count (record_at s (start + i))) ≡ false → all count (λ i. step_valid levels objects count (record_at s (start + i))) ≡ false
-  method_unfit e =
-      let q = all_refuted count (λ i. is_fit levels objects count (record_at s (start + i))) e in
-      all_fails count _ q.at q.below (step_parts q.at q.below ∙ and_fails_right (is_named objects (record_at s start)) _ q.refuted_at)
-
-  pub method_fits : is_named objects (record_at s start) ≡ true → all count (λ i. is_fit levels objects count (record_at s (start + i))) ≡ true
-      → all count (λ i. step_valid levels objects count (record_at s (start + i))) ≡ true
-  method_fits e f =
-      all-every count _ λ i h. step_parts i h ∙ and_both _ _ e (all_each count (λ i. is_fit levels objects count (record_at s (start + i))) f i h)
+  pub method_named : is_named objects (record_at s start) ≡ true
+      → all count (λ i. is_fit levels objects count (record_at s (start + i))) ≡ all count (λ i. step_valid levels objects count (record_at s (start + i)))
+  method_named e = elim (truth (all count (λ i. is_fit levels objects count (record_at s (start + i))))) [
+    | holds t ↦
+        t ∙ sym (all-every count _ λ i h. step_parts i h ∙ and_both _ _ e (all_each count (λ i. is_fit levels objects count (record_at s (start + i))) t i h))
+    | fails f ↦
+        let q = all_refuted count (λ i. is_fit levels objects count (record_at s (start + i))) f in
+        f ∙ sym (all_fails count _ q.at q.below (step_parts q.at q.below ∙ and_fails_right (is_named objects (record_at s start)) _ q.refuted_at))
+  ]

@@ -1,13 +1,15 @@
 -- Laws of a record's two words: chosen bytes are 0 exactly where the words are, and masks make the other bytes 0. Assumes nothing.
 use Prim.Native.Nat.{ℕ, zero, suc, ◌+◌, ◌*◌, ◌^◌, ◌≤◌, ◌<◌}
 use mathlib.Core.Path.{◌≡◌, refl, sym, ◌∙◌, ap, ap₂}
-use mathlib.Core.Bool.{Bool, true, false, cond, ◌&&◌}
+use mathlib.Core.Bool.{Bool, true, cond, ◌&&◌}
 use mathlib.Core.List.{List}
 use native.Mathlib.Omega.{arith}
 use native.Mathlib.Nat.{mod-eq_of_lt}
 use native.Mathlib.Decide.{dec_lt}
 use borrow.Author.Tests.{eqb-true, eq-eqb, ne_eqb}
 use lib.Dec.{eqb}
+use Rattle.std.specs.Int.{w32, w64, from_le_bytes}
+use Rattle.std.proofs.Math.Nat.{add-zero}
 use lib.Bits.{bit_and, and_block, and_mask, and_zero_r}
 use lib.ListN.{length, get_or, get_or-replicate, length-take, get_or-eq_default}
 use Rattle.lists.specs.Range.{implies}
@@ -120,8 +122,8 @@ module _ (rec : Record) (first second : ℕ) (small : (j : ℕ) → byte_of rec 
   both_masked chosen m =
       rw (m.first_is, m.second_is, masked chosen rec small first_long (omega arith), masked chosen rec small second_long (omega arith)) (words_zero chosen rec)
 
-  pub first_used : (bit_and (long_of rec first_long) first ≡ 0 → ⊥) → SaysUnused rec first second false
-  first_used n chosen m = rw (ne_eqb (bit_and (long_of rec first_long) first) 0 n) at (both_masked chosen m)
+  pub first_says : (bit_and (long_of rec first_long) first ≡ 0 → ⊥) → SaysUnused rec first second (eqb (bit_and (long_of rec first_long) first) 0)
+  first_says n chosen m = let e = ne_eqb (bit_and (long_of rec first_long) first) 0 n in e ∙ (rw e at (both_masked chosen m))
 
   pub second_says : bit_and (long_of rec first_long) first ≡ 0 → SaysUnused rec first second (eqb (bit_and (long_of rec second_long) second) 0)
   second_says e chosen m = rw (eq-eqb (bit_and (long_of rec first_long) first) 0 e) at (both_masked chosen m)
@@ -137,18 +139,24 @@ record_small s r f j = elim (dec_lt j record_bytes) [
   | no l ↦ rw (get_or-eq_default (record_at s r) 0 (record_end s r j l)) (omega arith)
 ]
 
--- a 64-bit word is two of 32 bits
-pub long_words : (rec : Record) (k : ℕ) → word_of rec k + 2 ^ 32 * word_of rec (k + 4) ≡ long_of rec k
-unfolding word_of joined_from
-long_words rec k =
-    let at : (i j : ℕ) → i ≡ j → byte_of rec i ≡ byte_of rec j = λ i j e. ap (byte_of rec) e in
-    omega (
-      arith,
-      at (k + 1) (suc k) (omega arith),
-      at (k + 2) (suc (suc k)) (omega arith),
-      at (k + 3) (suc (suc (suc k))) (omega arith),
-      at (k + 4) (suc (suc (suc (suc k)))) (omega arith),
-      at (k + 4 + 1) (suc (suc (suc (suc (suc k))))) (omega arith),
-      at (k + 4 + 2) (suc (suc (suc (suc (suc (suc k)))))) (omega arith),
-      at (k + 4 + 3) (suc (suc (suc (suc (suc (suc (suc k))))))) (omega arith),
-    )
+-- bytes read in their order make the 32-bit number and the 64-bit word
+module _ (bytes : List ℕ) (rec : Record) (k : ℕ) where
+  pub word_read : ((i : ℕ) → i < 4 → get_or bytes i 0 ≡ byte_of rec (k + i)) → from_le_bytes w32 bytes ≡ word_of rec k
+  unfolding word_of
+  word_read f = omega (arith, f 0 (omega arith), f 1 (omega arith), f 2 (omega arith), f 3 (omega arith), ap (byte_of rec) (add-zero k))
+
+  pub long_read : ((i : ℕ) → i < long_bytes → get_or bytes i 0 ≡ byte_of rec (k + i)) → from_le_bytes w64 bytes ≡ long_of rec k
+  unfolding joined_from
+  long_read f =
+      let at : (i j : ℕ) → i < long_bytes → k + i ≡ j → get_or bytes i 0 ≡ byte_of rec j = λ i j h e. f i h ∙ ap (byte_of rec) e in
+      omega (
+        arith,
+        at 0 k (omega arith) (omega arith),
+        at 1 (suc k) (omega arith) (omega arith),
+        at 2 (suc (suc k)) (omega arith) (omega arith),
+        at 3 (suc (suc (suc k))) (omega arith) (omega arith),
+        at 4 (suc (suc (suc (suc k)))) (omega arith) (omega arith),
+        at 5 (suc (suc (suc (suc (suc k))))) (omega arith) (omega arith),
+        at 6 (suc (suc (suc (suc (suc (suc k)))))) (omega arith) (omega arith),
+        at 7 (suc (suc (suc (suc (suc (suc (suc k))))))) (omega arith) (omega arith),
+      )

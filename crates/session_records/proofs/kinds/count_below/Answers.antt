@@ -1,25 +1,17 @@
-use Prim.Native.Nat.{◌≤◌, ◌<◌, ◌+◌, ◌-◌, ◌/◌}
-use native.Mathlib.Omega.{arith}
-use Rattle.session.specs.Record.{record_at, kind_of}
-use Rattle.session.proofs.Laws.Parts.{below_le, kind_below, kind_above}
+use Rattle.std.proofs.Common.{rules, ◌≡◌, true}
+use lib.Dec.{ltb}
+use Rattle.std.proofs.lemmas.List.Sorted.{IsPartitionPoint-from_clause, IsPartitionedBy-ltb}
+use Rattle.lists.specs.Lists.{rising_from}
+use Rattle.lists.proofs.Laws.Rising.{rising_le}
+use Rattle.session.specs.Record.{kind_of}
+use Rattle.session.proofs.Laws.Parts.{kinds_rising}
+use Rattle.session_records.proofs.Laws.Kinds.{point_is}
 use Rattle.session_records.proofs.kinds.count_below.Goals as goal
 
-pub loop-low-init : goal.loop-low-init
-loop-low-init c =
-    (c.requires.start_bound, below_le c.args.session.now c.args.kind, omega arith)
-
-pub loop-low-preserved-then-byte_at-kind : goal.loop-low-preserved-then-byte_at-kind
-loop-low-preserved-then-byte_at-kind c =
-    let at = c.loop-low in
-    let middle = at.low + (at.high - at.low) / 2 in
-    let less : kind_of (record_at c.args.session.now middle) < c.args.kind = rw c.byte_at.ensures at c.if-byte_at-kind.true in
-    let more = kind_below c.args.session.now c.requires.session_value c.args.kind middle (omega arith) less in
-    (omega arith, at.invariant.1, at.invariant.2)
-
-pub loop-low-preserved : goal.loop-low-preserved
-loop-low-preserved c =
-    let at = c.loop-low in
-    let middle = at.low + (at.high - at.low) / 2 in
-    let above : c.args.kind ≤ kind_of (record_at c.args.session.now middle) = rw c.byte_at.ensures at c.if-byte_at-kind.false in
-    let most = kind_above c.args.session.now c.requires.session_value c.args.kind middle (omega arith) above in
-    (at.invariant.0, most, omega arith)
+pub returns : goal.returns
+returns c =
+    let xs = c.records.result.now in
+    let rising : rising_from kind_of 0 xs ≡ true = rw c.records.ensures (kinds_rising c.args.session.now c.requires) in
+    let point = IsPartitionPoint-from_clause (λ rec. ltb (kind_of rec) c.args.kind) xs c.partition_point.result c.partition_point.ensures.partitioned
+    (IsPartitionedBy-ltb kind_of xs c.args.kind (λ i j d l h. rising_le kind_of d 0 xs rising i j l h)) (λ a r f' k. search rules) in
+    rw (← c.records.ensures) (point_is xs c.args.kind c.partition_point.result rising c.partition_point.ensures.bound point.0 point.1)

@@ -5,16 +5,6 @@ use Rattle.session.specs.Parts.{level_count, object_count, step_count}
 use Rattle.session.proofs.Laws.Parts.{below_2, below_3, below_4}
 use Rattle.session_records.proofs.kinds.count_kinds.Goals as goal
 
-pub count_below-steps-requires : goal.count_below-steps-requires
-count_below-steps-requires c =
-    let t = c.args.session.now in
-    record { session_value = c.requires; start_bound = omega (arith, c.count_below-objects.ensures, below_2 t c.requires, below_3 t c.requires) }
-
-pub count_below-root-requires : goal.count_below-root-requires
-count_below-root-requires c =
-    let t = c.args.session.now in
-    record { session_value = c.requires; start_bound = omega (arith, c.count_below-steps.ensures, below_3 t c.requires, below_4 t c.requires) }
-
 pub overflow_sub-result : goal.overflow_sub-result
 overflow_sub-result c =
     let t = c.args.session.now in

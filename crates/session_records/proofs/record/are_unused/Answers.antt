@@ -1,17 +1,18 @@
 use native.Mathlib.Omega.{arith}
 use Rattle.session.specs.Record.{record_at}
-use Rattle.session_records.proofs.Laws.Words.{record_small, first_used, second_says}
+use Rattle.session_records.proofs.Laws.Words.{record_small, first_says, second_says}
 use Rattle.session_records.proofs.record.are_unused.Goals as goal
 
-pub returns-then-long_at-first-ne0 : goal.returns-then-long_at-first-ne0
-returns-then-long_at-first-ne0 c =
-    first_used (record_at c.args.session.now c.args.r) c.args.first c.args.second
-    (record_small c.args.session.now c.args.r (λ i. omega (arith, c.shared_slice_known-1.given i)))
-    (rw c.long_at.ensures at c.if-long_at-first-ne0.true)
-
-pub returns : goal.returns
-returns c =
-    rw c.long_at-2.ensures
+pub returns-then-long_at-first-eq0 : goal.returns-then-long_at-first-eq0
+returns-then-long_at-first-eq0 c =
+    rw c.long_at-then-long_at-first-eq0.ensures
     (second_says (record_at c.args.session.now c.args.r) c.args.first c.args.second
-    (record_small c.args.session.now c.args.r (λ i. omega (arith, c.shared_slice_known-1.given i)))
-    (rw c.long_at.ensures at c.if-long_at-first-ne0.false))
+    (record_small c.args.session.now c.args.r (λ i. omega (arith, c.type_inv.session i)))
+    (rw c.long_at.ensures at c.if-long_at-first-eq0.true))
+
+pub returns-else-long_at-first-eq0 : goal.returns-else-long_at-first-eq0
+returns-else-long_at-first-eq0 c =
+    rw c.long_at.ensures
+    (first_says (record_at c.args.session.now c.args.r) c.args.first c.args.second
+    (record_small c.args.session.now c.args.r (λ i. omega (arith, c.type_inv.session i)))
+    (rw c.long_at.ensures at c.if-long_at-first-eq0.false))
