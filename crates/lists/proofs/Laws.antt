@@ -9,3 +9,4 @@ pub mod Changed
 pub mod Each
 pub mod Outside
 pub mod Placed
+pub mod Ranges

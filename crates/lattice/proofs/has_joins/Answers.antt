@@ -1,7 +1,7 @@
 use Rattle.std.proofs.Common.{rules, tests, refl, ◌∙◌, length, not, eqb}
 use Rattle.lists.specs.Range.{all}
 use Rattle.dominance.specs.Table.{join_of}
-use Rattle.lattice.proofs.Laws.Ranges.{all_below}
+use Rattle.lists.proofs.Laws.Ranges.{all_below}
 use Rattle.lattice.proofs.Laws.Tables.{joined_once}
 use Rattle.lattice.proofs.has_joins.Goals as goal
 

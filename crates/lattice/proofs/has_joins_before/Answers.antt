@@ -1,6 +1,6 @@
 use Rattle.std.proofs.Common.{rules, tests, refl, length, not, eqb}
 use Rattle.dominance.specs.Table.{join_of}
-use Rattle.lattice.proofs.Laws.Ranges.{all_below}
+use Rattle.lists.proofs.Laws.Ranges.{all_below}
 use Rattle.lattice.proofs.has_joins_before.Goals as goal
 
 pub returns : goal.returns

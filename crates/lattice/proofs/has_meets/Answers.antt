@@ -1,7 +1,7 @@
 use Rattle.std.proofs.Common.{rules, tests, refl, sym, ◌∙◌, length, eq-eqb}
 use Rattle.dominance.specs.Meet.{is_lowest}
 use Rattle.dominance.specs.Table.{dominates}
-use Rattle.lattice.proofs.Laws.Ranges.{any_below}
+use Rattle.lists.proofs.Laws.Ranges.{any_below}
 use Rattle.lattice.proofs.Laws.Tables.{met_where_any, met_of_none}
 use Rattle.lattice.proofs.has_meets.Goals as goal
 

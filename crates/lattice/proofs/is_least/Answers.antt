@@ -3,7 +3,7 @@ use Rattle.lists.specs.Range.{implies}
 use Rattle.lists.proofs.Laws.Range.{and_taken, and_fails_left}
 use Rattle.dominance.specs.Join.{is_upper, is_least}
 use Rattle.dominance.specs.Table.{dominates}
-use Rattle.lattice.proofs.Laws.Ranges.{all_below}
+use Rattle.lists.proofs.Laws.Ranges.{all_below}
 use Rattle.lattice.proofs.is_least.Goals as goal
 
 pub returns-then-is_upper : goal.returns-then-is_upper

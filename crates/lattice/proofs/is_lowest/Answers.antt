@@ -1,7 +1,7 @@
 use Rattle.std.proofs.Common.{rules, tests, refl, length}
 use Rattle.dominance.specs.Meet.{is_lowest}
 use Rattle.dominance.specs.Table.{dominates}
-use Rattle.lattice.proofs.Laws.Ranges.{all_below}
+use Rattle.lists.proofs.Laws.Ranges.{all_below}
 use Rattle.lattice.proofs.is_lowest.Goals as goal
 
 pub returns : goal.returns

@@ -1,6 +1,6 @@
 use Rattle.std.proofs.Common.{rules, tests, refl, not, ◌&&◌}
 use Rattle.dominance.specs.Table.{dominates}
-use Rattle.lattice.proofs.Laws.Ranges.{all_below}
+use Rattle.lists.proofs.Laws.Ranges.{all_below}
 use Rattle.lattice.proofs.is_mutual_with_none.Goals as goal
 
 pub returns : goal.returns

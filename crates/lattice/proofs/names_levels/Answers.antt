@@ -4,7 +4,7 @@ use Rattle.std.proofs.lemmas.Iterator.Search.{all_from_yields_List}
 use Rattle.lists.proofs.Laws.Range.{and_taken, and_fails_left}
 use Rattle.dominance.specs.Order.{reflexive}
 use Rattle.dominance.specs.Table.{dominates, names_present}
-use Rattle.lattice.proofs.Laws.Ranges.{all_items, all_below}
+use Rattle.lists.proofs.Laws.Ranges.{all_items, all_below}
 use Rattle.lattice.proofs.names_levels.Goals as goal
 
 pub returns-then-all : goal.returns-then-all

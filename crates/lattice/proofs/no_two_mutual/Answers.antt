@@ -1,7 +1,7 @@
 use Rattle.std.proofs.Common.{rules, tests, refl, ◌∙◌, length, not, ◌&&◌}
 use Rattle.lists.specs.Range.{all}
 use Rattle.dominance.specs.Table.{dominates}
-use Rattle.lattice.proofs.Laws.Ranges.{all_below}
+use Rattle.lists.proofs.Laws.Ranges.{all_below}
 use Rattle.lattice.proofs.Laws.Tables.{antisymmetric_once}
 use Rattle.lattice.proofs.no_two_mutual.Goals as goal
 

@@ -1,50 +1,38 @@
 -- Laws of questions 12 to 15 as they are put of what is counted. Assumes nothing.
 use Prim.Native.Nat.{ℕ, ◌+◌, ◌≤◌, ◌<◌}
-use mathlib.Core.Path.{◌≡◌, sym}
-use mathlib.Core.Bool.{Bool, true, false, not, ◌&&◌, or-true, and-false}
+use mathlib.Core.Path.{◌≡◌, refl, sym, ◌∙◌, ap}
+use mathlib.Core.Bool.{Bool, true, false, not, ◌&&◌, or-true}
 use mathlib.Core.List.{List}
 use native.Mathlib.Omega.{arith}
-use borrow.Author.Tests.{lt-ltb, le-ltb, eq-eqb, ne_eqb}
+use borrow.Author.Tests.{lt-ltb, le-ltb}
+use lib.Dec.{eqb}
 use lib.ListN.{length, get_or}
 use Rattle.lists.specs.Range.{all, implies}
 use Rattle.dominance.specs.Order.{strictly}
 use Rattle.dominance.specs.Table.{dominates}
-use Rattle.lists.proofs.Laws.Range.{all_fails}
 use Rattle.model.specs.Limits.{stamp_digits}
 use Rattle.model.specs.Schedule.{holds_back}
 use Rattle.queues.specs.Queue.{fork_at, There}
 use Rattle.queues.proofs.Laws.Queue.{depth_any}
 use Rattle.tallies.specs.Places.{waiting_place, busy_in, managed}
-use Rattle.permits.specs.Permits.{lowest_of, first_at, free_of, permit_of, Askable}
+use Rattle.permits.specs.Permits.{first_at, free_of, permit_of, Askable}
 use Rattle.permits.specs.declared.Permit.TheVariants.{Given, Absent, Idle, Blocked}
 
 -- at level j nothing stands against the conservative rule for level l
 abbrev pub passes : List ℕ → List ℕ → ℕ → ℕ → Bool
 passes masks tallies l j = implies (strictly (dominates masks) l j) (not (managed tallies j))
 
-module _ (masks tallies : List ℕ) (l j : ℕ) where
-  -- why so: j is l itself, or has no manager, or is not dominated
-  pub passes_itself : j ≡ l → passes masks tallies l j ≡ true
-  passes_itself e = rw (eq-eqb l j (sym e), and-false)
+-- as the code tests it
+passes_by : (same has over : Bool) → not (not same && has && over) ≡ implies (over && not same) (not has)
+passes_by true has true = refl
+passes_by true has false = refl
+passes_by false true true = refl
+passes_by false true false = refl
+passes_by false false true = refl
+passes_by false false false = refl
 
-  pub passes_ended : managed tallies j ≡ false → passes masks tallies l j ≡ true
-  passes_ended e = rw (e, or-true)
-
-  pub passes_apart : dominates masks l j ≡ false → passes masks tallies l j ≡ true
-  passes_apart e = rw e
-
-  -- otherwise the rule does not allow a step
-  pub stops : j < length masks → (j ≡ l → ⊥) → managed tallies j ≡ true → dominates masks l j ≡ true → lowest_of masks tallies l ≡ false
-  stops h f e d =
-      let z = all_fails (length masks) (passes masks tallies l) j h (rw (d, ne_eqb l j (λ q. f (sym q)), e)) in
-      rw (z, and-false)
-
-module _ (masks tallies : List ℕ) (l : ℕ) where
-  pub lowest_idle : managed tallies l ≡ false → lowest_of masks tallies l ≡ false
-  lowest_idle e = rw e
-
-  pub lowest_is : managed tallies l ≡ true → all (length masks) (passes masks tallies l) ≡ true → lowest_of masks tallies l ≡ true
-  lowest_is e a = rw (e, a)
+pub passes_all : (masks tallies : List ℕ) (l n : ℕ) → all n (λ j. not (not (eqb l j) && managed tallies j && dominates masks l j)) ≡ all n (passes masks tallies l)
+passes_all masks tallies l n = ap (all n) (λ i j. passes_by (eqb l j) (managed tallies j) (dominates masks l j) i)
 
 -- there are words for the first manager of a level that has one, and it is not too deep
 module _ (masks tallies queue : List ℕ) (q : Askable masks tallies queue) (j : ℕ) (h : j < length masks) (e : managed tallies j ≡ true) where
@@ -59,21 +47,18 @@ abbrev pub spares : List ℕ → List ℕ → List ℕ → ℕ → ℕ → Bool
 spares masks tallies queue l j =
     implies (dominates masks l j && managed tallies j) (not (holds_back (first_at masks tallies queue j) (first_at masks tallies queue l).stamp))
 
-module _ (masks tallies queue : List ℕ) (l j : ℕ) where
-  -- why so: j has none, or is not dominated, or its stamps do not lie before
-  pub spares_ended : managed tallies j ≡ false → spares masks tallies queue l j ≡ true
-  spares_ended e = rw (e, and-false)
+-- as the code tests it, of that stamp
+spares_by : (has over held : Bool) → not (has && (over && held)) ≡ implies (over && has) (not held)
+spares_by true true held = refl
+spares_by true false held = refl
+spares_by false true held = refl
+spares_by false false held = refl
 
-  pub spares_apart : dominates masks l j ≡ false → spares masks tallies queue l j ≡ true
-  spares_apart e = rw e
-
-  pub spares_later : (stamp : ℕ) → (first_at masks tallies queue l).stamp ≡ stamp → holds_back (first_at masks tallies queue j) stamp ≡ false → spares masks tallies queue l j ≡ true
-  spares_later stamp s b = rw (s, b, or-true)
-
-  -- otherwise question 14 says no
-  pub holds : j < length masks → managed tallies j ≡ true → dominates masks l j ≡ true
-      → (stamp : ℕ) → (first_at masks tallies queue l).stamp ≡ stamp → holds_back (first_at masks tallies queue j) stamp ≡ true → free_of masks tallies queue l ≡ false
-  holds h e d stamp s b = all_fails (length masks) (spares masks tallies queue l) j h (rw (d, e, s, b))
+pub spares_all : (masks tallies queue : List ℕ) (l n stamp : ℕ) → (first_at masks tallies queue l).stamp ≡ stamp
+    → all n (λ j. not (managed tallies j && (dominates masks l j && holds_back (first_at masks tallies queue j) stamp))) ≡ all n (spares masks tallies queue l)
+spares_all masks tallies queue l n stamp e =
+    ap (λ s. all n (λ j. not (managed tallies j && (dominates masks l j && holds_back (first_at masks tallies queue j) s)))) (sym e)
+    ∙ ap (all n) (λ i j. spares_by (managed tallies j) (dominates masks l j) (holds_back (first_at masks tallies queue j) (first_at masks tallies queue l).stamp) i)
 
 -- where no manager runs, a level has one if some wait
 module _ (tallies : List ℕ) (l : ℕ) (n : busy_in tallies l ≡ false) where
