@@ -19,8 +19,7 @@ fn number_of_ending(ending: Ending) -> u32
     ensures { result ≡ number_of_ending ending }
 {
     match ending {
-        Ending::Running => 0,
-        Ending::Finished => 0,
+        Ending::Running | Ending::Finished => 0,
         Ending::OutOfSteps => 1,
         Ending::OutOfWrites => 2,
     }
@@ -65,13 +64,13 @@ pub fn end_before(histories: &[u32], level: usize, count: usize, stamp: u32) -> 
     requires { HistoriesThere histories.now level count }
     ensures { result ≡ end_before stamp (histories_at histories.now level count) }
 {
-    if stamp == 0 {
+    let Some(largest) = stamp.checked_sub(1) else {
         return 0;
-    }
+    };
     let start = places::place_of(level, 0);
-    let smaller = rows::place(histories, start, ROW_WORDS, count, stamp - 1);
-    if smaller == 0 {
+    let smaller = rows::place(histories, start, ROW_WORDS, count, largest);
+    let Some(last) = smaller.checked_sub(1) else {
         return 0;
-    }
-    histories[places::place_of(level, smaller - 1) + places::LAST]
+    };
+    histories[places::place_of(level, last) + places::LAST]
 }

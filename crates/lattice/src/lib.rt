@@ -6,7 +6,7 @@
 #![tactic(auto)]
 
 ghost use Rattle.std.specs.Prelude.{◌≡◌, true, not, ◌&&◌, ◌^◌, eqb, ltb, length};
-ghost use Rattle.lists.specs.Range.{implies, all, first};
+ghost use Rattle.lists.specs.Range.{implies, all};
 ghost use Rattle.dominance.specs.Order.{reflexive, antisymmetric, transitive};
 ghost use Rattle.dominance.specs.Join.{is_upper, is_least};
 ghost use Rattle.dominance.specs.Meet.{is_lowest};
@@ -122,29 +122,14 @@ fn is_least(masks: &[u16], a: usize, b: usize, u: usize) -> bool
     is_upper(masks, a, b, u) && (0..masks.len()).all(|v| !undercuts(masks, a, b, u, v))
 }
 
-// The first level below `k` that is the least upper bound of `a` and `b`, or `k` where none is. By recursion:
-// a loop would be compiled into each caller of `join`, most of which seldom come here.
-fn least_below(masks: &[u16], a: usize, b: usize, k: usize) -> usize
-    ensures { result ≡ first k (is_least (length masks.now) (dominates masks.now) a b) }
-{
-    if k == 0 {
-        return 0;
-    }
-    let r = least_below(masks, a, b, k - 1);
-    if r < k - 1 {
-        return r;
-    }
-    if is_least(masks, a, b, k - 1) {
-        return k - 1;
-    }
-    k
-}
-
-// The least upper bound of `a` and `b`, or the number of levels where they have none.
+// The least upper bound of `a` and `b`, or the number of levels where they have none. On its own in the compiled
+// program: in each caller of `join`, most of which seldom come here, the search would take room.
+#[inline(never)]
 fn least_upper(masks: &[u16], a: usize, b: usize) -> usize
     ensures { result ≡ join_of masks.now a b }
 {
-    least_below(masks, a, b, masks.len())
+    let n = masks.len();
+    (0..n).find(|u| is_least(masks, a, b, *u)).unwrap_or(n)
 }
 
 // The join of `a` and `b`: their least upper bound, or the number of levels where they have none.

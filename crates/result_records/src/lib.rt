@@ -24,37 +24,23 @@ const HISTORY_KIND: u8 = 6;
 
 const REPLY_KIND: u8 = 7;
 
-// How many numbers fit in a byte, and from which bit on a number's second, third and fourth byte stand.
-const BYTES: u32 = 256;
-
-const SECOND: u32 = 8;
-
-const THIRD: u32 = 16;
-
-const FOURTH: u32 = 24;
-
 // A record has its kind, three bytes and three groups of this many.
 const GROUP: usize = 4;
-
-// The lowest byte of a number.
-fn low(n: u32) -> u8
-    ensures { result ≡ n % 2 ^ 8 }
-{
-    (n % BYTES) as u8
-}
 
 // The lower two bytes of each of two numbers, the lowest first.
 fn two(m: u32, n: u32) -> [u8; GROUP]
     ensures { result ≡ bytes2 m ++ bytes2 n }
 {
-    [low(m), low(m >> SECOND), low(n), low(n >> SECOND)]
+    let [a, b, _, _] = m.to_le_bytes();
+    let [c, d, _, _] = n.to_le_bytes();
+    [a, b, c, d]
 }
 
 // A number's four bytes, the lowest first.
 fn four(n: u32) -> [u8; GROUP]
     ensures { result ≡ bytes4 n }
 {
-    [low(n), low(n >> SECOND), low(n >> THIRD), low(n >> FOURTH)]
+    n.to_le_bytes()
 }
 
 // A record of a kind, its next three bytes and three groups of four.
@@ -99,10 +85,11 @@ pub fn object_record(fields: &[u32], object: usize, level: usize) -> [u8; RECORD
 fn ending_byte(ending: u32) -> u8
     ensures { result ≡ number_of_ending (ending_of ending) }
 {
-    if ending == 0 {
-        return 0;
+    match ending {
+        0 => 0,
+        1 => 1,
+        _ => 2,
     }
-    if ending == 1 { 1 } else { 2 }
 }
 
 // Kind 6, of history `i` of a level.
@@ -115,7 +102,7 @@ pub fn history_record(histories: &[u32], level: usize, i: usize) -> [u8; RECORD_
         HISTORY_KIND,
         level as u8,
         ending_byte(histories[at + places::ENDING]),
-        low(histories[at + places::WRITES]),
+        (histories[at + places::WRITES] & 0xff) as u8,
         four(histories[at + places::STAMP]),
         two(histories[at + places::FIRST], histories[at + places::LAST]),
         two(histories[at + places::STEPS], 0),

@@ -124,11 +124,9 @@ pub fn newest_to(
 {
     let start = LOG_NUMBERS * level;
     let key = key_of(object, field);
-    let mut n = count_to(work, level, count, bound);
-    while 0 < n {
-        n -= 1;
+    for n in (0..count_to(work, level, count, bound)).rev() {
         let packed = work[start + VERSION_NUMBERS * n];
-        if std::num::wrapping_sub_u32(packed, key) < FIELD {
+        if packed.wrapping_sub(key) < FIELD {
             return value_at(work, start + VERSION_NUMBERS * n);
         }
     }
@@ -140,7 +138,5 @@ pub fn clear(work: &mut [u32])
     requires { work_numbers ≤ length work.old }
     ensures { work.new ≡ cleared work.old }
 {
-    for i in 0..WORK_NUMBERS {
-        work[i] = 0;
-    }
+    work[..WORK_NUMBERS].fill(0);
 }

@@ -1,6 +1,6 @@
 -- What `all` answers over the numbers below n and over the items of a list, and `any` over the numbers below n, where the closure computes
 -- a test. Assumes nothing.
-use Rattle.std.proofs.Common.{◌≡◌, ℕ, zero, suc, ◌+◌, Bool, true, false, not, ◌&&◌, ◌||◌, Option, List, [], ◌∷◌, ◌++◌, length, get_or, refl, ap, ap₂, ◌∙◌, arith}
+use Rattle.std.proofs.Common.{◌≡◌, ℕ, zero, suc, ◌+◌, ◌≤◌, ◌<◌, Bool, true, false, not, ◌&&◌, ◌||◌, Option, Some, None, List, [], ◌∷◌, ◌++◌, length, get_or, unwrap_or, refl, sym, ap, ap₂, ◌∙◌, arith}
 use Rattle.std.proofs.Math.Bool.{and-true}
 use Rattle.std.specs.Fn.{Called}
 use Rattle.std.specs.Iterator.{YieldsThen}
@@ -15,7 +15,8 @@ use denote.Param.Members.{Mut}
 use Rattle.std.proofs.lemmas.Iterator.Search.{any_from_yields_List}
 use Rattle.std.proofs.lemmas.List.Folds.{list_any-append, list_all-map}
 use Rattle.std.proofs.lemmas.List.FromFn.{fill_by_all}
-use Rattle.lists.specs.Range.{all}
+use Rattle.lists.specs.Range.{all, first}
+use Rattle.lists.proofs.Laws.Range.{first_none, first_at_lem}
 
 range_more : (a n : ℕ) → range_with_len a (suc n) ≡ range_with_len a n ++ ((a + n) ∷ [])
 range_more a zero =
@@ -70,3 +71,10 @@ pub any_below : {F : Type 0} {g : Mut F (ℕ × Unit {0}) Bool} (n : ℕ) (test 
     → ((x : ℕ) (b : Bool) (q : F) → Called g f (x, tt) b q → (q ≡ f) × (b ≡ test x))
     → r ≡ not (all n (λ i. not (test i)))
 any_below n test s u f r e ran k = any_from_yields_List test u f r ran (YieldsList-from_range 0 n n e (omega arith)) k ∙ any_is n test
+
+-- the answer of `(0..n).find(f).unwrap_or(n)`
+pub first_found_or : (n : ℕ) (p : ℕ → Bool) (r : Option ℕ)
+    → MatchOption r ((k : ℕ) → 0 ≤ k → k < n → p k ≡ false) (λ i. (0 ≤ i) × (i < n) × (p i ≡ true) × ((k : ℕ) → 0 ≤ k → k < i → p k ≡ false))
+    → unwrap_or r n ≡ first n p
+first_found_or n p None h = sym (first_none n p (λ k l. h k (omega arith) l))
+first_found_or n p (Some i) h = sym (first_at_lem n p i h.1 h.2 (λ k l. h.3 k (omega arith) l))

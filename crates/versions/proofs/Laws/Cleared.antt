@@ -3,11 +3,6 @@ use Rattle.std.proofs.Common.{◌≡◌, ℕ, List, ◌++◌, drop, replicate, a
 use Rattle.model.specs.Limits.{work_numbers}
 use Rattle.calls.specs.Entries.{cleared}
 
--- a slice whose first numbers, as many as there are in all logs, are made 0
-pub cleared_is : (n : ℕ) (w : List ℕ) → n ≡ work_numbers → replicate n 0 ++ drop n w ≡ cleared w
-unfolding cleared
-cleared_is n w e = ap (λ k. replicate k 0 ++ drop k w) e
-
 -- only what lies beyond the logs counts
 pub cleared_rest : (v w : List ℕ) → drop work_numbers w ≡ drop work_numbers v → cleared w ≡ cleared v
 unfolding cleared

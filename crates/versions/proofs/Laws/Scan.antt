@@ -1,6 +1,6 @@
 -- A backward scan of a log for the newest version of a field: how far a version's first number lies above the field's key, modulo 2^32,
 -- says whether it is one. Assumes nothing.
-use Rattle.std.proofs.Common.{◌≡◌, ℕ, suc, ◌+◌, ◌*◌, ◌/◌, ◌%◌, ◌^◌, ◌<◌, ◌≤◌, true, false, eqb, List, refl, arith, eq-eqb, eqb-true}
+use Rattle.std.proofs.Common.{◌≡◌, ℕ, suc, ◌+◌, ◌-◌, ◌*◌, ◌/◌, ◌%◌, ◌^◌, ◌<◌, ◌≤◌, true, false, eqb, List, refl, arith, eq-eqb, eqb-true}
 use Rattle.lists.proofs.Laws.Range.{refuted, and_left, and_right, and_both}
 use Rattle.session.specs.declared.Value.{Value}
 use Rattle.model.specs.Level.{is_of, newest}
@@ -13,6 +13,12 @@ pub record Distance (packed object field d : ℕ) : Type 0 where
   pub packed_fits : packed < 2 ^ 32
   pub fits : d < 2 ^ 32
   pub distance : (d + key_of object field) % 2 ^ 32 ≡ packed
+
+-- a difference that wraps is the distance
+pub distance_of : (packed object field key : ℕ) → object < 2 ^ 8 → field < 2 ^ 2 → packed < 2 ^ 32 → key ≡ key_of object field
+    → Distance packed object field ((packed + (2 ^ 32 - key)) % 2 ^ 32)
+distance_of packed object field key o k p e =
+    record { object_fits = o; field_fits = k; packed_fits = p; fits = omega arith; distance = omega arith }
 
 -- a number is its part from bit 17 on and the rest
 parts : (packed object field : ℕ) → packed / 2 ^ 19 ≡ object → packed / 2 ^ 17 % 2 ^ 2 ≡ field → packed ≡ key_of object field + packed % 2 ^ 17

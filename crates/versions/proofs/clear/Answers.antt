@@ -1,8 +1,9 @@
-use Rattle.std.proofs.Common.{◌∙◌, arith}
-use Rattle.versions.proofs.Laws.Cleared.{cleared_is}
+use Rattle.std.proofs.Common.{refl}
+use Rattle.std.proofs.Math.Seq.{length-take-le}
+use Rattle.model.specs.Limits.{work_numbers}
+use Rattle.calls.specs.Entries.{cleared}
 use Rattle.versions.proofs.clear.Goals as goal
 
 pub returns : goal.returns
-returns c =
-    let at = c.loop-i in
-    at.invariant.1 ∙ cleared_is at.i c.args.work.now (omega arith)
+unfolding cleared
+returns c = rw (c.fill.ensures.after (λ y p. p), length-take-le work_numbers c.args.work.now c.requires) refl

@@ -1,11 +1,8 @@
-use Rattle.std.proofs.Common.{◌≡◌, ◌≤◌}
+use Rattle.std.proofs.Common.{◌≡◌}
 use Rattle.model.specs.Level.{newest, newest_to}
 use Rattle.versions.specs.Log.{log_start, log_of}
 use Rattle.versions.proofs.newest_to.Given as goal
 
 abbrev pub invariant-loop-n : goal.invariant-loop-n
 invariant-loop-n l =
-    (l.n ≤ l.count) × (newest l.initial' l.object l.field (log_of l.work (log_start l.level) l.n) ≡ newest_to l.bound l.initial' l.object l.field (log_of l.work (log_start l.level) l.count))
-
-abbrev pub decreases-loop-n : goal.decreases-loop-n
-decreases-loop-n l = l.n
+    newest l.initial' l.object l.field (log_of l.work (log_start l.level) l.n) ≡ newest_to l.bound l.initial' l.object l.field (log_of l.work (log_start l.level) l.count)
