@@ -3,8 +3,7 @@
 
 ghost use Rattle.std.specs.Prelude.{◌≤◌, ◌≡◌, [], length};
 ghost use Rattle.session.specs.Parts.{masks_of};
-ghost use Rattle.session.specs.Questions.{verdict_of};
-ghost use Rattle.session.specs.declared.Verdict.TheVariants.{Accepted};
+ghost use Rattle.session.specs.Questions.{verdict_of, Accepted};
 ghost use Rattle.model.specs.Limits.{result_bytes};
 ghost use Rattle.calls.specs.Entries.{deep, Answers};
 ghost use Rattle.progress.specs.Representation.{Tables, Represents};

@@ -1,9 +1,8 @@
 -- What every entry does before a run. Assumes nothing.
 use Rattle.std.specs.Prelude.{ℕ, ◌≡◌, Bool, List, ◌++◌, length, drop}
 use Rattle.session.specs.Parts.{level_count}
-use Rattle.session.specs.Questions.{verdict_of, number_of_verdict}
+use Rattle.session.specs.Questions.{verdict_of, number_of_verdict, Accepted}
 use Rattle.checks.specs.Checking.{table_made}
-use Rattle.session.specs.declared.Verdict.TheVariants.{Accepted}
 use Rattle.calls.specs.Entries.{Request, entry_refusal}
 use Rattle.opening.specs.declared.Answer.{Answer}
 use Rattle.opening.specs.declared.Opened.{Opened}

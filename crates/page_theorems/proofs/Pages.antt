@@ -12,9 +12,8 @@ use Rattle.session.specs.Limits.{max_levels}
 use Rattle.lists.specs.Lists.{every, select, tab, joined}
 use Rattle.session.specs.Record.{Record}
 use Rattle.session.specs.Program.{Program, program_of}
-use Rattle.session.specs.Questions.{verdict_of, number_of_verdict}
+use Rattle.session.specs.Questions.{verdict_of, number_of_verdict, Accepted}
 use Rattle.session.specs.Meaning.{level_of, root_object}
-use Rattle.session.specs.declared.Verdict.TheVariants.{Accepted}
 use Rattle.session.specs.Emptied.{emptied}
 use Rattle.lists.proofs.Laws.Lists.{holds, fails, truth, select-length}
 use Rattle.session.proofs.Laws.Verdict.{accepted}

@@ -11,11 +11,10 @@ use Rattle.dominance.proofs.Laws.Table.{told}
 use Rattle.lists.specs.Lists.{tab}
 use Rattle.session.specs.Record.{record_at, mask_of}
 use Rattle.session.specs.Parts.{level_count, masks_of}
-use Rattle.session.specs.Questions.{kinds_rise, question1, question2, question3, asked, first_no, verdict_of}
+use Rattle.session.specs.Questions.{kinds_rise, question1, question2, question3, asked, first_no, verdict_of, Verdict, Accepted}
 use Rattle.checks.specs.Checking.{table_made, Checks}
 use Rattle.checks.specs.declared.Checked.{Checked}
-use Rattle.session.specs.declared.Verdict.{Verdict}
-use Rattle.session.specs.declared.Verdict.TheVariants.{Accepted, Length, Kinds, Numbering, NotOrdered, NoJoin, NoMeet}
+use Rattle.session.specs.declared.Question.TheVariants.{Length, Kinds, Numbering, NotOrdered, NoJoin, NoMeet}
 use Rattle.session.proofs.Laws.Numbering.{masks_are}
 use Rattle.session.proofs.Laws.Verdict.{accepted}
 use Rattle.session.proofs.Laws.Parts.{masks_count}

@@ -10,9 +10,8 @@ use lib.Seq.{length-take-le, take_at}
 use Rattle.session.specs.Parts.{level_count}
 use Rattle.session.specs.Meaning.{root_of}
 use Rattle.session.specs.Program.{program_of}
-use Rattle.session.specs.Questions.{verdict_of}
+use Rattle.session.specs.Questions.{verdict_of, Accepted}
 use Rattle.checks.specs.Checking.{table_made}
-use Rattle.session.specs.declared.Verdict.TheVariants.{Accepted}
 use Rattle.checks.proofs.Laws.Checked.{accepted_table, accepted_count}
 use Rattle.scripts.specs.Valid.{Leveled}
 use Rattle.model.specs.Limits.{result_bytes}
