@@ -50,13 +50,17 @@ paged q page =
       page = written_over text page;
     }) (page_refused q page number)
 
--- both counts of an answer: "a refusal 0"
-abbrev pub counts_told : Result PageCounts Refusal → PageCounts
+-- what the entry hands back
+abbrev pub PageResult : Type 0
+PageResult = Result PageCounts Refusal
+
+-- both counts that it tells: "a refusal 0"
+abbrev pub counts_told : PageResult → PageCounts
 counts_told (Ok counts) = counts
 counts_told (Err r) = record { count = 0; page_count = 0 }
 
 -- an entry's answer and what both buffers hold afterwards are those of a definition's answer
-abbrev pub PageAnswers : Paged → Result PageCounts Refusal → List ℕ → List ℕ → Type 0
+abbrev pub PageAnswers : Paged → PageResult → List ℕ → List ℕ → Type 0
 PageAnswers a r buffer page =
     record {
       number = number_told r;
