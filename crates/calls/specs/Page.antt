@@ -1,12 +1,14 @@
 -- The whole answer of the page entry, for every input. Assumes nothing.
 -- Law, in `page` (`Laws/Fits`): the page of an accepted session fits question 16's buffer (`page_fits`).
-use Rattle.std.specs.Prelude.{ℕ, ◌≡◌, Bool, true, cond, List, eqb, leb, length}
+use Rattle.std.specs.Prelude.{ℕ, ◌≡◌, Bool, true, cond, List, Result, Ok, Err, eqb, leb, length}
 use Rattle.model.specs.Limits.{page_bytes}
 use Rattle.calls.specs.Entries.{Request, entry_refusal, deep}
 use Rattle.lists.specs.Placed.{written_over}
 use Rattle.calls.specs.Reader.{bytes_written}
 use Rattle.text.specs.Text.{page_of}
-use Rattle.calls.specs.declared.PageAnswer.{PageAnswer}
+use Rattle.calls.specs.Refusals.{number_told, place_told}
+use Rattle.calls.specs.declared.Refusal.{Refusal}
+use Rattle.calls.specs.declared.PageCounts.{PageCounts}
 
 -- 16. Is the page buffer at least 7,420 bytes?
 abbrev pub question16 : List ℕ → Bool
@@ -48,21 +50,23 @@ paged q page =
       page = written_over text page;
     }) (page_refused q page number)
 
+-- what the entry hands back
+abbrev pub PageResult : Type 0
+PageResult = Result PageCounts Refusal
+
+-- both counts that it tells: "a refusal 0"
+abbrev pub counts_told : PageResult → PageCounts
+counts_told (Ok counts) = counts
+counts_told (Err r) = record { count = 0; page_count = 0 }
+
 -- an entry's answer and what both buffers hold afterwards are those of a definition's answer
-abbrev pub PageAnswers : Paged → PageAnswer → List ℕ → List ℕ → Type 0
+abbrev pub PageAnswers : Paged → PageResult → List ℕ → List ℕ → Type 0
 PageAnswers a r buffer page =
     record {
-      number = r.number;
-      place = r.place;
-      count = r.count;
-      page_count = r.page_count;
+      number = number_told r;
+      place = place_told r;
+      count = (counts_told r).count;
+      page_count = (counts_told r).page_count;
       buffer = buffer;
       page = page;
     } ≡ a
-
--- the answer of a call that a question ends, and of one that wrote so many bytes
-abbrev pub Refused : ℕ → PageAnswer → Type 0
-Refused number r = (r.number ≡ number) × (r.place ≡ 0) × (r.count ≡ 0) × (r.page_count ≡ 0)
-
-abbrev pub Finished : ℕ → ℕ → PageAnswer → Type 0
-Finished count characters r = (r.number ≡ 0) × (r.place ≡ 0) × (r.count ≡ count) × (r.page_count ≡ characters)

@@ -8,24 +8,22 @@ mod root;
 ghost use Rattle.std.specs.Prelude.{◌≡◌, true, ◌++◌, length, drop, ◌≤◌};
 ghost use Rattle.session.specs.Limits.{max_levels};
 ghost use Rattle.session.specs.Parts.{level_count, masks_of};
-ghost use Rattle.session.specs.Questions.{question1, question2, question3, asked, first_no, verdict_of, number_of_verdict};
+ghost use Rattle.session.specs.Questions.{question1, question2, question3, asked, first_no, verdict_of, number_of_question, number_of_verdict};
 ghost use Rattle.session_records.specs.Counting.{Counted};
-ghost use Rattle.checks.specs.Checking.{Checks};
+ghost use Rattle.checks.specs.Checking.{question_of, Checks};
 
-use session::Verdict;
+use dominance::Fault;
+use session::Question;
 use session::limits::{MAX_LEVELS, MAX_RECORDS, RECORD_BYTES};
 use session_records::kinds;
 
-// What a check says of a session: the verdict, and how many levels its level table has, 0 where the
-// table is not made.
-#[derive(Clone, Copy)]
-pub struct Checked {
-    pub verdict: Verdict,
-    pub levels: usize,
-}
-
 // Questions 6 to 8, of a session of which questions 2 and 3 said yes.
-fn check_contents(session: &[u8], levels: usize, objects: usize, steps: usize) -> Verdict
+fn check_contents(
+    session: &[u8],
+    levels: usize,
+    objects: usize,
+    steps: usize,
+) -> Result<(), Question>
     requires session_value { question2 session.now ≡ true }
     requires counted { Counted session.now levels objects steps }
     requires session_value_2 { question3 session.now ≡ true }
@@ -34,15 +32,26 @@ fn check_contents(session: &[u8], levels: usize, objects: usize, steps: usize) -
     let first = levels + objects;
     let root = first + steps;
     if !objects::are_valid(session, levels, objects, levels) {
-        return Verdict::Object;
+        return Err(Question::Object);
     }
     if !methods::are_valid(session, first, root, levels, objects) {
-        return Verdict::Script;
+        return Err(Question::Script);
     }
     if root::is_valid(session, root, objects) {
-        Verdict::Accepted
+        Ok(())
     } else {
-        Verdict::Root
+        Err(Question::Root)
+    }
+}
+
+// The question of a session that what refuses its level table is.
+fn of_table(fault: Fault) -> Question
+    ensures { result ≡ question_of fault }
+{
+    match fault {
+        Fault::NotOrdered => Question::NotOrdered,
+        Fault::NoJoin => Question::NoJoin,
+        Fault::NoMeet => Question::NoMeet,
     }
 }
 
@@ -54,20 +63,15 @@ fn check_levels(
     objects: usize,
     steps: usize,
     masks: &mut [u16],
-) -> Verdict
+) -> Result<(), Question>
     requires session_value { (question2 session.now ≡ true) × (question3 session.now ≡ true) }
     requires counted { Counted session.now levels objects steps }
     requires max_levels_in_bounds { max_levels ≤ length masks.old }
     ensures { (result ≡ first_no (drop 3 (asked session.now))) × (masks.new ≡ masks_of session.now ++ drop (level_count session.now) masks.old) }
 {
     levels::fill_masks(session, levels, masks);
-    let table = lattice::check(&masks[..levels]);
-    match table {
-        dominance::Verdict::Passed => check_contents(session, levels, objects, steps),
-        dominance::Verdict::NotOrdered => Verdict::NotOrdered,
-        dominance::Verdict::NoJoin => Verdict::NoJoin,
-        dominance::Verdict::NoMeet => Verdict::NoMeet,
-    }
+    lattice::check(&masks[..levels]).map_err(of_table)?;
+    check_contents(session, levels, objects, steps)
 }
 
 // Question 1.
@@ -84,63 +88,66 @@ fn is_whole(session: &[u8]) -> bool
     n / RECORD_BYTES <= MAX_RECORDS
 }
 
-// What is said of a session whose level table is not made.
-fn untabled(verdict: Verdict) -> Checked
-    ensures { (result.verdict ≡ verdict) × (result.levels ≡ 0) }
-{
-    Checked { verdict, levels: 0 }
-}
-
-// Checks a session: what questions 1 to 8 and 17 say of any bytes, of any length and content. Where 1
-// to 3 say yes the level table stands at the front of `masks` afterwards. Nothing else in `masks` changes.
-pub fn check_into(session: &[u8], masks: &mut [u16]) -> Checked
+// Checks a session: what questions 1 to 8 and 17 say of any bytes, of any length and content, and how many levels there
+// are where all say yes. Where 1 to 3 say yes the level table stands at the front of `masks` afterwards, whatever the
+// later ones say. Nothing else in `masks` changes.
+pub fn check_into(session: &[u8], masks: &mut [u16]) -> Result<usize, Question>
     requires { max_levels ≤ length masks.old }
     ensures { Checks session.now masks.old masks.new result }
 {
     if !is_whole(session) {
-        return untabled(Verdict::Length);
+        return Err(Question::Length);
     }
     if !kinds::kinds_rise(session) {
-        return untabled(Verdict::Kinds);
+        return Err(Question::Kinds);
     }
     let layout = kinds::count_kinds(session);
     let levels = layout.levels;
     let objects = layout.objects;
     let steps = layout.steps;
     if !kinds::are_present(session, levels, objects, steps) {
-        return untabled(Verdict::Kinds);
+        return Err(Question::Kinds);
     }
     if !levels::are_numbered(session, levels, objects, steps) {
-        return untabled(Verdict::Numbering);
+        return Err(Question::Numbering);
     }
-    let verdict = check_levels(session, levels, objects, steps, masks);
-    Checked { verdict, levels }
+    check_levels(session, levels, objects, steps, masks)?;
+    Ok(levels)
 }
 
 // Checks a session, for a caller that needs no level table: what questions 1 to 8 and 17 say of any
 // bytes, of any length and content.
-pub fn check(session: &[u8]) -> Verdict
+pub fn check(session: &[u8]) -> Result<(), Question>
     ensures { result ≡ verdict_of session.now }
 {
     let mut masks = [0u16; MAX_LEVELS];
-    let checked = check_into(session, &mut masks);
-    checked.verdict
+    check_into(session, &mut masks)?;
+    Ok(())
 }
 
-// The documents' number of a verdict.
-pub fn number_of(verdict: Verdict) -> u32
+// The documents' number of a question.
+pub fn number_of_question(question: Question) -> u32
+    ensures { result ≡ number_of_question question }
+{
+    match question {
+        Question::Length => 1,
+        Question::Kinds => 2,
+        Question::Numbering => 3,
+        Question::NotOrdered => 4,
+        Question::NoJoin => 5,
+        Question::NoMeet => 17,
+        Question::Object => 6,
+        Question::Script => 7,
+        Question::Root => 8,
+    }
+}
+
+// The documents' number of a verdict: 0 where all questions say yes.
+pub fn number_of(verdict: Result<(), Question>) -> u32
     ensures { result ≡ number_of_verdict verdict }
 {
     match verdict {
-        Verdict::Accepted => 0,
-        Verdict::Length => 1,
-        Verdict::Kinds => 2,
-        Verdict::Numbering => 3,
-        Verdict::NotOrdered => 4,
-        Verdict::NoJoin => 5,
-        Verdict::NoMeet => 17,
-        Verdict::Object => 6,
-        Verdict::Script => 7,
-        Verdict::Root => 8,
+        Ok(()) => 0,
+        Err(question) => number_of_question(question),
     }
 }

@@ -6,8 +6,7 @@ use Rattle.session.specs.Limits.{names, max_methods}
 use Rattle.lists.specs.Lists.{tab, count_below}
 use Rattle.session.specs.Parts.{step_records, level_count, object_count, key, key_of}
 use Rattle.session.specs.Meaning.{method_of}
-use Rattle.session.specs.Questions.{verdict_of}
-use Rattle.session.specs.declared.Verdict.TheVariants.{Accepted}
+use Rattle.session.specs.Questions.{verdict_of, Accepted}
 
 -- the record at which the steps of a method start: those of the methods before it stand before them
 unfoldable pub method_start : List ℕ → ℕ → ℕ

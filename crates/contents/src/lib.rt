@@ -7,13 +7,12 @@
 ghost use Rattle.std.specs.Prelude.{◌≡◌, ◌++◌, ℕ, ◌+◌, ◌/◌, ◌%◌, ◌≤◌, ◌<◌, length, drop};
 ghost use Rattle.session.specs.Limits.{max_methods, names, fields};
 ghost use Rattle.session.specs.Parts.{level_count, object_count, step_count, masks_of};
-ghost use Rattle.session.specs.Questions.{verdict_of};
+ghost use Rattle.session.specs.Questions.{verdict_of, Accepted};
 ghost use Rattle.session.specs.Meaning.{Numbered, level_of, field_of, step_at, root_of};
-ghost use Rattle.session.specs.declared.Verdict.TheVariants.{Accepted};
 ghost use Rattle.contents.specs.Reading.{method_start, index_of, MethodAt, IsMethod};
 
 use session::limits::{FIRST_MADE, MADE_OBJECTS, MAX_METHODS, NAMES, RECORD_BYTES};
-use session::{Message, Step, Value, Verdict};
+use session::{Message, Step, Value};
 use session_records::{kinds, places, record};
 
 // An accepted session as it was lent, with its level table and its method index.
@@ -39,7 +38,7 @@ pub struct Method {
 // The record at which the method of a key starts, or would start. `at` is no step's record after it,
 // and `end` is the root's record.
 fn method_start(session: &[u8], at: usize, end: usize, key: usize) -> usize
-    requires session_value { verdict_of session.now ≡ Verdict.Accepted }
+    requires session_value { verdict_of session.now ≡ Accepted }
     requires session_bound { (level_count session.now + object_count session.now ≤ at) × (at ≤ method_start session.now key) }
     requires end_value { end ≡ level_count session.now + object_count session.now + step_count session.now }
     ensures { result ≡ method_start session.now key }
@@ -54,7 +53,7 @@ fn method_start(session: &[u8], at: usize, end: usize, key: usize) -> usize
 
 // Writes where each method starts to the front of `index`, and behind them where the last one ends.
 pub fn index_methods(session: &[u8], index: &mut [u16])
-    requires { (verdict_of session.now ≡ Verdict.Accepted) × (max_methods + 1 ≤ length index.old) }
+    requires { (verdict_of session.now ≡ Accepted) × (max_methods + 1 ≤ length index.old) }
     ensures { index.new ≡ index_of session.now ++ drop (max_methods + 1) index.old }
 {
     let layout = kinds::count_kinds(session);
@@ -74,7 +73,7 @@ pub fn index_methods(session: &[u8], index: &mut [u16])
 impl<'a> Session<'a> {
     // An accepted session with its level table, whose method index is written to the front of `index`.
     pub fn new(bytes: &'a [u8], masks: &'a [u16], index: &'a mut [u16]) -> Session<'a>
-        requires accepted { verdict_of bytes.now ≡ Verdict.Accepted }
+        requires accepted { verdict_of bytes.now ≡ Accepted }
         requires masks_are { masks.now ≡ masks_of bytes.now }
         requires room { max_methods + 1 ≤ length index.old }
         ensures { result.bytes.now ≡ bytes.entry.now }
@@ -171,7 +170,7 @@ impl Session<'_> {
 
 // How many objects there are.
 pub fn object_count(session: &[u8]) -> usize
-    requires { verdict_of session.now ≡ Verdict.Accepted }
+    requires { verdict_of session.now ≡ Accepted }
     ensures { result ≡ object_count session.now }
 {
     let layout = kinds::count_kinds(session);
@@ -180,7 +179,7 @@ pub fn object_count(session: &[u8]) -> usize
 
 // The level of an object: one of the session's has it in its record, one that a level can make in its number.
 pub fn level_of(session: &[u8], masks: &[u16], object: usize) -> usize
-    requires { (verdict_of session.now ≡ Verdict.Accepted) × (masks.now ≡ masks_of session.now) × Numbered session.now object }
+    requires { (verdict_of session.now ≡ Accepted) × (masks.now ≡ masks_of session.now) × Numbered session.now object }
     ensures { result ≡ level_of session.now object }
 {
     if object < FIRST_MADE {
@@ -192,7 +191,7 @@ pub fn level_of(session: &[u8], masks: &[u16], object: usize) -> usize
 
 // What field `k` of an object of the session holds at first.
 pub fn field_of(session: &[u8], masks: &[u16], object: usize, k: usize) -> Value
-    requires { (verdict_of session.now ≡ Verdict.Accepted) × (masks.now ≡ masks_of session.now) × (object < object_count session.now) × (k < fields) }
+    requires { (verdict_of session.now ≡ Accepted) × (masks.now ≡ masks_of session.now) × (object < object_count session.now) × (k < fields) }
     ensures { result ≡ field_of session.now object k }
 {
     let r = masks.len() + object;
@@ -207,7 +206,7 @@ pub fn field_of(session: &[u8], masks: &[u16], object: usize, k: usize) -> Value
 // Where the steps of a method stand, by its number: 16 times that of its object, and its name. A run that
 // keeps it reads the index once a message.
 pub fn method_of(session: &[u8], index: &[u16], slot: usize) -> Method
-    requires { (verdict_of session.now ≡ Verdict.Accepted) × (index.now ≡ index_of session.now) × (slot / names < object_count session.now) }
+    requires { (verdict_of session.now ≡ Accepted) × (index.now ≡ index_of session.now) × (slot / names < object_count session.now) }
     ensures { MethodAt session.now (slot / names) (slot % names) result.start result.count }
 {
     let start = index[slot] as usize;
@@ -218,7 +217,7 @@ pub fn method_of(session: &[u8], index: &[u16], slot: usize) -> Method
 
 // Step `j` of a method of which it is known where its steps stand, or the script's end.
 pub fn step_in_method(session: &[u8], start: usize, count: usize, j: usize) -> Step
-    requires { (verdict_of session.now ≡ Verdict.Accepted) × IsMethod session.now start count }
+    requires { (verdict_of session.now ≡ Accepted) × IsMethod session.now start count }
     ensures { ((object name : ℕ) → MethodAt session.now object name start count → result ≡ step_at session.now object name j) × (count ≡ 0 → result ≡ Step.End) }
 {
     if j < count {
@@ -230,7 +229,7 @@ pub fn step_in_method(session: &[u8], start: usize, count: usize, j: usize) -> S
 
 // The root message.
 pub fn root(session: &[u8]) -> Message
-    requires { verdict_of session.now ≡ Verdict.Accepted }
+    requires { verdict_of session.now ≡ Accepted }
     ensures { result ≡ root_of session.now }
 {
     let r = session.len() / RECORD_BYTES - 1;

@@ -3,16 +3,16 @@
 
 ghost use Rattle.std.specs.Prelude.{◌≤◌, ◌≡◌, [], length};
 ghost use Rattle.session.specs.Parts.{masks_of};
-ghost use Rattle.session.specs.Questions.{verdict_of};
-ghost use Rattle.session.specs.declared.Verdict.TheVariants.{Accepted};
+ghost use Rattle.session.specs.Questions.{verdict_of, Accepted};
 ghost use Rattle.model.specs.Limits.{result_bytes};
 ghost use Rattle.calls.specs.Entries.{deep, Answers};
+ghost use Rattle.calls.specs.Refusals.{number_told, place_told, count_told};
 ghost use Rattle.progress.specs.Representation.{Tables, Represents};
 ghost use Rattle.depth_first.specs.Runs.{RootFork, initial_progress, Shown, RanOver};
 
+use calls::Refusal;
 use fields::FIELD_WORDS;
 use histories::limits::HISTORY_WORDS;
-use opening::Answer;
 use progress::Fork;
 use session::limits::{MAX_LEVELS, MAX_METHODS};
 
@@ -81,21 +81,18 @@ pub fn run(session: &[u8], masks: &[u16], clearance: usize, res: &mut [u8]) -> u
     )
 }
 
-// Runs a session depth first and writes what a clearance is shown of it: Check's questions, 9 and 11 of any
-// bytes, of any length and content, and then the run.
-pub fn run_depth_first(session: &[u8], clearance: usize, res: &mut [u8]) -> Answer
-    ensures { Answers (deep (record { session = session.entry.now; clearance = clearance; work = []; buffer = res.old })) result.number result.place result.count [] res.new }
+// Runs a session depth first, writes what a clearance is shown of it, and returns how many bytes that is: Check's
+// questions, 9 and 11 of any bytes, of any length and content, and then the run.
+pub fn run_depth_first(
+    session: &[u8],
+    clearance: usize,
+    res: &mut [u8],
+) -> Result<u32, Refusal>
+    ensures { Answers (deep (record { session = session.entry.now; clearance = clearance; work = []; buffer = res.old })) (number_told result) (place_told result) (count_told result) [] res.new }
 {
     let mut masks = [0u16; MAX_LEVELS];
-    let opened = opening::open(session, &mut masks);
-    if opened.number != 0 {
-        return opening::refused(opened.number, 0);
-    }
-    let levels = opened.levels;
-    let number = opening::lent_refusal(levels, clearance, true, res.len());
-    if number != 0 {
-        return opening::refused(number, 0);
-    }
+    let levels = opening::open(session, &mut masks)?;
+    opening::lent_refusal(levels, clearance, true, res.len())?;
     let count = run(session, &masks[..levels], clearance, res);
-    opening::finished(count)
+    Ok(count as u32)
 }

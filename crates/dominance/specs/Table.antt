@@ -2,13 +2,13 @@
 -- Laws (`proofs/Laws/Table`): a table that passes question 4 is a partial order (`partial_order`), in which only levels of the table
 -- dominate or are dominated (`upper_present`, `lower_present`); one that passes 4, 5 and 17 is a join semilattice (`passed`), and a lattice
 -- (`passed_lattice`).
-use Rattle.std.specs.Prelude.{ℕ, ◌/◌, ◌%◌, ◌^◌, Bool, cond, ◌&&◌, List, eqb, ltb, length, get_or}
+use Rattle.std.specs.Prelude.{ℕ, ◌/◌, ◌%◌, ◌^◌, Bool, cond, ◌&&◌, List, Result, Ok, Err, eqb, ltb, length, get_or}
 use Rattle.lists.specs.Range.{all}
 use Rattle.dominance.specs.Order.{Dominance, is_order}
 use Rattle.dominance.specs.Join.{join, has_joins}
 use Rattle.dominance.specs.Meet.{has_meets}
-use Rattle.dominance.specs.declared.Verdict.{Verdict}
-use Rattle.dominance.specs.declared.Verdict.TheVariants.{Passed, NotOrdered, NoJoin, NoMeet}
+use Rattle.dominance.specs.declared.Fault.{Fault}
+use Rattle.dominance.specs.declared.Fault.TheVariants.{NotOrdered, NoJoin, NoMeet}
 
 -- bit k, worth 2^k, is set
 abbrev pub bit : ℕ → ℕ → Bool
@@ -38,13 +38,25 @@ is_joined masks = has_joins (length masks) (dominates masks)
 abbrev pub is_met : List ℕ → Bool
 is_met masks = has_meets (length masks) (dominates masks)
 
+-- what the questions say of a table: that all say yes, or the first that says no
+abbrev pub Verdict : Type 0
+Verdict = Result Unit Fault
+
+abbrev pub Passed : Verdict
+Passed = Ok tt
+
 -- the first of questions 4, 5 and 17, in this order, that says no, or that all say yes: 17 is "put straight after question 5"
 unfoldable pub verdict_of : List ℕ → Verdict
-verdict_of masks = cond (is_ordered masks) (cond (is_joined masks) (cond (is_met masks) Passed NoMeet) NoJoin) NotOrdered
+verdict_of masks =
+    cond (is_ordered masks) (cond (is_joined masks) (cond (is_met masks) Passed (Err NoMeet)) (Err NoJoin)) (Err NotOrdered)
 
--- the documents' number of a verdict. Its place is 0, as for every question put of a whole input
+-- the documents' number of what refuses
+abbrev pub number_of_fault : Fault → ℕ
+number_of_fault NotOrdered = 4
+number_of_fault NoJoin = 5
+number_of_fault NoMeet = 17
+
+-- and of a verdict. Its place is 0, as for every question put of a whole input
 abbrev pub number_of_verdict : Verdict → ℕ
-number_of_verdict Passed = 0
-number_of_verdict NotOrdered = 4
-number_of_verdict NoJoin = 5
-number_of_verdict NoMeet = 17
+number_of_verdict (Ok u) = 0
+number_of_verdict (Err f) = number_of_fault f

@@ -4,9 +4,8 @@
 use Rattle.std.specs.Prelude.{ℕ, ◌+◌, ◌*◌, ◌≤◌, ◌<◌, ◌≡◌, Bool, true, false, not, cond, List, eqb, ltb, length, get_or, set}
 use Rattle.session.specs.Limits.{max_objects, max_numbers}
 use Rattle.session.specs.Parts.{object_count, masks_of}
-use Rattle.session.specs.Questions.{verdict_of}
+use Rattle.session.specs.Questions.{verdict_of, Accepted}
 use Rattle.session.specs.Program.{program_of}
-use Rattle.session.specs.declared.Verdict.TheVariants.{Accepted}
 use Rattle.session.specs.declared.Value.{Value}
 use Rattle.session.specs.declared.Value.TheVariants.{Nil, Number}
 use Rattle.scripts.specs.Value.{tag, number_in}

@@ -7,9 +7,8 @@ ghost use Rattle.std.specs.Prelude.{◌+◌, ◌^◌, ◌≤◌, ◌<◌, ◌≡
 ghost use Rattle.session.specs.Limits.{registers};
 ghost use Rattle.session.specs.Parts.{object_count};
 ghost use Rattle.session.specs.Program.{program_of};
-ghost use Rattle.session.specs.Questions.{verdict_of};
+ghost use Rattle.session.specs.Questions.{verdict_of, Accepted};
 ghost use Rattle.session.specs.declared.Value.TheVariants.{Nil};
-ghost use Rattle.session.specs.declared.Verdict.TheVariants.{Accepted};
 ghost use Rattle.scripts.specs.Frame.{register, with_register, at_step};
 ghost use Rattle.scripts.specs.Manager.{next_step};
 ghost use Rattle.contents.specs.Reading.{Indexed};

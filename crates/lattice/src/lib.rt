@@ -12,7 +12,7 @@ ghost use Rattle.dominance.specs.Join.{is_upper, is_least};
 ghost use Rattle.dominance.specs.Meet.{is_lowest};
 ghost use Rattle.dominance.specs.Table.{bit, dominates, names_present, is_ordered, join_of, is_joined, is_met, verdict_of};
 
-use dominance::Verdict;
+use dominance::Fault;
 
 // The levels that one mask has room for.
 const WIDTH: usize = 16;
@@ -183,18 +183,18 @@ fn has_meets(masks: &[u16]) -> bool
 }
 
 // What questions 4, 5 and 17, in this order, say of a table, of any length and content.
-pub fn check(masks: &[u16]) -> Verdict
+pub fn check(masks: &[u16]) -> Result<(), Fault>
     ensures { result ≡ verdict_of masks.now }
 {
     if !is_ordered(masks) {
-        return Verdict::NotOrdered;
+        return Err(Fault::NotOrdered);
     }
     if !has_joins(masks) {
-        return Verdict::NoJoin;
+        return Err(Fault::NoJoin);
     }
     if has_meets(masks) {
-        Verdict::Passed
+        Ok(())
     } else {
-        Verdict::NoMeet
+        Err(Fault::NoMeet)
     }
 }

@@ -1,63 +1,51 @@
 // What every entry does before a run: its session is checked and its level table made, once; the clearance and the
-// lent slices are measured; and a refusal is answered.
+// lent slices are measured. And what a refusal is told by: its number and its place.
 #![tactic(auto)]
 
-ghost use Rattle.std.specs.Prelude.{◌^◌, ◌≤◌, ◌<◌, ◌≡◌, leb, length};
+ghost use Rattle.std.specs.Prelude.{◌≤◌, ◌≡◌, leb, length};
 ghost use Rattle.session.specs.Limits.{max_levels};
 ghost use Rattle.model.specs.Limits.{work_numbers};
-ghost use Rattle.opening.specs.Opening.{Refused, Finished, Opens, LentRefusal};
+ghost use Rattle.calls.specs.Refusals.{number_of_refusal, place_of_refusal};
+ghost use Rattle.opening.specs.Opening.{Opens, LentRefusal};
 
+use calls::Refusal;
 use model::{RESULT_BYTES, WORK_NUMBERS};
 
-// What a run answers: its number, its place, and the count of result bytes written.
-#[derive(Clone, Copy)]
-pub struct Answer {
-    pub number: u32,
-    pub place: u32,
-    pub count: u32,
-}
-
-// What Check's questions say of a session: the first that says no, or 0; and how many levels its level table has, 0 where
-// the table is not made.
-#[derive(Clone, Copy)]
-pub struct Opened {
-    pub number: u32,
-    pub levels: usize,
-}
-
-// The answer of a call that a question ends.
-pub fn refused(number: u32, place: u32) -> Answer
-    ensures { Refused number place result }
+// The documents' number of a refusal: that of the question that says no.
+pub fn number_of(refusal: Refusal) -> u32
+    ensures { result ≡ number_of_refusal refusal }
 {
-    Answer {
-        number,
-        place,
-        count: 0,
+    match refusal {
+        Refusal::Session(question) => checks::number_of_question(question),
+        Refusal::Clearance => 9,
+        Refusal::ShortWork => 10,
+        Refusal::ShortResult => 11,
+        Refusal::Absent { .. } => 12,
+        Refusal::Idle { .. } => 13,
+        Refusal::Blocked { .. } => 14,
+        Refusal::Unended => 15,
+        Refusal::ShortPage => 16,
     }
 }
 
-// The answer of a run that wrote so many result bytes.
-pub fn finished(count: usize) -> Answer
-    requires { count < 2 ^ 32 }
-    ensures { Finished count result }
+// The place of a refusal: that of the step in its timetable, or 0 where no step is refused.
+pub fn place_of(refusal: Refusal) -> u32
+    ensures { result ≡ place_of_refusal refusal }
 {
-    Answer {
-        number: 0,
-        place: 0,
-        count: count as u32,
+    match refusal {
+        Refusal::Absent { place } | Refusal::Idle { place } | Refusal::Blocked { place } => place,
+        _ => 0,
     }
 }
 
-// Puts Check's questions of any bytes. Where all say yes the session's level table stands at the front of `masks`.
-pub fn open(session: &[u8], masks: &mut [u16]) -> Opened
+// Puts Check's questions of any bytes, and tells how many levels there are where all say yes. The session's level
+// table then stands at the front of `masks`.
+pub fn open(session: &[u8], masks: &mut [u16]) -> Result<usize, Refusal>
     requires { max_levels ≤ length masks.old }
     ensures { Opens session.now masks.old masks.new result }
 {
-    let checked = checks::check_into(session, masks);
-    let verdict = checked.verdict;
-    let levels = checked.levels;
-    let number = checks::number_of(verdict);
-    Opened { number, levels }
+    let levels = checks::check_into(session, masks).map_err(Refusal::Session)?;
+    Ok(levels)
 }
 
 // Question 10, of a work slice of so many numbers.
@@ -67,19 +55,19 @@ pub fn is_work(numbers: usize) -> bool
     numbers >= WORK_NUMBERS
 }
 
-// The first of questions 9 to 11 that says no, or 0, of a session with so many levels and a result buffer of so many
-// bytes. `ten` is what question 10 says, or yes where it is not put.
-pub fn lent_refusal(levels: usize, clearance: usize, ten: bool, bytes: usize) -> u32
+// Questions 9 to 11, of a session with so many levels and a result buffer of so many bytes. `ten` is what question 10
+// says, or yes where it is not put.
+pub fn lent_refusal(levels: usize, clearance: usize, ten: bool, bytes: usize) -> Result<(), Refusal>
     ensures { LentRefusal levels clearance ten bytes result }
 {
     if clearance >= levels {
-        return 9;
+        return Err(Refusal::Clearance);
     }
     if !ten {
-        return 10;
+        return Err(Refusal::ShortWork);
     }
     if bytes < RESULT_BYTES {
-        return 11;
+        return Err(Refusal::ShortResult);
     }
-    0
+    Ok(())
 }

@@ -12,9 +12,8 @@ use Rattle.session.specs.Limits.{max_levels}
 use Rattle.lists.specs.Lists.{every, select, tab, joined}
 use Rattle.session.specs.Record.{Record}
 use Rattle.session.specs.Program.{Program, program_of}
-use Rattle.session.specs.Questions.{verdict_of, number_of_verdict}
+use Rattle.session.specs.Questions.{verdict_of, number_of_verdict, Accepted}
 use Rattle.session.specs.Meaning.{level_of, root_object}
-use Rattle.session.specs.declared.Verdict.TheVariants.{Accepted}
 use Rattle.session.specs.Emptied.{emptied}
 use Rattle.lists.proofs.Laws.Lists.{holds, fails, truth, select-length}
 use Rattle.session.proofs.Laws.Verdict.{accepted}
@@ -37,7 +36,7 @@ use Rattle.theorems.proofs.Laws.Reader.Answers.{passes, deep_is, deep_finished, 
 use Rattle.theorems.proofs.Laws.Reader.Bytes.{histories_found, histories_of_level, histories_of_none, histories_by_level, written_bytes}
 use Rattle.lists.proofs.Laws.Choice.{chosen_groups}
 use Rattle.theorems.proofs.Laws.Reader.Fields.{level_read, ending_read, writes_read, stamp_read, first_read, last_read, steps_read}
-use Rattle.calls.specs.Page.{question16, page_refusal, paged}
+use Rattle.calls.specs.Page.{question16, page_refusal, paged, counts_told}
 use Rattle.text.specs.Text.{sum_of, histories_in, total_of, managers_at, steps_at, quotient_at, remainder_at, levels_in, page_of}
 use Rattle.page_theorems.specs.Pages.{SamePage, PageCalled, SamePageCalls, page_asks, Demand1Page, ReadBack, AllReadBack, HasLine, LevelReadBack, PagesFit, LevelsAveraged, LevelsTotal, left_by, LevelsShown}
 use Rattle.page_theorems.proofs.Laws.Columns.{read_back, total_read, number_read, quotient_read, remainder_read}
@@ -257,7 +256,7 @@ called_page s c text x =
     let yes = page_yes q x.lent zero in
     let is = x.answers ∙ page_is q x.lent yes in
     let run = page_of (bytes_written (deep q)) in
-    let count : x.answer.page_count ≡ length run = ap (λ a. a.page_count) is in
+    let count : (counts_told x.answer).page_count ≡ length run = ap (λ a. a.page_count) is in
     let page : x.page ≡ written_over run x.lent = ap (λ a. a.page) is in (
       deep q,
       (

@@ -12,8 +12,8 @@ use Rattle.lists.specs.Placed.{written_over}
 use Rattle.theorems.specs.Faults.{Question, asks, check_asks, AllYes, FirstNo, Put}
 use Rattle.calls.specs.Reader.{bytes_written, EqualToReader}
 use Rattle.theorems.specs.Demands.{DepthFirstRun}
-use Rattle.calls.specs.declared.PageAnswer.{PageAnswer}
-use Rattle.calls.specs.Page.{question16, paged, PageAnswers}
+use Rattle.calls.specs.Refusals.{number_told}
+use Rattle.calls.specs.Page.{question16, paged, PageResult, counts_told, PageAnswers}
 use Rattle.text.specs.Text.{line_of, total_line, sum_of, total_of, histories_in, managers_at, steps_at, quotient_at, remainder_at, levels_in, average_of, page_of, read_aligned, read_hex}
 
 -- "Two accepted sessions whose depth-first runs, emptied for a reader's level, are equal to that reader give it the same page": the pages of the
@@ -103,12 +103,12 @@ pub record PageCalled (s : List ℕ) (c : ℕ) (text : List ℕ) : Type 0 where
   pub session_is : request.session ≡ s
   pub clearance_is : request.clearance ≡ c
   pub lent : List ℕ
-  pub answer : PageAnswer
+  pub answer : PageResult
   pub buffer : List ℕ
   pub page : List ℕ
   pub answers : PageAnswers (paged request lent) answer buffer page
-  pub finished : answer.number ≡ 0
-  pub written : text ≡ take answer.page_count page
+  pub finished : number_told answer ≡ 0
+  pub written : text ≡ take (counts_told answer).page_count page
 
 abbrev pub SamePageCalls : Type 0
 SamePageCalls =

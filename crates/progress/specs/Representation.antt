@@ -4,10 +4,9 @@
 use Rattle.std.specs.Prelude.{ℕ, ◌+◌, ◌*◌, ◌≤◌, ◌<◌, ◌≡◌, true, List, length, get_or}
 use Rattle.session.specs.Limits.{max_levels, max_objects, made_objects, max_numbers}
 use Rattle.session.specs.Parts.{level_count, object_count, masks_of}
-use Rattle.session.specs.Questions.{verdict_of}
+use Rattle.session.specs.Questions.{verdict_of, Accepted}
 use Rattle.session.specs.Program.{program_of}
 use Rattle.contents.specs.Reading.{index_of}
-use Rattle.session.specs.declared.Verdict.TheVariants.{Accepted}
 use Rattle.scripts.specs.Existence.{existence, initially}
 use Rattle.scripts.specs.Limits.{max_forks}
 use Rattle.fields.specs.Limits.{object_values, field_words}

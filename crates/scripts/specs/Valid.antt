@@ -4,12 +4,11 @@
 use Rattle.std.specs.Prelude.{ℕ, zero, suc, ◌+◌, ◌≤◌, ◌<◌, ◌≡◌, true, List, [], ◌∷◌, length}
 use Rattle.session.specs.Limits.{max_method, names}
 use Rattle.session.specs.Parts.{level_count, object_count, masks_of}
-use Rattle.session.specs.Questions.{verdict_of}
+use Rattle.session.specs.Questions.{verdict_of, Accepted}
 use Rattle.session.specs.Meaning.{Numbered, method_of}
 use Rattle.session.specs.declared.Message.{Message}
 use Rattle.session.specs.declared.Step.{Step}
 use Rattle.session.specs.declared.Step.TheVariants.{End, Set, Add, Jump, Read, Write, Send, Quit, Create, Withdraw}
-use Rattle.session.specs.declared.Verdict.TheVariants.{Accepted}
 use Rattle.scripts.specs.Limits.{max_frames, max_script_steps, max_writes, max_forks, write_stamps}
 use Rattle.scripts.specs.Ending.{is_running}
 use Rattle.scripts.specs.State.{Frame, Manager}

@@ -1,11 +1,10 @@
 -- What question 17 changes, as a statement: fewer sessions are accepted. Its proof is in proofs/Fewer.antt. Assumes nothing.
-use Rattle.std.specs.Prelude.{◌≡◌, List, ◌++◌, ℕ, length, take, drop}
+use Rattle.std.specs.Prelude.{◌≡◌, List, ◌++◌, ℕ, Err, length, take, drop}
 use Rattle.dominance.specs.Meet.{Unmet}
 use Rattle.dominance.specs.Table.{dominates}
 use Rattle.session.specs.Parts.{masks_of}
-use Rattle.session.specs.Questions.{asked, first_no, verdict_of}
-use Rattle.session.specs.declared.Verdict.{Verdict}
-use Rattle.session.specs.declared.Verdict.TheVariants.{Accepted, NoMeet}
+use Rattle.session.specs.Questions.{asked, first_no, verdict_of, Verdict, Accepted}
+use Rattle.session.specs.declared.Question.TheVariants.{NoMeet}
 
 -- the verdict by the questions of document 01 alone: 17, the sixth that is put, is left out
 unfoldable pub verdict_by01 : List ℕ → Verdict
@@ -15,5 +14,5 @@ verdict_by01 s = first_no (take 5 (asked s) ++ drop 6 (asked s))
 -- without a greatest lower bound
 pub record FewerAccepted : Type 0 where
   pub were_accepted : (s : List ℕ) → verdict_of s ≡ Accepted → verdict_by01 s ≡ Accepted
-  pub refused_by_17 : (s : List ℕ) → verdict_by01 s ≡ Accepted → (verdict_of s ≡ Accepted → ⊥) → verdict_of s ≡ NoMeet
-  pub unmet_pair : (s : List ℕ) → verdict_of s ≡ NoMeet → Unmet (length (masks_of s)) (dominates (masks_of s))
+  pub refused_by_17 : (s : List ℕ) → verdict_by01 s ≡ Accepted → (verdict_of s ≡ Accepted → ⊥) → verdict_of s ≡ Err NoMeet
+  pub unmet_pair : (s : List ℕ) → verdict_of s ≡ Err NoMeet → Unmet (length (masks_of s)) (dominates (masks_of s))

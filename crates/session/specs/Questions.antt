@@ -1,7 +1,7 @@
 -- Questions 1 to 8 of document 01 and 17 of document 02, in their order and words, and the verdict on a list of bytes. A question's number is
 -- not its position: 17 is put between 5 and 6. Assumes nothing.
 -- Laws (`proofs/Laws/Verdict`): a session is accepted exactly where all nine questions say yes (`accepted`, `all_yes`).
-use Rattle.std.specs.Prelude.{ℕ, ◌+◌, ◌*◌, ◌%◌, ◌^◌, Bool, true, false, cond, ◌&&◌, ◌||◌, List, [], ◌∷◌, eqb, leb, ltb, length}
+use Rattle.std.specs.Prelude.{ℕ, ◌+◌, ◌*◌, ◌%◌, ◌^◌, Bool, true, false, cond, ◌&&◌, ◌||◌, List, [], ◌∷◌, Result, Ok, Err, eqb, leb, ltb, length}
 use Rattle.lists.specs.Range.{all}
 use Rattle.dominance.specs.Table.{is_ordered, is_joined, is_met}
 use Rattle.session.specs.Limits.{record_bytes, max_records, max_levels, max_objects, made_objects, max_steps, max_method, names, registers, fields}
@@ -10,8 +10,8 @@ use Rattle.session.specs.Record.{Record, record_count, records_of, zero_at, from
 use Rattle.session.specs.Parts.{level_records, object_records, step_records, root_records, level_count, object_count, step_count, masks_of, key_of, of_method, root_record}
 use Rattle.session.specs.declared.Step.{Step}
 use Rattle.session.specs.declared.Step.TheVariants.{End, Set, Add, Jump, Read, Write, Send, Quit, Create, Withdraw}
-use Rattle.session.specs.declared.Verdict.{Verdict}
-use Rattle.session.specs.declared.Verdict.TheVariants.{Accepted, Length, Kinds, Numbering, NotOrdered, NoJoin, NoMeet, Object, Script, Root}
+use Rattle.session.specs.declared.Question.{Question}
+use Rattle.session.specs.declared.Question.TheVariants.{Length, Kinds, Numbering, NotOrdered, NoJoin, NoMeet, Object, Script, Root}
 
 -- 1. Is the length 1 to 297 whole records?
 unfoldable pub question1 : List ℕ → Bool
@@ -133,15 +133,22 @@ root_valid objects rec =
 abbrev pub question8 : List ℕ → Bool
 question8 s = root_valid (object_count s) (root_record s)
 
--- a question's answer, and the verdict where it says no
+-- a question's answer, and what refuses where it says no
 pub record Asked : Type 0 where
   pub says : Bool
-  pub refusal : Verdict
+  pub refusal : Question
+
+-- what the questions say of a session: that all say yes, or the first that says no
+abbrev pub Verdict : Type 0
+Verdict = Result Unit Question
+
+abbrev pub Accepted : Verdict
+Accepted = Ok tt
 
 -- "each put of the whole input before the next": the refusal of the first question that says no
 unfoldable pub first_no : List Asked → Verdict
 first_no [] = Accepted
-first_no (q ∷ qs) = cond q.says (first_no qs) q.refusal
+first_no (q ∷ qs) = cond q.says (first_no qs) (Err q.refusal)
 
 -- the questions that Check uses, in the order in which they are put
 abbrev pub asked : List ℕ → List Asked
@@ -161,18 +168,22 @@ asked s =
 unfoldable pub verdict_of : List ℕ → Verdict
 verdict_of s = first_no (asked s)
 
--- the documents' number of a verdict
+-- the documents' number of a question
+abbrev pub number_of_question : Question → ℕ
+number_of_question Length = 1
+number_of_question Kinds = 2
+number_of_question Numbering = 3
+number_of_question NotOrdered = 4
+number_of_question NoJoin = 5
+number_of_question NoMeet = 17
+number_of_question Object = 6
+number_of_question Script = 7
+number_of_question Root = 8
+
+-- and of a verdict
 abbrev pub number_of_verdict : Verdict → ℕ
-number_of_verdict Accepted = 0
-number_of_verdict Length = 1
-number_of_verdict Kinds = 2
-number_of_verdict Numbering = 3
-number_of_verdict NotOrdered = 4
-number_of_verdict NoJoin = 5
-number_of_verdict NoMeet = 17
-number_of_verdict Object = 6
-number_of_verdict Script = 7
-number_of_verdict Root = 8
+number_of_verdict (Ok u) = 0
+number_of_verdict (Err q) = number_of_question q
 
 -- "An answer of no ends the call with the number shown and a place: .. otherwise 0", "All yes gives number 0, place 0"
 pub record Answer : Type 0 where

@@ -36,11 +36,9 @@ pub enum Step {
     Withdraw,
 }
 
-// What the questions that Check uses say of a session: that all say yes, or the first that says no, in
-// the order in which they are put.
-#[derive(Clone, Copy)]
-pub enum Verdict {
-    Accepted,
+// The questions that Check uses, as refusals of a session: the first that says no, in the order in which they are put.
+#[derive(Clone, Copy, Debug, PartialEq, Eq)]
+pub enum Question {
     // Question 1: not 1 to 297 whole records.
     Length,
     // Question 2: the kinds of the records.

@@ -5,12 +5,11 @@ use mathlib.Core.Bool.{true}
 use mathlib.Core.List.{List}
 use borrow.Author.Tests.{le-leb}
 use lib.ListN.{length}
-use Rattle.session.specs.Questions.{verdict_of}
+use Rattle.session.specs.Questions.{verdict_of, Accepted}
 use Rattle.session.specs.Meaning.{root_of}
 use Rattle.session.specs.Program.{Program, program_of, seen_by}
 use Rattle.session.specs.Emptied.{emptied}
 use Rattle.session.specs.declared.Message.{Message}
-use Rattle.session.specs.declared.Verdict.TheVariants.{Accepted}
 use Rattle.session.proofs.Laws.Numbering.{few_levels}
 use Rattle.session.proofs.Laws.Verdict.{accepted}
 use Rattle.session.proofs.Laws.Emptied.{emptied_message, emptied_level_count}

@@ -10,12 +10,11 @@ use Rattle.lists.proofs.Laws.Range.{not_both, and_left, and_right, and_both}
 use Rattle.session.specs.Limits.{max_levels, max_objects}
 use Rattle.lists.specs.Lists.{select}
 use Rattle.session.specs.Record.{byte_of}
-use Rattle.session.specs.Questions.{verdict_of}
+use Rattle.session.specs.Questions.{verdict_of, Accepted}
 use Rattle.session.specs.Meaning.{root_of}
 use Rattle.session.specs.Program.{Program, program_of}
 use Rattle.session.specs.declared.Value.{Value}
 use Rattle.session.specs.declared.Value.TheVariants.{Nil, Number}
-use Rattle.session.specs.declared.Verdict.TheVariants.{Accepted}
 use Rattle.lists.proofs.Laws.Lists.{holds, fails, truth}
 use Rattle.session.proofs.Laws.Numbering.{few_levels, few_objects}
 use Rattle.session.proofs.Laws.Verdict.{accepted}

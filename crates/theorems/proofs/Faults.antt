@@ -7,12 +7,13 @@ use native.Mathlib.Omega.{arith}
 use borrow.Author.Tests.{ne_eqb, eqb-true, eqb-false, not-true}
 use lib.Dec.{eqb}
 use lib.ListN.{length}
+use Rattle.std.specs.Prelude.{Err}
 use Rattle.lists.proofs.Laws.Range.{and_left, and_right, and_both}
 use Rattle.lists.specs.Lists.{every}
-use Rattle.session.specs.Questions.{question1, question2, question3, question4, question5, question17, question6, question7, question8, verdict_of, number_of_verdict}
+use Rattle.session.specs.Questions.{question1, question2, question3, question4, question5, question17, question6, question7, question8, verdict_of, number_of_verdict, Accepted}
 use Rattle.session.specs.Meaning.{root_of}
 use Rattle.session.specs.Program.{Program, program_of}
-use Rattle.session.specs.declared.Verdict.TheVariants.{Accepted, Length, Kinds, Numbering, NotOrdered, NoJoin, NoMeet, Object, Script, Root}
+use Rattle.session.specs.declared.Question.TheVariants.{Length, Kinds, Numbering, NotOrdered, NoJoin, NoMeet, Object, Script, Root}
 use Rattle.lists.proofs.Laws.Lists.{Truth, holds, fails, truth}
 use Rattle.session.proofs.Laws.Verdict.{verdict_chain}
 use Rattle.model.specs.Step.{State, step_at}
@@ -85,7 +86,7 @@ put_of (x ∷ xs) = by (truth x.says) (put_of xs)
 -- the verdict's number is that of the first of Check's questions that says no
 chain : (a b c d e m f g h : Bool) (xs : List Question) →
     first_of (asks 1 a ∷ asks 2 b ∷ asks 3 c ∷ asks 4 d ∷ asks 5 e ∷ asks 17 m ∷ asks 6 f ∷ asks 7 g ∷ asks 8 h ∷ xs)
-    ≡ past (number_of_verdict (cond a (cond b (cond c (cond d (cond e (cond m (cond f (cond g (cond h Accepted Root) Script) Object) NoMeet) NoJoin) NotOrdered) Numbering) Kinds) Length)) (first_of xs)
+    ≡ past (number_of_verdict (cond a (cond b (cond c (cond d (cond e (cond m (cond f (cond g (cond h Accepted (Err Root)) (Err Script)) (Err Object)) (Err NoMeet)) (Err NoJoin)) (Err NotOrdered)) (Err Numbering)) (Err Kinds)) (Err Length))) (first_of xs)
 unfolding first_of
 chain false b c d e m f g h xs = refl
 chain true false c d e m f g h xs = refl

@@ -6,10 +6,9 @@ use mathlib.Core.List.{List, [], ◌∷◌}
 use borrow.Author.Tests.{eqb-true}
 use lib.Dec.{eqb}
 use Rattle.lists.proofs.Laws.Range.{not_both}
-use Rattle.session.specs.Questions.{verdict_of}
+use Rattle.session.specs.Questions.{verdict_of, Accepted}
 use Rattle.session.specs.Meaning.{root_of}
 use Rattle.session.specs.Program.{program_of}
-use Rattle.session.specs.declared.Verdict.TheVariants.{Accepted}
 use Rattle.lists.proofs.Laws.Lists.{holds, fails, truth}
 use Rattle.session.proofs.Laws.Numbering.{few_levels}
 use Rattle.session.proofs.Laws.Verdict.{accepted}

@@ -1,11 +1,10 @@
 -- What the client demands of runs, as statements. Their proofs are in proofs/Demands.antt. Assumes nothing.
 use Rattle.std.specs.Prelude.{ℕ, ◌≤◌, ◌<◌, ◌≡◌, true, List, length}
 use Rattle.session.specs.Parts.{level_count}
-use Rattle.session.specs.Questions.{verdict_of}
+use Rattle.session.specs.Questions.{verdict_of, Accepted}
 use Rattle.session.specs.Meaning.{root_of}
 use Rattle.session.specs.Program.{program_of}
 use Rattle.session.specs.Emptied.{emptied}
-use Rattle.session.specs.declared.Verdict.TheVariants.{Accepted}
 use Rattle.model.specs.Limits.{result_bytes}
 use Rattle.model.specs.History.{AllLimited}
 use Rattle.model.specs.Step.{State, level_at, moved, move_at}

@@ -6,16 +6,18 @@ use mathlib.Core.List.{List, [], ◌++◌}
 use lib.ListN.{length, take, drop}
 use lib.Seq.{take_at}
 use Rattle.dominance.specs.Table as table
-use Rattle.dominance.specs.declared.Verdict.TheVariants as answer
+use Rattle.dominance.specs.declared.Fault.{Fault}
+use Rattle.dominance.specs.declared.Fault.TheVariants as fault
 use Rattle.dominance.proofs.Laws.Table.{told}
 use Rattle.lists.specs.Lists.{tab}
 use Rattle.session.specs.Record.{record_at, mask_of}
 use Rattle.session.specs.Parts.{level_count, masks_of}
-use Rattle.session.specs.Questions.{kinds_rise, question1, question2, question3, asked, first_no, verdict_of}
-use Rattle.checks.specs.Checking.{table_made, Checks}
-use Rattle.checks.specs.declared.Checked.{Checked}
-use Rattle.session.specs.declared.Verdict.{Verdict}
-use Rattle.session.specs.declared.Verdict.TheVariants.{Accepted, Length, Kinds, Numbering, NotOrdered, NoJoin, NoMeet}
+use Rattle.session.specs.Questions.{kinds_rise, question1, question2, question3, asked, first_no, verdict_of, Verdict, Accepted}
+use Rattle.checks.specs.Checking.{table_made, question_of, counted, Checks}
+use Rattle.std.specs.Prelude.{Ok, Err, MatchResult}
+use Rattle.std.specs.Result.{IsErrAnd}
+use Rattle.session.specs.declared.Question.{Question}
+use Rattle.session.specs.declared.Question.TheVariants.{Length, Kinds, Numbering}
 use Rattle.session.proofs.Laws.Numbering.{masks_are}
 use Rattle.session.proofs.Laws.Verdict.{accepted}
 use Rattle.session.proofs.Laws.Parts.{masks_count}
@@ -31,42 +33,53 @@ module _ (s before after : List ℕ) (levels : ℕ) (k : kinds_rise s ≡ true) 
       ap table.verdict_of (sym (ap (take levels) filled ∙ take_at (masks_of s) (drop (level_count s) before) levels (masks_count s ∙ sym n)))
 
   -- questions 4, 5 and 17, put of that front
-  pub table_passed : table.verdict_of (take levels after) ≡ answer.Passed → (v : Verdict) → v ≡ first_no (drop 6 (asked s))
+  pub table_passed : table.verdict_of (take levels after) ≡ table.Passed → (v : Verdict) → v ≡ first_no (drop 6 (asked s))
       → (v ≡ first_no (drop 3 (asked s))) × (after ≡ masks_of s ++ drop (level_count s) before)
   unfolding first_no
-  table_passed e v i = let (o, j, m) = told (masks_of s) answer.Passed (of_table ∙ e) in (rw (o, j, m) i, filled)
+  table_passed e v i = let (o, j, m) = told (masks_of s) table.Passed (of_table ∙ e) in (rw (o, j, m) i, filled)
 
-  pub table_unordered : table.verdict_of (take levels after) ≡ answer.NotOrdered
-      → (NotOrdered ≡ first_no (drop 3 (asked s))) × (after ≡ masks_of s ++ drop (level_count s) before)
+  refuses : (f : Fault) → table.verdict_of (masks_of s) ≡ Err f → Err (question_of f) ≡ first_no (drop 3 (asked s))
   unfolding first_no
-  table_unordered e = (rw (told (masks_of s) answer.NotOrdered (of_table ∙ e)), filled)
+  refuses fault.NotOrdered e = rw (told (masks_of s) (Err fault.NotOrdered) e)
+  refuses fault.NoJoin e = let (o, j) = told (masks_of s) (Err fault.NoJoin) e in rw (o, j)
+  refuses fault.NoMeet e = let (o, j, m) = told (masks_of s) (Err fault.NoMeet) e in rw (o, j, m)
 
-  pub table_unjoined : table.verdict_of (take levels after) ≡ answer.NoJoin
-      → (NoJoin ≡ first_no (drop 3 (asked s))) × (after ≡ masks_of s ++ drop (level_count s) before)
-  unfolding first_no
-  table_unjoined e = let (o, j) = told (masks_of s) answer.NoJoin (of_table ∙ e) in (rw (o, j), filled)
+  -- and told as questions of the session
+  pub table_refused : (f : Fault) → table.verdict_of (take levels after) ≡ Err f
+      → (Err (question_of f) ≡ first_no (drop 3 (asked s))) × (after ≡ masks_of s ++ drop (level_count s) before)
+  table_refused f e = (refuses f (of_table ∙ e), filled)
 
-  pub table_unmet : table.verdict_of (take levels after) ≡ answer.NoMeet
-      → (NoMeet ≡ first_no (drop 3 (asked s))) × (after ≡ masks_of s ++ drop (level_count s) before)
-  unfolding first_no
-  table_unmet e = let (o, j, m) = told (masks_of s) answer.NoMeet (of_table ∙ e) in (rw (o, j, m), filled)
+-- a verdict on a table, told as one on a session
+abbrev pub Told : table.Verdict → Verdict → Type 0
+Told v r = MatchResult v (λ u. r ≡ Ok u) (λ f. IsErrAnd r (λ q. q ≡ question_of f))
 
--- no table is made where one of questions 1 to 3 says no, which is then the verdict
-module _ (s masks : List ℕ) (r : Checked) where
-  unmade : {v : Verdict} → (r.verdict ≡ v) × (r.levels ≡ 0) → verdict_of s ≡ v → table_made s ≡ [] → Checks s masks masks r
-  unmade e i t = record { verdict = e.0 ∙ sym i; levels = e.1 ∙ sym (ap length t); table = rw t refl }
+pub told_yes : (v : table.Verdict) (r : Verdict) → Told v r → r ≡ Accepted → v ≡ table.Passed
+told_yes (Ok tt) r t e = refl
+told_yes (Err f) (Ok u) t e = absurd t
+told_yes (Err f) (Err q) t e = cc
 
-  pub not_whole : question1 s ≡ false → (r.verdict ≡ Length) × (r.levels ≡ 0) → Checks s masks masks r
+pub told_no : (v : table.Verdict) (r : Verdict) (q : Question) → Told v r → r ≡ Err q → (f : Fault) × (v ≡ Err f) × (q ≡ question_of f)
+told_no (Ok u) (Ok w) q t e = cc
+told_no (Ok u) (Err d) q t e = cc
+told_no (Err f) (Ok u) q t e = absurd t
+told_no (Err f) (Err d) q t e = (f, refl, cc)
+
+-- no table is made where one of questions 1 to 3 says no, which then refuses
+module _ (s masks : List ℕ) where
+  unmade : (q : Question) → verdict_of s ≡ Err q → table_made s ≡ [] → Checks s masks masks (Err q)
+  unmade q i t = record { verdict = rw i refl; table = rw t refl }
+
+  pub not_whole : question1 s ≡ false → Checks s masks masks (Err Length)
   unfolding table_made verdict_of first_no
-  not_whole q e = unmade e (rw q) (rw q)
+  not_whole q = unmade Length (rw q) (rw q)
 
-  pub not_kinds : question1 s ≡ true → question2 s ≡ false → (r.verdict ≡ Kinds) × (r.levels ≡ 0) → Checks s masks masks r
+  pub not_kinds : question1 s ≡ true → question2 s ≡ false → Checks s masks masks (Err Kinds)
   unfolding table_made verdict_of first_no
-  not_kinds p q e = unmade e (rw (p, q)) (rw (p, q))
+  not_kinds p q = unmade Kinds (rw (p, q)) (rw (p, q))
 
-  pub not_numbered : question1 s ≡ true → question2 s ≡ true → question3 s ≡ false → (r.verdict ≡ Numbering) × (r.levels ≡ 0) → Checks s masks masks r
+  pub not_numbered : question1 s ≡ true → question2 s ≡ true → question3 s ≡ false → Checks s masks masks (Err Numbering)
   unfolding table_made verdict_of first_no
-  not_numbered o p q e = unmade e (rw (o, p, q)) (rw (o, p, q))
+  not_numbered o p q = unmade Numbering (rw (o, p, q)) (rw (o, p, q))
 
 -- it is made where they say yes
 module _ (s : List ℕ) (o : question1 s ≡ true) (p : question2 s ≡ true) (q : question3 s ≡ true) where
@@ -77,14 +90,13 @@ module _ (s : List ℕ) (o : question1 s ≡ true) (p : question2 s ≡ true) (q
   made_count : length (table_made s) ≡ level_count s
   made_count = ap length made ∙ masks_count s
 
-  pub checked : (before after : List ℕ) (verdict : Verdict) (levels : ℕ)
-      → verdict ≡ first_no (drop 3 (asked s)) → levels ≡ level_count s → after ≡ masks_of s ++ drop (level_count s) before
-      → Checks s before after (record { verdict = verdict; levels = levels })
+  pub checked : (before after : List ℕ) (v : Verdict) (levels : ℕ)
+      → v ≡ first_no (drop 3 (asked s)) → levels ≡ level_count s → after ≡ masks_of s ++ drop (level_count s) before
+      → Checks s before after (counted levels v)
   unfolding verdict_of first_no
-  checked before after verdict levels v n t =
+  checked before after v levels e n t =
       record {
-        verdict = rw (o, p, q) v;
-        levels = n ∙ sym made_count;
+        verdict = ap₂ counted (n ∙ sym made_count) (rw (o, p, q) e);
         table = t ∙ sym (ap₂ (λ l m. l ++ drop m before) made made_count);
       }
 

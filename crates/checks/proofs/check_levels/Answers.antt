@@ -5,7 +5,8 @@ use lib.ListN.{length}
 use lib.Seq.{length-take-le}
 use Rattle.session.proofs.Laws.Parts.{kinds_rise_lem, below_5}
 use Rattle.session.proofs.Laws.Numbering.{few_levels}
-use Rattle.checks.proofs.Laws.Checked.{table_passed, table_unordered, table_unjoined, table_unmet}
+use Rattle.checks.proofs.Laws.Checked.{table_passed, table_refused, told_yes, told_no}
+use Rattle.std.proofs.lemmas.Result.{err_from_is_err_and}
 use Rattle.checks.proofs.check_levels.Goals as goal
 
 pub fill_masks-requires : goal.fill_masks-requires
@@ -25,22 +26,15 @@ slice_bounds-check-end-2 c =
     let l : c.args.levels ≤ length masks = omega (arith, few_levels t c.requires.session_value.1, c.requires.counted.levels_are, c.requires.max_levels_in_bounds, c.fill_masks.auto.masks) in
     sym (length-take-le c.args.levels masks l)
 
-pub returns-in-Passed : goal.returns-in-Passed
-returns-in-Passed c =
+pub returns-in_err-map_err : goal.returns-in_err-map_err
+returns-in_err-map_err c =
     let t = c.args.session.now in
-    table_passed t c.args.masks.now _ c.args.levels (kinds_rise_lem t c.requires.session_value.0) c.requires.counted.levels_are c.fill_masks.ensures (sym c.check-table.ensures ∙ c.in-Passed.is) _ c.check_contents.ensures
+    let p = err_from_is_err_and c.from_residual.result c.from_residual.ensures.1 in
+    let (f, e, q) = told_no _ _ _ c.map_err.ensures.cases c.in_err-map_err.was in
+    rw (p.1, p.2, q) (table_refused t c.args.masks.now _ c.args.levels (kinds_rise_lem t c.requires.session_value.0) c.requires.counted.levels_are c.fill_masks.ensures f (sym c.check.ensures ∙ e))
 
-pub returns-in-NotOrdered : goal.returns-in-NotOrdered
-returns-in-NotOrdered c =
+pub returns : goal.returns
+returns c =
     let t = c.args.session.now in
-    table_unordered t c.args.masks.now _ c.args.levels (kinds_rise_lem t c.requires.session_value.0) c.requires.counted.levels_are c.fill_masks.ensures (sym c.check-table.ensures ∙ c.in-NotOrdered.is)
-
-pub returns-in-NoJoin : goal.returns-in-NoJoin
-returns-in-NoJoin c =
-    let t = c.args.session.now in
-    table_unjoined t c.args.masks.now _ c.args.levels (kinds_rise_lem t c.requires.session_value.0) c.requires.counted.levels_are c.fill_masks.ensures (sym c.check-table.ensures ∙ c.in-NoJoin.is)
-
-pub returns-in-NoMeet : goal.returns-in-NoMeet
-returns-in-NoMeet c =
-    let t = c.args.session.now in
-    table_unmet t c.args.masks.now _ c.args.levels (kinds_rise_lem t c.requires.session_value.0) c.requires.counted.levels_are c.fill_masks.ensures (sym c.check-table.ensures ∙ c.in-NoMeet.is)
+    table_passed t c.args.masks.now _ c.args.levels (kinds_rise_lem t c.requires.session_value.0) c.requires.counted.levels_are c.fill_masks.ensures
+    (sym c.check.ensures ∙ told_yes _ _ c.map_err.ensures.cases c.in_ok-map_err.was) _ c.check_contents.ensures

@@ -16,10 +16,9 @@ use Rattle.session.specs.Limits.{names, max_methods}
 use Rattle.lists.specs.Lists.{rising_from, count_below}
 use Rattle.session.specs.Record.{record_at, record_count, number_of, name_of, step_of}
 use Rattle.session.specs.Parts.{step_records, level_count, object_count, step_count, key, key_of, method_records}
-use Rattle.session.specs.Questions.{script_valid, methods_valid, scripts_valid, verdict_of}
+use Rattle.session.specs.Questions.{script_valid, methods_valid, scripts_valid, verdict_of, Accepted}
 use Rattle.session.specs.Meaning.{method_of, step_at}
 use Rattle.contents.specs.Reading.{method_start, index_of, MethodAt}
-use Rattle.session.specs.declared.Verdict.TheVariants.{Accepted}
 use Rattle.session.specs.declared.Step.TheVariants.{End}
 use Rattle.lists.proofs.Laws.Lists.{length-tab, get_d_tab, select-length}
 use Rattle.lists.proofs.Laws.Rising.{first_below, rest_above, count_more, count_mono, among_at}

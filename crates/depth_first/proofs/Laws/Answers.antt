@@ -8,8 +8,6 @@ use lib.ListN.{length}
 use Rattle.model.specs.Limits.{result_bytes}
 use Rattle.calls.specs.Entries.{Request, entry_refusal, deep, Answers}
 use Rattle.theorems.proofs.Laws.Reader.Answers.{passes, deep_is}
-use Rattle.opening.specs.declared.Answer.{Answer}
-use Rattle.opening.specs.Opening.{Finished}
 use Rattle.depth_first.specs.Runs.{Shown}
 
 abbrev pub request : List ℕ → ℕ → List ℕ → Request
@@ -19,6 +17,6 @@ module _ (s : List ℕ) (c : ℕ) (b : List ℕ) (yes : entry_refusal true (requ
   pub roomy : result_bytes ≤ length b
   roomy = leb-true result_bytes (length b) (passes true (request s c b) yes).room
 
-  pub answered : (count : ℕ) (b' : List ℕ) → Shown s c b b' count → (r : Answer) → Finished count r → Answers (deep (request s c b)) r.number r.place r.count [] b'
-  answered count b' t r (i, j, k) =
-      rw (i, j, k, t.written.number, t.written.buffer) (sym (deep_is (request s c b) yes))
+  pub answered : (count : ℕ) (b' : List ℕ) → Shown s c b b' count → Answers (deep (request s c b)) 0 0 count [] b'
+  answered count b' t =
+      rw (t.written.number, t.written.buffer) (sym (deep_is (request s c b) yes))

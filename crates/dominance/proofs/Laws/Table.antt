@@ -13,9 +13,9 @@ use lib.ListN.{length, get_or, get_or-eq_default}
 use Rattle.dominance.specs.Order.{reflexive, antisymmetric, transitive, is_order, PartialOrder}
 use Rattle.dominance.specs.Join.{JoinSemilattice}
 use Rattle.dominance.specs.Meet.{is_lowest, has_lowest, Lattice}
-use Rattle.dominance.specs.Table.{bit, dominates, names_present, is_ordered, is_joined, is_met, verdict_of}
-use Rattle.dominance.specs.declared.Verdict.{Verdict}
-use Rattle.dominance.specs.declared.Verdict.TheVariants.{Passed, NotOrdered, NoJoin, NoMeet}
+use Rattle.dominance.specs.Table.{bit, dominates, names_present, is_ordered, is_joined, is_met, Verdict, Passed, verdict_of}
+use Rattle.dominance.specs.declared.Fault.TheVariants.{NotOrdered, NoJoin, NoMeet}
+use Rattle.std.specs.Prelude.{Ok, Err}
 use Rattle.lists.proofs.Laws.Range.{and_left, and_right, not_both, all_each}
 use Rattle.dominance.proofs.Laws.Order.{order}
 use Rattle.dominance.proofs.Laws.Join.{semilattice}
@@ -103,15 +103,15 @@ module _ (masks : List ℕ) (o : is_ordered masks ≡ true) (j : is_joined masks
       go (no h) = let z : length masks ≡ 0 = omega arith in rw z (met_none (dominates masks))
 
 -- the verdict, from the questions and back
-pub not_ordered : (masks : List ℕ) → is_ordered masks ≡ false → verdict_of masks ≡ NotOrdered
+pub not_ordered : (masks : List ℕ) → is_ordered masks ≡ false → verdict_of masks ≡ Err NotOrdered
 unfolding verdict_of
 not_ordered masks o = rw o
 
-pub no_join : (masks : List ℕ) → is_ordered masks ≡ true → is_joined masks ≡ false → verdict_of masks ≡ NoJoin
+pub no_join : (masks : List ℕ) → is_ordered masks ≡ true → is_joined masks ≡ false → verdict_of masks ≡ Err NoJoin
 unfolding verdict_of
 no_join masks o j = rw (o, j)
 
-pub no_meet : (masks : List ℕ) → is_ordered masks ≡ true → is_joined masks ≡ true → is_met masks ≡ false → verdict_of masks ≡ NoMeet
+pub no_meet : (masks : List ℕ) → is_ordered masks ≡ true → is_joined masks ≡ true → is_met masks ≡ false → verdict_of masks ≡ Err NoMeet
 unfolding verdict_of
 no_meet masks o j m = rw (o, j, m)
 
@@ -121,12 +121,12 @@ all_pass masks o j m = rw (o, j, m)
 
 -- what each verdict tells of the questions
 abbrev pub Told : Verdict → Bool → Bool → Bool → Type 0
-Told Passed o j m = (o ≡ true) × (j ≡ true) × (m ≡ true)
-Told NotOrdered o j m = o ≡ false
-Told NoJoin o j m = (o ≡ true) × (j ≡ false)
-Told NoMeet o j m = (o ≡ true) × (j ≡ true) × (m ≡ false)
+Told (Ok u) o j m = (o ≡ true) × (j ≡ true) × (m ≡ true)
+Told (Err NotOrdered) o j m = o ≡ false
+Told (Err NoJoin) o j m = (o ≡ true) × (j ≡ false)
+Told (Err NoMeet) o j m = (o ≡ true) × (j ≡ true) × (m ≡ false)
 
-told_by : (o j m : Bool) → Told (cond o (cond j (cond m Passed NoMeet) NoJoin) NotOrdered) o j m
+told_by : (o j m : Bool) → Told (cond o (cond j (cond m Passed (Err NoMeet)) (Err NoJoin)) (Err NotOrdered)) o j m
 told_by true true true = (refl, refl, refl)
 told_by true true false = (refl, refl, refl)
 told_by true false m = (refl, refl)

@@ -8,8 +8,7 @@ use borrow.Author.Tests.{lt-ltb}
 use lib.ListN.{length}
 use Rattle.session.specs.Parts.{level_count}
 use Rattle.session.specs.Program.{program_of}
-use Rattle.session.specs.Questions.{verdict_of}
-use Rattle.session.specs.declared.Verdict.TheVariants.{Accepted}
+use Rattle.session.specs.Questions.{verdict_of, Accepted}
 use Rattle.session.specs.declared.Value.TheVariants.{Nil}
 use Rattle.scripts.specs.State.{Manager}
 use Rattle.scripts.specs.declared.Ending.TheVariants.{Finished}

@@ -9,8 +9,7 @@ use lib.ListN.{get_or}
 use lib.Seq.{get_or-set_other}
 use Rattle.session.specs.Limits.{max_levels}
 use Rattle.session.specs.Meaning.{level_of}
-use Rattle.session.specs.Questions.{verdict_of}
-use Rattle.session.specs.declared.Verdict.TheVariants.{Accepted}
+use Rattle.session.specs.Questions.{verdict_of, Accepted}
 use Rattle.session.specs.declared.Message.{Message}
 use Rattle.session.proofs.Laws.Accepted.{level_present}
 use Rattle.session.proofs.Laws.Contents.{level_limit}

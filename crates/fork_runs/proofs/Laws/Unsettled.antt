@@ -9,8 +9,7 @@ use lib.ListN.{length, get_or}
 use Rattle.session.specs.Limits.{max_levels}
 use Rattle.session.specs.Parts.{level_count}
 use Rattle.session.specs.Program.{Program, program_of}
-use Rattle.session.specs.Questions.{verdict_of}
-use Rattle.session.specs.declared.Verdict.TheVariants.{Accepted}
+use Rattle.session.specs.Questions.{verdict_of, Accepted}
 use Rattle.session.specs.declared.Value.{Value}
 use Rattle.session.proofs.Laws.Contents.{level_limit, object_limit}
 use Rattle.scripts.specs.Ending.{is_running}

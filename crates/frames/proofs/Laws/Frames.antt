@@ -11,9 +11,8 @@ use Rattle.lists.proofs.Laws.Range.{not_both}
 use Rattle.session.specs.Limits.{names, registers}
 use Rattle.session.specs.Program.{program_of}
 use Rattle.contents.specs.Reading.{MethodAt}
-use Rattle.session.specs.Questions.{verdict_of}
+use Rattle.session.specs.Questions.{verdict_of, Accepted}
 use Rattle.session.specs.declared.Value.{Value}
-use Rattle.session.specs.declared.Verdict.TheVariants.{Accepted}
 use Rattle.scripts.specs.State as defined
 use Rattle.scripts.specs.Frame.{with_register}
 use Rattle.scripts.specs.Manager.{is_end, next_step}

@@ -2,8 +2,7 @@ use Prim.Native.Nat.{ℕ, ◌<◌}
 use mathlib.Core.Path.{◌≡◌, refl, subst, sym}
 use mathlib.Core.List.{List}
 use native.Mathlib.Omega.{arith}
-use Rattle.session.specs.Questions.{verdict_of}
-use Rattle.session.specs.declared.Verdict.TheVariants.{Accepted}
+use Rattle.session.specs.Questions.{verdict_of, Accepted}
 use Rattle.session.proofs.Laws.Contents.{object_limit}
 use Rattle.session.proofs.Laws.Numbers.{number_few}
 use Rattle.scripts.proofs.Laws.Accepted.{script_short}

@@ -14,8 +14,7 @@ use Rattle.lists.proofs.Laws.Range.{and_left, and_right, and_both, not_both}
 use Rattle.session.specs.Limits.{max_levels}
 use Rattle.session.specs.Parts.{level_count, masks_of}
 use Rattle.session.specs.Program.{program_of}
-use Rattle.session.specs.Questions.{verdict_of}
-use Rattle.session.specs.declared.Verdict.TheVariants.{Accepted}
+use Rattle.session.specs.Questions.{verdict_of, Accepted}
 use Rattle.lists.proofs.Laws.Lists.{holds, fails, truth}
 use Rattle.lists.proofs.Laws.Numbered.{all_ext}
 use Rattle.scripts.specs.State.{Manager}

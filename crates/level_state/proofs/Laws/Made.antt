@@ -11,8 +11,7 @@ use Rattle.lists.proofs.Laws.Range.{not_both}
 use Rattle.session.specs.Limits.{max_levels, max_numbers, fields}
 use Rattle.session.specs.Parts.{level_count, object_count}
 use Rattle.session.specs.Program.{Program, program_of}
-use Rattle.session.specs.Questions.{verdict_of}
-use Rattle.session.specs.declared.Verdict.TheVariants.{Accepted}
+use Rattle.session.specs.Questions.{verdict_of, Accepted}
 use Rattle.session.specs.declared.Value.{Value}
 use Rattle.session.specs.declared.Value.TheVariants.{Number}
 use Rattle.session.specs.declared.Message.{Message}

@@ -16,8 +16,7 @@ use Rattle.session.specs.Program.{program_of}
 use Rattle.session.specs.declared.Value.{Value}
 use Rattle.scripts.specs.Existence.{existence, initially}
 use Rattle.scripts.proofs.Laws.Existence.{first_there, first_none}
-use Rattle.session.specs.Questions.{verdict_of}
-use Rattle.session.specs.declared.Verdict.TheVariants.{Accepted}
+use Rattle.session.specs.Questions.{verdict_of, Accepted}
 use Rattle.session.proofs.Laws.Accepted.{level_present}
 use Rattle.lists.proofs.Laws.Lists.{holds, fails, truth}
 use Rattle.session.proofs.Laws.Contents.{level_limit, object_limit}

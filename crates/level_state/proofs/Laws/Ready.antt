@@ -11,8 +11,7 @@ use Rattle.session.specs.Limits.{max_levels, max_numbers, max_objects}
 use Rattle.session.specs.Parts.{level_count, object_count}
 use Rattle.session.specs.Meaning.{Numbered}
 use Rattle.session.specs.Program.{program_of}
-use Rattle.session.specs.Questions.{verdict_of}
-use Rattle.session.specs.declared.Verdict.TheVariants.{Accepted}
+use Rattle.session.specs.Questions.{verdict_of, Accepted}
 use Rattle.session.specs.declared.Value.{Value}
 use Rattle.session.proofs.Laws.Numbers.{number_few}
 use Rattle.scripts.specs.Existence.{existence}

@@ -9,8 +9,7 @@ use Rattle.session.specs.Limits.{max_levels}
 use Rattle.session.specs.Parts.{level_count}
 use Rattle.session.specs.Meaning.{root_of}
 use Rattle.session.specs.Program.{program_of}
-use Rattle.session.specs.Questions.{verdict_of}
-use Rattle.session.specs.declared.Verdict.TheVariants.{Accepted}
+use Rattle.session.specs.Questions.{verdict_of, Accepted}
 use Rattle.scripts.specs.Existence.{script_seen}
 use Rattle.scripts.specs.Manager.{started, stepped}
 use Rattle.scripts.specs.State.{Manager, Stepped}

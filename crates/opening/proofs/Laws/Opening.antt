@@ -10,42 +10,45 @@ use lib.Seq.{length-take-le, take_at}
 use Rattle.session.specs.Parts.{level_count}
 use Rattle.session.specs.Meaning.{root_of}
 use Rattle.session.specs.Program.{program_of}
-use Rattle.session.specs.Questions.{verdict_of}
+use Rattle.session.specs.Questions.{verdict_of, Verdict, Accepted, number_of_question, number_of_verdict}
+use Rattle.session.specs.declared.Question.{Question}
+use Rattle.session.specs.declared.Question.TheVariants.{Length, Kinds, Numbering, NotOrdered, NoJoin, NoMeet, Object, Script, Root}
+use Rattle.std.specs.Result.{result_map_both}
 use Rattle.checks.specs.Checking.{table_made}
-use Rattle.session.specs.declared.Verdict.TheVariants.{Accepted}
 use Rattle.checks.proofs.Laws.Checked.{accepted_table, accepted_count}
 use Rattle.scripts.specs.Valid.{Leveled}
 use Rattle.model.specs.Limits.{result_bytes}
 use Rattle.model.specs.Schedule.{plain_order}
 use Rattle.calls.specs.Entries.{Request, question10, entry_refusal, untouched, timetabled, plain, deep, Answers}
 use Rattle.calls.specs.Entries as model
-use Rattle.session.proofs.Laws.Verdict.{number_accepted}
-use Rattle.opening.specs.declared.Answer.{Answer}
-use Rattle.opening.specs.declared.Opened.{Opened}
-use Rattle.opening.specs.Opening.{Refused, Opens, LentRefusal}
+use Rattle.calls.specs.Refusals.{number_of_refusal, place_of_refusal}
+use Rattle.calls.specs.declared.Refusal.{Refusal}
+use Rattle.calls.specs.declared.Refusal.TheVariants.{Session, Clearance, ShortWork, ShortResult, Absent, Idle, Blocked, Unended, ShortPage}
+use Rattle.std.specs.Prelude.{Ok, Err}
+use Rattle.opening.specs.Opening.{Opens, LentRefusal}
 
 -- questions 9 to 11 of a session with so many levels
 module _ (levels clearance : ℕ) (ten : Bool) (bytes : ℕ) where
   -- 9
-  pub refused_level : levels ≤ clearance → LentRefusal levels clearance ten bytes 9
+  pub refused_level : levels ≤ clearance → LentRefusal levels clearance ten bytes (Err Clearance)
   unfolding entry_refusal
-  refused_level h q a l c b = rw (a, l, c, le-ltb clearance levels h) refl
+  refused_level h = record { number = λ q a l c b. rw (a, l, c, le-ltb clearance levels h) refl; place = refl }
 
   module _ (h : clearance < levels) where
     -- 10
-    pub refused_work : ten ≡ false → LentRefusal levels clearance ten bytes 10
+    pub refused_work : ten ≡ false → LentRefusal levels clearance ten bytes (Err ShortWork)
     unfolding entry_refusal
-    refused_work t q a l c b = rw (a, l, c, t, lt-ltb clearance levels h) refl
+    refused_work t = record { number = λ q a l c b. rw (a, l, c, t, lt-ltb clearance levels h) refl; place = refl }
 
     -- 11
-    pub refused_room : ten ≡ true → bytes < result_bytes → LentRefusal levels clearance ten bytes 11
+    pub refused_room : ten ≡ true → bytes < result_bytes → LentRefusal levels clearance ten bytes (Err ShortResult)
     unfolding entry_refusal
-    refused_room t m q a l c b = rw (a, l, c, b, t, lt-ltb clearance levels h, lt-leb result_bytes bytes m) refl
+    refused_room t m = record { number = λ q a l c b. rw (a, l, c, b, t, lt-ltb clearance levels h, lt-leb result_bytes bytes m) refl; place = refl }
 
     -- all say yes
-    pub refused_none : ten ≡ true → result_bytes ≤ bytes → LentRefusal levels clearance ten bytes 0
+    pub refused_none : ten ≡ true → result_bytes ≤ bytes → LentRefusal levels clearance ten bytes (Ok tt)
     unfolding entry_refusal
-    refused_none t m q a l c b = rw (a, l, c, b, t, lt-ltb clearance levels h, le-leb result_bytes bytes m) refl
+    refused_none t m = record { number = λ q a l c b. rw (a, l, c, b, t, lt-ltb clearance levels h, le-leb result_bytes bytes m) refl; place = refl }
 
 -- an opened session: its level table, from the front of the masks
 pub record Table (s masks : List ℕ) (levels : ℕ) : Type 0 where
@@ -54,29 +57,57 @@ pub record Table (s masks : List ℕ) (levels : ℕ) : Type 0 where
   pub long : levels ≡ length (take levels masks)
   pub leveled : Leveled s (take levels masks)
 
-module _ {s before after : List ℕ} {r : Opened} (o : Opens s before after r) where
+-- a check that gave a count accepted the session
+counted_accepted : (v : Verdict) (n levels : ℕ) → Ok levels ≡ result_map_both {D = Refusal} (λ u. n) Session v → (v ≡ Accepted) × (levels ≡ n)
+counted_accepted (Ok tt) n levels e = (refl, cc)
+counted_accepted (Err q) n levels e = cc
+
+-- and one that refused it gave the number and the place of the question
+refused_by : (v : Verdict) (n : ℕ) (r : Refusal) → Err r ≡ result_map_both (λ u. n) Session v → (number_of_verdict v ≡ number_of_refusal r) × (place_of_refusal r ≡ 0)
+refused_by (Ok u) n r e = cc
+refused_by (Err q) n r e = let is : r ≡ Session q = cc in rw is (refl, refl)
+
+-- no question has the number 0
+question_some : (q : Question) → number_of_question q ≡ 0 → ⊥
+question_some Length e = omega (arith, e)
+question_some Kinds e = omega (arith, e)
+question_some Numbering e = omega (arith, e)
+question_some NotOrdered e = omega (arith, e)
+question_some NoJoin e = omega (arith, e)
+question_some NoMeet e = omega (arith, e)
+question_some Object e = omega (arith, e)
+question_some Script e = omega (arith, e)
+question_some Root e = omega (arith, e)
+
+pub number_some : (r : Refusal) → number_of_refusal r ≡ 0 → ⊥
+number_some (Session q) e = question_some q e
+number_some Clearance e = omega (arith, e)
+number_some ShortWork e = omega (arith, e)
+number_some ShortResult e = omega (arith, e)
+number_some (Absent place) e = omega (arith, e)
+number_some (Idle place) e = omega (arith, e)
+number_some (Blocked place) e = omega (arith, e)
+number_some Unended e = omega (arith, e)
+number_some ShortPage e = omega (arith, e)
+
+module _ {s before after : List ℕ} where
   -- questions 1 to 8 say yes
-  pub opened : r.number ≡ 0 → Table s after r.levels
-  opened z =
-      let a : verdict_of s ≡ Accepted = number_accepted (verdict_of s) (sym o.number ∙ z) in
-      let count : r.levels ≡ level_count s = o.levels ∙ accepted_count s a in
-      let front : take r.levels after ≡ table_made s =
-      ap (take r.levels) o.table ∙ take_at (table_made s) (drop (length (table_made s)) before) r.levels (sym o.levels) in
-      let within : r.levels ≤ length after = omega (arith, o.levels, ap length o.table, length-append (table_made s) (drop (length (table_made s)) before)) in
+  pub opened : {levels : ℕ} → Opens s before after (Ok levels) → Table s after levels
+  opened {levels} o =
+      let (a, is) = counted_accepted (verdict_of s) (length (table_made s)) levels o.verdict in
+      let count : levels ≡ level_count s = is ∙ accepted_count s a in
+      let front : take levels after ≡ table_made s =
+      ap (take levels) o.table ∙ take_at (table_made s) (drop (length (table_made s)) before) levels (sym is) in
+      let within : levels ≤ length after = omega (arith, is, ap length o.table, length-append (table_made s) (drop (length (table_made s)) before)) in
       record {
         count = sym count;
         within = within;
-        long = sym (length-take-le r.levels after within);
+        long = sym (length-take-le levels after within);
         leveled = record {
           accepted = a;
           masks_are = front ∙ accepted_table s a;
         };
       }
-
-  -- one says no
-  refused_session : (r.number ≡ 0 → ⊥) → (ten : Bool) (q : Request) → q.session ≡ s → entry_refusal ten q ≡ r.number
-  unfolding entry_refusal
-  refused_session n ten q e = rw (e, sym o.number, ne_eqb r.number 0 n) refl
 
 -- a run is not made where a question, 1 to 11, says no: nothing is touched
 pub record Refuses (ten : Bool) (q : Request) (of : model.Answer) : Type 0 where
@@ -94,11 +125,22 @@ pub deep_refuses : (q : Request) → Refuses true q (deep q)
 unfolding deep
 deep_refuses q = record { no = λ number e n. rw (e, ne_eqb number 0 n) refl }
 
-module _ {ten : Bool} {q : Request} {of : model.Answer} (refuses : Refuses ten q of) {r : Answer} where
+module _ {ten : Bool} {q : Request} {of : model.Answer} (refuses : Refuses ten q of) where
   -- the answer of an entry that a question ends
-  pub answers_refusal : (number : ℕ) → entry_refusal ten q ≡ number → (number ≡ 0 → ⊥) → Refused number 0 r → Answers of r.number r.place r.count q.work q.buffer
-  answers_refusal number e n (i, j, k) = rw (i, j, k) (sym (refuses.no number e n))
+  answers_no : (r : Refusal) → entry_refusal ten q ≡ number_of_refusal r → (number_of_refusal r ≡ 0 → ⊥) → place_of_refusal r ≡ 0
+      → Answers of (number_of_refusal r) (place_of_refusal r) 0 q.work q.buffer
+  answers_no r e n p = rw p (sym (refuses.no (number_of_refusal r) e n))
+
+  -- 9 to 11
+  pub answers_refusal : (r : Refusal) → entry_refusal ten q ≡ number_of_refusal r → place_of_refusal r ≡ 0 → Answers of (number_of_refusal r) (place_of_refusal r) 0 q.work q.buffer
+  answers_refusal r e p = answers_no r e (number_some r) p
+
+  refused_session : (r : Refusal) → number_of_verdict (verdict_of q.session) ≡ number_of_refusal r → entry_refusal ten q ≡ number_of_refusal r
+  unfolding entry_refusal
+  refused_session r e = rw (e, ne_eqb (number_of_refusal r) 0 (number_some r)) refl
 
   -- 1 to 8
-  pub answers_unopened : {before after : List ℕ} {o : Opened} → Opens q.session before after o → (o.number ≡ 0 → ⊥) → Refused o.number 0 r → Answers of r.number r.place r.count q.work q.buffer
-  answers_unopened {o = o} p n = answers_refusal o.number (refused_session p n ten q refl) n
+  pub answers_unopened : {before after : List ℕ} (r : Refusal) → Opens q.session before after (Err r) → Answers of (number_of_refusal r) (place_of_refusal r) 0 q.work q.buffer
+  answers_unopened r o =
+      let (i, p) = refused_by (verdict_of q.session) (length (table_made q.session)) r o.verdict in
+      answers_no r (refused_session r i) (number_some r) p

@@ -6,8 +6,7 @@ use native.Mathlib.Omega.{arith}
 use lib.ListN.{length}
 use Rattle.session.specs.Meaning.{level_of, root_object, root_of}
 use Rattle.session.specs.Program.{program_of}
-use Rattle.session.specs.Questions.{verdict_of}
-use Rattle.session.specs.declared.Verdict.TheVariants.{Accepted}
+use Rattle.session.specs.Questions.{verdict_of, Accepted}
 use Rattle.model.specs.Limits.{page_bytes}
 use Rattle.model.specs.DepthFirst.{depth_first}
 use Rattle.model.specs.Result.{result_of_depth_first, histories_shown}

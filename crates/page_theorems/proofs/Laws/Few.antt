@@ -9,8 +9,7 @@ use Rattle.lists.specs.Lists.{tab, joined}
 use Rattle.session.specs.Record.{Record}
 use Rattle.session.specs.Meaning.{root_of}
 use Rattle.session.specs.Program.{Program, program_of}
-use Rattle.session.specs.Questions.{verdict_of}
-use Rattle.session.specs.declared.Verdict.TheVariants.{Accepted}
+use Rattle.session.specs.Questions.{verdict_of, Accepted}
 use Rattle.lists.proofs.Laws.Lists.{select-length, length-tab}
 use Rattle.session.proofs.Laws.Verdict.{accepted}
 use Rattle.session.proofs.Laws.Numbering.{few_levels}

@@ -11,8 +11,7 @@ use Rattle.session.specs.Limits.{max_levels}
 use Rattle.session.specs.Parts.{level_count, masks_of}
 use Rattle.session.specs.Meaning.{root_of}
 use Rattle.session.specs.Program.{Program, program_of}
-use Rattle.session.specs.Questions.{verdict_of}
-use Rattle.session.specs.declared.Verdict.TheVariants.{Accepted}
+use Rattle.session.specs.Questions.{verdict_of, Accepted}
 use Rattle.session.proofs.Laws.Contents.{level_limit, masks_length}
 use Rattle.scripts.specs.Limits.{max_script_steps}
 use Rattle.scripts.specs.Valid.{Leveled}

@@ -10,8 +10,7 @@ use Rattle.session.specs.Meaning.{Numbered}
 use Rattle.session.specs.Program.{Program, program_of}
 use Rattle.session.specs.declared.Value.{Value}
 use Rattle.session.specs.declared.Value.TheVariants.{Number}
-use Rattle.session.specs.declared.Verdict.TheVariants.{Accepted}
-use Rattle.session.specs.Questions.{verdict_of}
+use Rattle.session.specs.Questions.{verdict_of, Accepted}
 use Rattle.session.specs.declared.Step.{Step}
 use Rattle.session.specs.declared.Step.TheVariants as op
 use Rattle.session.proofs.Laws.Numbering.{few_levels}

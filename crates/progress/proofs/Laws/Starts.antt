@@ -6,8 +6,7 @@ use native.Mathlib.Omega.{arith}
 use lib.ListN.{length}
 use Rattle.session.specs.Limits.{max_levels}
 use Rattle.session.specs.Parts.{level_count, object_count}
-use Rattle.session.specs.Questions.{verdict_of}
-use Rattle.session.specs.declared.Verdict.TheVariants.{Accepted}
+use Rattle.session.specs.Questions.{verdict_of, Accepted}
 use Rattle.session.proofs.Laws.Numbering.{few_levels, few_objects}
 use Rattle.session.proofs.Laws.Numbers.{number_few}
 use Rattle.session.proofs.Laws.Verdict.{accepted}

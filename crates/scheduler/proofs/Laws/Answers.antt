@@ -9,8 +9,7 @@ use lib.ListN.{length, get_or, replicate, length-replicate, get_or-replicate}
 use Rattle.session.specs.Parts.{level_count}
 use Rattle.session.specs.Meaning.{level_of, root_object, root_of}
 use Rattle.session.specs.Program.{program_of}
-use Rattle.session.specs.Questions.{verdict_of}
-use Rattle.session.specs.declared.Verdict.TheVariants.{Accepted}
+use Rattle.session.specs.Questions.{verdict_of, Accepted}
 use Rattle.session.proofs.Laws.Accepted.{level_present}
 use Rattle.session.proofs.Laws.Contents.{level_limit, object_limit, masks_length}
 use Rattle.session.proofs.Laws.Numbers.{number_few}

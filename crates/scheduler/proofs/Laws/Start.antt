@@ -9,11 +9,10 @@ use Rattle.session.specs.Limits.{max_levels, max_methods, max_numbers}
 use Rattle.lists.specs.Lists.{rising_from}
 use Rattle.session.specs.Parts.{level_count, object_count}
 use Rattle.session.specs.Meaning.{Numbered, level_of, root_object, root_of}
-use Rattle.session.specs.Questions.{verdict_of}
+use Rattle.session.specs.Questions.{verdict_of, Accepted}
 use Rattle.session.specs.Program.{program_of}
 use Rattle.contents.specs.Reading.{index_of}
 use Rattle.session.specs.declared.Message.{Message}
-use Rattle.session.specs.declared.Verdict.TheVariants.{Accepted}
 use Rattle.session.proofs.Laws.Accepted.{level_present, root_present}
 use Rattle.session.proofs.Laws.Numbers.{number_own}
 use Rattle.scripts.specs.Existence.{existence, initially}

@@ -11,14 +11,13 @@ use lib.ListN.{length, get_or, get_or-eq_default}
 use Rattle.lists.proofs.Laws.Range.{not_both, and_left, and_right}
 use Rattle.session.specs.Limits.{max_method, names, fields}
 use Rattle.session.specs.Parts.{level_count, object_count}
-use Rattle.session.specs.Questions.{operands_fit, verdict_of}
+use Rattle.session.specs.Questions.{operands_fit, verdict_of, Accepted}
 use Rattle.session.specs.Meaning.{Numbered, level_of, method_of, step_at}
 use Rattle.session.specs.Program.{Program, program_of}
 use Rattle.session.specs.declared.Value.{Value}
 use Rattle.session.specs.declared.Message.{Message}
 use Rattle.session.specs.declared.Step.{Step}
 use Rattle.session.specs.declared.Step.TheVariants.{End, Set, Add, Jump, Read, Write, Send, Quit, Create, Withdraw}
-use Rattle.session.specs.declared.Verdict.TheVariants.{Accepted}
 use Rattle.lists.proofs.Laws.Lists.{holds, fails, truth}
 use Rattle.session.proofs.Laws.Accepted.{levels_join, level_present, method_short, step_fits}
 use Rattle.session.proofs.Laws.Numbers.{level_made, made_numbered}

@@ -4,11 +4,10 @@ use mathlib.Core.Path.{◌≡◌, refl, ◌∙◌, ap}
 use mathlib.Core.Bool.{true}
 use mathlib.Core.List.{List}
 use native.Mathlib.Omega.{arith}
-use Rattle.session.specs.Questions.{verdict_of}
+use Rattle.session.specs.Questions.{verdict_of, Accepted}
 use Rattle.session.specs.Program.{Program, program_of}
 use Rattle.session.specs.declared.Value.{Value}
 use Rattle.session.specs.declared.Message.{Message}
-use Rattle.session.specs.declared.Verdict.TheVariants.{Accepted}
 use Rattle.scripts.specs.Existence.{script_seen}
 use Rattle.scripts.specs.Limits.{max_writes, max_forks}
 use Rattle.scripts.specs.Frame.{frame_for, at_step}

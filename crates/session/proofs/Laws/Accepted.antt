@@ -16,10 +16,9 @@ use Rattle.dominance.proofs.Laws.Table.{is_order_lem}
 use Rattle.session.specs.Limits.{max_objects, made_objects, max_method, names}
 use Rattle.session.specs.Record.{object_of, name_of, level_byte, step_of, zero_at}
 use Rattle.session.specs.Parts.{object_records, step_records, level_count, object_count, masks_of, key, key_of, of_method, method_records}
-use Rattle.session.specs.Questions.{object_valid, question6, operands_fit, unused_bytes, step_valid, script_valid, root_valid, verdict_of}
+use Rattle.session.specs.Questions.{object_valid, question6, operands_fit, unused_bytes, step_valid, script_valid, root_valid, verdict_of, Accepted}
 use Rattle.session.specs.Meaning.{owner_of, level_of, method_of, step_at, root_object, root_name}
 use Rattle.session.specs.declared.Step.TheVariants.{End}
-use Rattle.session.specs.declared.Verdict.TheVariants.{Accepted}
 use Rattle.lists.proofs.Laws.Lists.{holds, fails, truth, every_each, every-select, select_passes}
 use Rattle.session.proofs.Laws.Verdict.{accepted}
 use Rattle.session.proofs.Laws.Contents.{masks_length, method_length}

@@ -9,9 +9,8 @@ use lib.ListN.{length, get_or, length-map}
 use Rattle.session.specs.Limits.{max_objects}
 use Rattle.session.specs.Record.{record_at, record_count, step_of}
 use Rattle.session.specs.Parts.{object_records, level_count, object_count, step_count, masks_of, key, method_records, root_record}
-use Rattle.session.specs.Questions.{kinds_rise, verdict_of}
+use Rattle.session.specs.Questions.{kinds_rise, verdict_of, Accepted}
 use Rattle.session.specs.Meaning.{method_of}
-use Rattle.session.specs.declared.Verdict.TheVariants.{Accepted}
 use Rattle.session.proofs.Laws.Verdict.{AllYes, accepted}
 use Rattle.session.proofs.Laws.Parts.{kinds_rise_lem, object_is, root_is, records_are, masks_count}
 use Rattle.session.proofs.Laws.Numbering.{few_levels, few_objects, few_steps}

@@ -13,11 +13,10 @@ use Rattle.lists.specs.Lists.{every, select, rising_from, counts_from}
 use Rattle.session.specs.Record.{Record, records_of, byte_of, zero_at, between, kind_of, number_of, level_byte, name_of}
 use Rattle.session.specs.Record
 use Rattle.session.specs.Parts.{of_kind, object_records, step_records, root_records, level_count, object_count, step_count, masks_of, key_of, method_records}
-use Rattle.session.specs.Questions.{field_valid, question1, kinds_rise, question2, question3, question4, question5, question17, question6, question7, question8, object_valid, script_valid, scripts_valid, verdict_of}
+use Rattle.session.specs.Questions.{field_valid, question1, kinds_rise, question2, question3, question4, question5, question17, question6, question7, question8, object_valid, script_valid, scripts_valid, verdict_of, Accepted}
 use Rattle.session.specs.Emptied.{stays, blanked, emptied}
 use Rattle.session.specs.Meaning.{level_of, method_of}
 use Rattle.dominance.specs.Table.{dominates}
-use Rattle.session.specs.declared.Verdict.TheVariants.{Accepted}
 use Rattle.lists.proofs.Laws.Lists.{holds, fails, truth, every-select, select_passes, select-length}
 use Rattle.lists.proofs.Laws.Rising.{rising_select}
 use Rattle.lists.proofs.Laws.Choice.{every_map, rising_map, counts_map, every_then, every_both}

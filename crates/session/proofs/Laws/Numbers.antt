@@ -10,9 +10,8 @@ use lib.Dec.{leb, ltb}
 use Rattle.lists.proofs.Laws.Range.{and_left, and_right}
 use Rattle.session.specs.Limits.{max_objects, made_objects, max_numbers}
 use Rattle.session.specs.Parts.{level_count, object_count}
-use Rattle.session.specs.Questions.{is_number, verdict_of}
+use Rattle.session.specs.Questions.{is_number, verdict_of, Accepted}
 use Rattle.session.specs.Meaning.{owner_of, made_number, Numbered, level_of}
-use Rattle.session.specs.declared.Verdict.TheVariants.{Accepted}
 use Rattle.lists.proofs.Laws.Lists.{holds, fails, truth}
 use Rattle.session.proofs.Laws.Verdict.{accepted}
 use Rattle.session.proofs.Laws.Numbering.{few_levels, few_objects}

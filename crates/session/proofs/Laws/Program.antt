@@ -6,13 +6,12 @@ use mathlib.Core.List.{List}
 use lib.ListN.{get_or}
 use Rattle.dominance.specs.Table.{dominates}
 use Rattle.session.specs.Parts.{masks_of}
-use Rattle.session.specs.Questions.{verdict_of}
+use Rattle.session.specs.Questions.{verdict_of, Accepted}
 use Rattle.session.specs.Meaning.{level_of, field_of, step_at}
 use Rattle.session.specs.Emptied.{emptied}
 use Rattle.session.specs.Program.{program_of, seen_by}
 use Rattle.session.specs.declared.Value.TheVariants.{Nil}
 use Rattle.session.specs.declared.Step.TheVariants.{End}
-use Rattle.session.specs.declared.Verdict.TheVariants.{Accepted}
 use Rattle.lists.proofs.Laws.Lists.{holds, fails, truth}
 use Rattle.session.proofs.Laws.Emptied.{emptied_masks, emptied_level_count, emptied_count, emptied_level, emptied_field, emptied_field_hidden}
 use Rattle.session.proofs.Laws.EmptiedAccepted.{emptied_method, emptied_method_hidden}

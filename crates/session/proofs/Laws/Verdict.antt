@@ -4,9 +4,9 @@ use mathlib.Core.Bool.{Bool, true, false, cond}
 use mathlib.Core.List.{List}
 use Prim.Native.Nat.{ℕ, ◌<◌}
 use native.Mathlib.Omega.{arith}
-use Rattle.session.specs.Questions.{question1, question2, question3, question4, question5, question17, question6, question7, question8, first_no, verdict_of, number_of_verdict}
-use Rattle.session.specs.declared.Verdict.{Verdict}
-use Rattle.session.specs.declared.Verdict.TheVariants.{Accepted, Length, Kinds, Numbering, NotOrdered, NoJoin, NoMeet, Object, Script, Root}
+use Rattle.std.specs.Prelude.{Ok, Err}
+use Rattle.session.specs.Questions.{question1, question2, question3, question4, question5, question17, question6, question7, question8, first_no, verdict_of, number_of_verdict, Verdict, Accepted}
+use Rattle.session.specs.declared.Question.TheVariants.{Length, Kinds, Numbering, NotOrdered, NoJoin, NoMeet, Object, Script, Root}
 
 -- what acceptance gives
 pub record AllYes (s : List ℕ) : Type 0 where
@@ -31,7 +31,7 @@ pub verdict_chain : (s : List ℕ) →
     (cond (question17 s)
     (cond (question6 s)
     (cond (question7 s)
-    (cond (question8 s) Accepted Root) Script) Object) NoMeet) NoJoin) NotOrdered) Numbering) Kinds) Length
+    (cond (question8 s) Accepted (Err Root)) (Err Script)) (Err Object)) (Err NoMeet)) (Err NoJoin)) (Err NotOrdered)) (Err Numbering)) (Err Kinds)) (Err Length)
 unfolding verdict_of first_no
 verdict_chain s = refl
 
@@ -45,15 +45,15 @@ taken false v w h e = let z : 0 < number_of_verdict Accepted = rw e at h in absu
 
 pub accepted : (s : List ℕ) → verdict_of s ≡ Accepted → AllYes s
 accepted s e =
-    let e1 = taken (question1 s) _ Length (omega arith) (sym (verdict_chain s) ∙ e) in
-    let e2 = taken (question2 s) _ Kinds (omega arith) e1.1 in
-    let e3 = taken (question3 s) _ Numbering (omega arith) e2.1 in
-    let e4 = taken (question4 s) _ NotOrdered (omega arith) e3.1 in
-    let e5 = taken (question5 s) _ NoJoin (omega arith) e4.1 in
-    let e17 = taken (question17 s) _ NoMeet (omega arith) e5.1 in
-    let e6 = taken (question6 s) _ Object (omega arith) e17.1 in
-    let e7 = taken (question7 s) _ Script (omega arith) e6.1 in
-    let e8 = taken (question8 s) _ Root (omega arith) e7.1 in
+    let e1 = taken (question1 s) _ (Err Length) (omega arith) (sym (verdict_chain s) ∙ e) in
+    let e2 = taken (question2 s) _ (Err Kinds) (omega arith) e1.1 in
+    let e3 = taken (question3 s) _ (Err Numbering) (omega arith) e2.1 in
+    let e4 = taken (question4 s) _ (Err NotOrdered) (omega arith) e3.1 in
+    let e5 = taken (question5 s) _ (Err NoJoin) (omega arith) e4.1 in
+    let e17 = taken (question17 s) _ (Err NoMeet) (omega arith) e5.1 in
+    let e6 = taken (question6 s) _ (Err Object) (omega arith) e17.1 in
+    let e7 = taken (question7 s) _ (Err Script) (omega arith) e6.1 in
+    let e8 = taken (question8 s) _ (Err Root) (omega arith) e7.1 in
     record {
       one = e1.0;
       two = e2.0;
@@ -68,13 +68,13 @@ accepted s e =
 
 -- only the verdict of an accepted session has number 0
 pub number_accepted : (v : Verdict) → number_of_verdict v ≡ 0 → v ≡ Accepted
-number_accepted Accepted e = refl
-number_accepted Length e = absurd (omega (arith, e))
-number_accepted Kinds e = absurd (omega (arith, e))
-number_accepted Numbering e = absurd (omega (arith, e))
-number_accepted NotOrdered e = absurd (omega (arith, e))
-number_accepted NoJoin e = absurd (omega (arith, e))
-number_accepted NoMeet e = absurd (omega (arith, e))
-number_accepted Object e = absurd (omega (arith, e))
-number_accepted Script e = absurd (omega (arith, e))
-number_accepted Root e = absurd (omega (arith, e))
+number_accepted (Ok tt) e = refl
+number_accepted (Err Length) e = absurd (omega (arith, e))
+number_accepted (Err Kinds) e = absurd (omega (arith, e))
+number_accepted (Err Numbering) e = absurd (omega (arith, e))
+number_accepted (Err NotOrdered) e = absurd (omega (arith, e))
+number_accepted (Err NoJoin) e = absurd (omega (arith, e))
+number_accepted (Err NoMeet) e = absurd (omega (arith, e))
+number_accepted (Err Object) e = absurd (omega (arith, e))
+number_accepted (Err Script) e = absurd (omega (arith, e))
+number_accepted (Err Root) e = absurd (omega (arith, e))

@@ -5,10 +5,9 @@ use native.Mathlib.Omega.{arith}
 use lib.ListN.{length, get_or}
 use Rattle.session.specs.Limits.{names}
 use Rattle.session.specs.Parts.{object_count, key}
-use Rattle.session.specs.Questions.{verdict_of}
+use Rattle.session.specs.Questions.{verdict_of, Accepted}
 use Rattle.session.specs.Meaning.{method_of}
 use Rattle.contents.specs.Reading.{method_start, index_of}
-use Rattle.session.specs.declared.Verdict.TheVariants.{Accepted}
 use Rattle.session.proofs.Laws.Contents.{object_limit, method_length}
 use Rattle.contents.proofs.Laws.Methods.{index_length, slot_first, slot_end}
 use Rattle.contents.proofs.Session.method_of.Goals as goal

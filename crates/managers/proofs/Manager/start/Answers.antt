@@ -8,12 +8,11 @@ use lib.Dec.{leb}
 use lib.ListN.{length}
 use Rattle.lists.proofs.Laws.Range.{not_both}
 use Rattle.session.specs.Program.{program_of}
-use Rattle.session.specs.Questions.{verdict_of}
+use Rattle.session.specs.Questions.{verdict_of, Accepted}
 use Rattle.session.specs.Limits.{names}
 use Rattle.session.specs.declared.Message.{Message}
 use Rattle.session.specs.declared.Value.{Value}
 use Rattle.session.specs.declared.Value.TheVariants.{Nil}
-use Rattle.session.specs.declared.Verdict.TheVariants.{Accepted}
 use Rattle.lists.proofs.Laws.Lists.{holds, fails, truth}
 use Rattle.scripts.specs.Ending.{is_running}
 use Rattle.scripts.specs.State as defined

@@ -7,12 +7,11 @@ use mathlib.Core.List.{List, [], ◌∷◌, map}
 use native.Mathlib.Omega.{arith}
 use lib.ListN.{length}
 use Rattle.session.specs.Parts.{level_count}
-use Rattle.session.specs.Questions.{verdict_of}
+use Rattle.session.specs.Questions.{verdict_of, Accepted}
 use Rattle.session.specs.Meaning.{Numbered}
 use Rattle.session.specs.Program.{program_of}
 use Rattle.session.specs.declared.Value.{Value}
 use Rattle.session.specs.declared.Message.{Message}
-use Rattle.session.specs.declared.Verdict.TheVariants.{Accepted}
 use Rattle.scripts.specs.Limits.{max_writes, max_forks}
 use Rattle.scripts.specs.Existence.{existence}
 use Rattle.scripts.specs.Ending.{is_running}

@@ -9,10 +9,9 @@ use Rattle.lists.specs.Range.{all, implies}
 use Rattle.dominance.specs.Order.{strictly, PartialOrder}
 use Rattle.lists.proofs.Laws.Range.{not_both, refuted, implies_then, implies_when, all_each, all-every}
 use Rattle.session.specs.Parts.{level_count}
-use Rattle.session.specs.Questions.{verdict_of}
+use Rattle.session.specs.Questions.{verdict_of, Accepted}
 use Rattle.session.specs.Meaning.{root_of}
 use Rattle.session.specs.Program.{Program, program_of}
-use Rattle.session.specs.declared.Verdict.TheVariants.{Accepted}
 use Rattle.lists.proofs.Laws.Lists.{holds, fails, truth}
 use Rattle.scripts.proofs.Laws.Effects.{Sound}
 use Rattle.model.specs.Fork.{Fork, span}

@@ -10,14 +10,13 @@ use lib.ListN.{length, get_or}
 use Rattle.lists.proofs.Laws.Range.{all_each, not_both, refuted}
 use Rattle.lists.specs.Lists.{select}
 use Rattle.session.specs.Parts.{level_count}
-use Rattle.session.specs.Questions.{verdict_of}
+use Rattle.session.specs.Questions.{verdict_of, Accepted}
 use Rattle.session.specs.Meaning.{root_of}
 use Rattle.session.specs.Emptied.{emptied}
 use Rattle.session.specs.Program.{Program, program_of, seen_by}
 use Rattle.session.specs.declared.Value.TheVariants.{Nil}
 use Rattle.session.specs.declared.Step.TheVariants.{End}
 use Rattle.session.specs.declared.Message.{Message}
-use Rattle.session.specs.declared.Verdict.TheVariants.{Accepted}
 use Rattle.lists.proofs.Laws.Lists.{holds, fails, truth}
 use Rattle.lists.proofs.Laws.Fill.{tab_ext}
 use Rattle.session.proofs.Laws.Numbering.{few_levels}
