@@ -7,22 +7,22 @@ ghost use Rattle.session.specs.Questions.{verdict_of, Accepted};
 ghost use Rattle.model.specs.Limits.{result_bytes};
 ghost use Rattle.calls.specs.Entries.{deep, Answers};
 ghost use Rattle.calls.specs.Refusals.{number_told, place_told, count_told};
-ghost use Rattle.progress.specs.Representation.{Tables, Represents};
+ghost use Rattle.progress.specs.Representation.{Represents};
 ghost use Rattle.depth_first.specs.Runs.{RootFork, initial_progress, Shown, RanOver};
 
 use calls::Refusal;
+use contents::Session;
 use fields::FIELD_WORDS;
 use histories::limits::HISTORY_WORDS;
-use progress::Fork;
+use progress::{Fork, Progress};
 use session::limits::{MAX_LEVELS, MAX_METHODS};
 
 // The fork of the root message.
-fn root_fork(session: &[u8], masks: &[u16]) -> Fork
-    requires { (verdict_of session.now ≡ Accepted) × (masks.now ≡ masks_of session.now) }
-    ensures { RootFork session.now result }
+fn root_fork(session: &Session) -> Fork
+    ensures { RootFork session.now.bytes.now result }
 {
-    let message = contents::root(session);
-    let level = contents::level_of(session, masks, message.object as usize);
+    let message = session.root();
+    let level = session.level_of(message.object as usize);
     Fork {
         level: level as u8,
         stamp: 0,
@@ -33,52 +33,41 @@ fn root_fork(session: &[u8], masks: &[u16]) -> Fork
 
 // Runs a session over words that represent its start, writes the records that a clearance is shown, and
 // returns how many bytes they are.
-fn run_over(
-    session: &[u8],
-    masks: &[u16],
-    index: &[u16],
-    current: &mut [u32],
-    ended: &mut [u32],
-    tallies: &mut [usize],
-    clearance: usize,
-    res: &mut [u8],
-) -> usize
-    requires tables { Tables session.now masks.now index.now }
-    requires represents { Represents session.now (initial_progress session.now) (record { current = current.now; ended = ended.old; tallies = tallies.old }) }
+fn run_over(session: &Session, progress: &mut Progress, clearance: usize, res: &mut [u8]) -> usize
+    requires represents { Represents session.now.bytes.now (initial_progress session.now.bytes.now) progress.old }
     requires result_bytes_in_bounds { result_bytes ≤ length res.old }
-    ensures { RanOver session.now clearance (record { current = current.entry.now; ended = ended.old; tallies = tallies.old }) (record { current = current.exit.now; ended = ended.new; tallies = tallies.new }) res.old res.new result }
+    ensures { RanOver session.now.bytes.now clearance progress.old progress.new res.old res.new result }
 {
-    let root = root_fork(session, masks);
+    let root = root_fork(session);
     let level = root.level as usize;
-    let left = masks.len();
-    descent::run_manager(session, masks, index, current, ended, tallies, left, root);
+    let left = session.masks.len();
+    descent::run_manager(session, progress, left, root);
     results::write(
-        session, masks, current, ended, tallies, clearance, level, res,
+        session,
+        &progress.current,
+        &progress.ended,
+        &progress.tallies,
+        clearance,
+        level,
+        res,
     )
 }
 
 // Runs an accepted session, writes the records that a clearance is shown, and returns how many bytes
 // they are.
-pub fn run(session: &[u8], masks: &[u16], clearance: usize, res: &mut [u8]) -> usize
-    requires { (verdict_of session.now ≡ Accepted) × (masks.now ≡ masks_of session.now) × (result_bytes ≤ length res.old) }
-    ensures { Shown session.now clearance res.old res.new result }
+pub fn run(bytes: &[u8], masks: &[u16], clearance: usize, res: &mut [u8]) -> usize
+    requires { (verdict_of bytes.now ≡ Accepted) × (masks.now ≡ masks_of bytes.now) × (result_bytes ≤ length res.old) }
+    ensures { Shown bytes.now clearance res.old res.new result }
 {
     let mut index = [0u16; MAX_METHODS + 1];
-    contents::index_methods(session, &mut index);
-    let mut current = [0u32; FIELD_WORDS];
-    fields::fill(session, masks, &mut current);
-    let mut ended = [0u32; HISTORY_WORDS];
-    let mut tallies = tallies::first();
-    run_over(
-        session,
-        masks,
-        &index,
-        &mut current,
-        &mut ended,
-        &mut tallies,
-        clearance,
-        res,
-    )
+    let session = Session::new(bytes, masks, &mut index);
+    let mut progress = Progress {
+        current: [0; FIELD_WORDS],
+        ended: [0; HISTORY_WORDS],
+        tallies: tallies::first(),
+    };
+    fields::fill(session.bytes, session.masks, &mut progress.current);
+    run_over(&session, &mut progress, clearance, res)
 }
 
 // Runs a session depth first, writes what a clearance is shown of it, and returns how many bytes that is: Check's

@@ -17,6 +17,7 @@ use Rattle.model.specs.Limits.{max_managers}
 use Rattle.model.specs.DepthFirst.{Progress, tally_at, field_now}
 use Rattle.histories.specs.Limits.{history_words}
 use Rattle.histories.specs.Histories.{level_place, histories_at, InOrder}
+use Rattle.progress.specs.declared.Progress as code
 use Rattle.tallies.specs.Places.{next_place, waiting_place, changes_place, tally_numbers, unchanged}
 
 -- an accepted session, its level table and its method index
@@ -53,10 +54,8 @@ abbrev pub RepresentsSome : List ℕ → List ℕ → List ℕ → List ℕ → 
 RepresentsSome s current ended tallies = (g : Progress) × RepresentedBy s g current ended tallies
 
 -- a run's words: its fields, its histories, its counts
-pub record Words : Type 0 where
-  pub current : List ℕ
-  pub ended : List ℕ
-  pub tallies : List ℕ
+abbrev pub Words : Type 0
+Words = code.Progress
 
 abbrev pub Represents : List ℕ → Progress → Words → Type 0
 Represents s g w = RepresentedBy s g w.current w.ended w.tallies

@@ -1,17 +1,28 @@
-// How far a depth-first run has come, in words, and what changes it: a CREATE or WITHDRAW, and the start of a manager.
-//
-// What a run keeps is lent: `current` holds the fields and the existence of objects, as in `fields`; `ended` the
-// histories, as in `histories`; `tallies` how many managers of each level have ended, the write stamp of its next one,
-// and whether existence was written, as in the crate of that name.
+// How far a depth-first run has come, and what changes it: a CREATE or WITHDRAW, and the start of a manager.
 #![tactic(auto)]
 
-pub mod writes;
+mod writes;
 
 ghost use Rattle.progress.specs.Starts.{StartReady, StartDone};
 
+use contents::Session;
+use fields::FIELD_WORDS;
+use histories::limits::HISTORY_WORDS;
 use managers::Manager;
 use session::Message;
-use tallies::NEXT;
+use tallies::{NEXT, TALLIES};
+
+// What a depth-first run keeps.
+#[derive(Drop)]
+pub struct Progress {
+    // The fields and the existence of objects, as in `fields`.
+    pub current: [u32; FIELD_WORDS],
+    // The histories, as in `histories`.
+    pub ended: [u32; HISTORY_WORDS],
+    // How many managers of each level have ended, the write stamp of its next one, and whether existence was
+    // written, as in the crate of that name.
+    pub tallies: [usize; TALLIES],
+}
 
 // A fork that is about to run, or runs: its level, its fork stamp, how many forks deep it is, and its
 // message.
@@ -23,20 +34,23 @@ pub struct Fork {
     pub message: Message,
 }
 
-// The manager of a fork starts: with the next write stamp of its level, and with the methods that its object has
-// then.
-pub fn start(
-    session: &[u8],
-    index: &[u16],
-    current: &[u32],
-    tallies: &[usize],
-    fork: Fork,
-) -> Manager
-    requires { StartReady session.now index.now current.now tallies.now fork }
-    ensures { StartDone session.now current.now tallies.now fork result }
-{
-    let message = fork.message;
-    let next = tallies[NEXT + fork.level as usize] as u16;
-    let script = fields::script_in(current, message.object as usize) as u8;
-    Manager::start(session, index, fork.level, next, message, script)
+impl Progress {
+    // The manager of a fork starts: with the next write stamp of its level, and with the methods that its object has
+    // then.
+    pub fn start(&self, session: &Session, fork: Fork) -> Manager
+        requires { StartReady session.now.bytes.now session.now.index.now self.now.current self.now.tallies fork }
+        ensures { StartDone session.now.bytes.now self.now.current self.now.tallies fork result }
+    {
+        let message = fork.message;
+        let next = self.tallies[NEXT + fork.level as usize] as u16;
+        let script = fields::script_in(&self.current, message.object as usize) as u8;
+        Manager::start(
+            session.bytes,
+            session.index,
+            fork.level,
+            next,
+            message,
+            script,
+        )
+    }
 }

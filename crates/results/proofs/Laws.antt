@@ -1,4 +1,5 @@
 -- Laws of the definitions: what the proofs of this crate and of the crates above it cite.
 pub mod Shown
+pub mod Behind
 pub mod Written
 pub mod Depends

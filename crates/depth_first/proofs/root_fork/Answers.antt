@@ -7,8 +7,9 @@ use Rattle.depth_first.proofs.root_fork.Goals as goal
 
 pub level_of-level-requires : goal.level_of-level-requires
 level_of-level-requires c =
-    (c.requires.0, c.requires.1, rw (ap (λ m. m.object) c.root-message.ensures) (number_own c.args.session.now (root_object c.args.session.now) (root_present c.args.session.now c.requires.0)))
+    let s = c.args.session.now.bytes.now in
+    rw (ap (λ m. m.object) c.root-message.ensures) (number_own s (root_object s) (root_present s c.args.session.now.accepted))
 
 pub overflow_cast-result : goal.overflow_cast-result
 overflow_cast-result c =
-    record { fits = level_byte_lem c.args.session.now c.requires.0 c.root-message.result c.level_of-level.result c.root-message.ensures c.level_of-level.ensures }
+    record { fits = level_byte_lem c.args.session.now.bytes.now c.args.session.now.accepted c.root-message.result c.level_of-level.result c.root-message.ensures c.level_of-level.ensures }

@@ -1,9 +1,9 @@
 use native.Mathlib.Omega.{arith}
 use Rattle.progress.proofs.Laws.Starts.{next_there, script_there, script_low, script_small}
-use Rattle.progress.proofs.start.Goals as goal
+use Rattle.progress.proofs.Progress.start.Goals as goal
 
-pub bounds-tallies-fork : goal.bounds-tallies-fork
-bounds-tallies-fork c = next_there c.requires
+pub bounds-self-fork : goal.bounds-self-fork
+bounds-self-fork c = omega (arith, next_there c.requires)
 
 pub script_in-script-requires : goal.script_in-script-requires
 script_in-script-requires c = script_there c.requires
