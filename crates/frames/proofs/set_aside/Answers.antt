@@ -27,21 +27,20 @@ module _ (s : List ℕ) (f : Frame) (a : verdict_of s ≡ Accepted) (p : Placed 
       (record { present = p.called.0; scripted = p.called.1; near = omega (arith, p.near, p.at.count_is) })
 
 pub overflow_cast-result : goal.overflow_cast-result
-overflow_cast-result c =
-    record { fits = object_fits c.args.session.now c.args.f c.requires.session_value c.requires.placed }
+overflow_cast-result g c =
+    record { fits = object_fits g.session c.args.f c.requires.0 c.requires.1 }
 
 pub overflow_mul-result : goal.overflow_mul-result
-overflow_mul-result c =
-    record { fits = omega (arith, place_fits c.args.session.now c.args.f c.requires.session_value c.requires.placed) }
+overflow_mul-result g c =
+    record { fits = omega (arith, place_fits g.session c.args.f c.requires.0 c.requires.1) }
 
 pub overflow_add-result : goal.overflow_add-result
-overflow_add-result c =
-    record { fits = omega (arith, place_fits c.args.session.now c.args.f c.requires.session_value c.requires.placed) }
+overflow_add-result g c =
+    record { fits = omega (arith, place_fits g.session c.args.f c.requires.0 c.requires.1) }
 
 pub overflow_cast-result-2 : goal.overflow_cast-result-2
-overflow_cast-result-2 c =
-    record { fits = place_fits c.args.session.now c.args.f c.requires.session_value c.requires.placed }
+overflow_cast-result-2 g c =
+    record { fits = place_fits g.session c.args.f c.requires.0 c.requires.1 }
 
 pub returns : goal.returns
-returns c =
-    (refl, waits c.args.session.now c.args.f c.requires.session_value c.requires.placed)
+returns g c = (refl, waits g.session c.args.f c.requires.0 c.requires.1)
