@@ -1,75 +1,48 @@
-use Prim.Native.Nat.{ℕ, ◌<◌}
-use mathlib.Core.List.{List}
 use mathlib.Core.Path.{◌≡◌, refl, sym, ◌∙◌, ap}
-use mathlib.Core.Bool.{Bool, true, false}
-use native.Mathlib.Omega.{arith}
-use borrow.Author.Tests.{eq-eqb, ne_eqb, lt-ltb, le-ltb}
-use lib.Dec.{eqb}
-use Rattle.session.specs.Limits.{max_objects}
-use Rattle.scripts.specs.Existence.{own_script}
-use Rattle.fields.specs.Reads.{unknown, script_found, found_of}
-use Rattle.fields.specs.declared.reads.Found.TheVariants.{Is}
-use Rattle.fields.proofs.reads.find.Goals as goal
-use Rattle.fields.proofs.reads.find.Goals.{then-unchanged+else-object-ge-FIRST_MADE, else-unchanged+else-script+else-script-eq0}
+use mathlib.Core.Bool.{true, false, ◌||◌}
+use borrow.Author.Tests.{eq-eqb, ne_eqb}
+use Rattle.std.specs.Prelude.{Ok}
+use Rattle.std.proofs.lemmas.Result.{err_from_is_err_and}
+use Rattle.fields.specs.Reads.{found_of}
+use Rattle.fields.proofs.Laws.Reads.{told_script, told_missing}
+use Rattle.fields.proofs.reads.Sight.find.Goals as goal
+use Rattle.fields.proofs.reads.Sight.find.Goals.{then-self-via-then-self, then-self-via-else-self+then-own}
 
--- past the tests the object is there: its script is known, and not that of no object
-abbrev There : List ℕ → List ℕ → Bool → Bool → ℕ → Type 0
-There current cache own unchanged o =
-    (eqb (script_found current cache own unchanged o) unknown ≡ false) × (eqb (script_found current cache own unchanged o) 0 ≡ false)
-
-there_unchanged : (current cache : List ℕ) (own unchanged : Bool) (o : ℕ) → unchanged ≡ true → o < max_objects → There current cache own unchanged o
-unfolding script_found
-there_unchanged current cache own unchanged o e h =
-    rw (e, lt-ltb o max_objects h) (ne_eqb (own_script o) unknown (λ z. omega (arith, z, h)), ne_eqb (own_script o) 0 (λ z. omega (arith, z)))
-
-there_changed : (current cache : List ℕ) (own unchanged : Bool) (o : ℕ) → unchanged ≡ false → (script_found current cache own false o ≡ unknown → ⊥) → (script_found current cache own false o ≡ 0 → ⊥) → There current cache own unchanged o
-there_changed current cache own unchanged o e k z = rw e (ne_eqb _ _ k, ne_eqb _ _ z)
-
-pub returns-then-object-ge-FIRST_MADE : goal.returns-then-object-ge-FIRST_MADE
-unfolding found_of script_found
-returns-then-object-ge-FIRST_MADE c = rw (c.if-unchanged.true, le-ltb _ max_objects c.if-object-ge-FIRST_MADE.true) refl
-
-pub returns-then-script : goal.returns-then-script
+pub returns-in_err-script_of : goal.returns-in_err-script_of
 unfolding found_of
-returns-then-script c =
-    let e = eq-eqb _ _ (sym c.script_of-script.ensures ∙ c.if-script.true) in rw (c.if-unchanged.false, e) refl
+returns-in_err-script_of c =
+    let t = told_missing _ _ (sym c.script_of.ensures ∙ c.in_err-script_of.was) in
+    let p = err_from_is_err_and c.from_residual.result c.from_residual.ensures.1 in
+    rw (t.0, p.1, p.2, t.1) refl
 
-pub returns-then-script-eq0 : goal.returns-then-script-eq0
+pub returns-then-branch-eq0 : goal.returns-then-branch-eq0
 unfolding found_of
-returns-then-script-eq0 c =
-    let z = sym c.script_of-script.ensures ∙ c.if-script-eq0.true in rw (c.if-unchanged.false, z) refl
+returns-then-branch-eq0 c =
+    let t = told_script _ _ (sym c.script_of.ensures ∙ c.in_ok-script_of.was) in
+    rw (t.0, eq-eqb _ 0 (sym t.1 ∙ c.if-branch-eq0.true)) refl
 
-pub returns-then-own : goal.returns-then-own
+pub returns-then-self : goal.returns-then-self
 unfolding found_of
-returns-then-own c =
-    let t : There c.args.current.now c.args.cache.now c.args.own c.args.unchanged c.args.object = elim c.if-unchanged.branch [
-      | then-unchanged+else-object-ge-FIRST_MADE w ↦ there_unchanged _ _ _ _ _ w.if-unchanged.true w.if-object-ge-FIRST_MADE.false
-      | else-unchanged+else-script+else-script-eq0 w ↦
-          let q = w.script_of-script.ensures in
-          there_changed _ _ _ _ _ w.if-unchanged.false (λ z. w.if-script.false (q ∙ z)) (λ z. w.if-script-eq0.false (q ∙ z))
+returns-then-self c =
+    let t = told_script _ _ (sym c.script_of.ensures ∙ c.in_ok-script_of.was) in
+    let own : (c.args.self.now.all || c.args.own) ≡ true = elim c.then-self.branch [
+      | then-self-via-then-self w ↦ rw w.if-self.true refl
+      | then-self-via-else-self+then-own w ↦ rw w.if-self.false w.if-own.true
     ] in
-    rw (t.0, t.1, c.if-own.true) (ap Is c.get.ensures)
+    rw (t.0, ne_eqb _ 0 (λ e. c.if-branch-eq0.false (t.1 ∙ e)), own) (ap Ok c.get.ensures)
 
 pub returns-then-not-is_known : goal.returns-then-not-is_known
 unfolding found_of
 returns-then-not-is_known c =
-    let t : There c.args.current.now c.args.cache.now c.args.own c.args.unchanged c.args.object = elim c.if-unchanged.branch [
-      | then-unchanged+else-object-ge-FIRST_MADE w ↦ there_unchanged _ _ _ _ _ w.if-unchanged.true w.if-object-ge-FIRST_MADE.false
-      | else-unchanged+else-script+else-script-eq0 w ↦
-          let q = w.script_of-script.ensures in
-          there_changed _ _ _ _ _ w.if-unchanged.false (λ z. w.if-script.false (q ∙ z)) (λ z. w.if-script-eq0.false (q ∙ z))
-    ] in
+    let t = told_script _ _ (sym c.script_of.ensures ∙ c.in_ok-script_of.was) in
     let k = sym c.is_known.ensures ∙ c.if-not-is_known.true in
-    rw (t.0, t.1, c.if-own.false, k) refl
+    let own : (c.args.self.now.all || c.args.own) ≡ false = rw (c.if-self.false, c.if-own.false) refl in
+    rw (t.0, ne_eqb _ 0 (λ e. c.if-branch-eq0.false (t.1 ∙ e)), own, k) refl
 
 pub returns : goal.returns
 unfolding found_of
 returns c =
-    let t : There c.args.current.now c.args.cache.now c.args.own c.args.unchanged c.args.object = elim c.if-unchanged.branch [
-      | then-unchanged+else-object-ge-FIRST_MADE w ↦ there_unchanged _ _ _ _ _ w.if-unchanged.true w.if-object-ge-FIRST_MADE.false
-      | else-unchanged+else-script+else-script-eq0 w ↦
-          let q = w.script_of-script.ensures in
-          there_changed _ _ _ _ _ w.if-unchanged.false (λ z. w.if-script.false (q ∙ z)) (λ z. w.if-script-eq0.false (q ∙ z))
-    ] in
+    let t = told_script _ _ (sym c.script_of.ensures ∙ c.in_ok-script_of.was) in
     let k = sym c.is_known.ensures ∙ c.if-not-is_known.false in
-    rw (t.0, t.1, c.if-own.false, k) (ap Is c.get-2.ensures)
+    let own : (c.args.self.now.all || c.args.own) ≡ false = rw (c.if-self.false, c.if-own.false) refl in
+    rw (t.0, ne_eqb _ 0 (λ e. c.if-branch-eq0.false (t.1 ∙ e)), own, k) (ap Ok c.get-2.ensures)
