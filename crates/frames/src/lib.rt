@@ -12,7 +12,7 @@ ghost use Rattle.session.specs.declared.Value.TheVariants.{Nil};
 ghost use Rattle.session.specs.declared.Verdict.TheVariants.{Accepted};
 ghost use Rattle.scripts.specs.Frame.{register, with_register, at_step};
 ghost use Rattle.scripts.specs.Manager.{next_step};
-ghost use Rattle.frames.specs.Frames.{into_of, returns_of, answer_of, way_of, slot_of, script_in, name_in, frame_of, aside_of, no_waiting, top_for, top_from, aside_from, Becomes, Called, ScriptAt, Placed, Waits};
+ghost use Rattle.frames.specs.Frames.{into_of, returns_of, answer_of, way_of, slot_of, script_in, name_in, place_of, frame_of, aside_of, no_waiting, top_for, top_from, aside_from, Becomes, Called, ScriptAt, Placed, Waits};
 
 use contents::{Method, Session};
 use session::limits::{NAMES, REGISTERS};
@@ -203,12 +203,11 @@ pub fn no_frame() -> Waiting
     }
 }
 
-// The frame on top, of a manager of an accepted session, as one that waits.
+// The frame on top, as one that waits. In an accepted session an object fits 8 bits, and the number of a step 16.
 pub fn set_aside(f: Frame) -> Waiting
-    ghost session: { List ℕ }
-    requires accepted { verdict_of session ≡ Accepted }
-    requires placed { Placed session f }
-    ensures { (result ≡ aside_from f) × Waits session (aside_of result) }
+    requires { (f.object < 2 ^ 8) × (place_of f.slot f.next < 2 ^ 16) }
+    ensures is { result ≡ aside_from f }
+    ensures waits { (session : List ℕ) → verdict_of session ≡ Accepted → Placed session f → Waits session (aside_of result) }
 {
     let r0 = f.r0;
     let r1 = f.r1;
