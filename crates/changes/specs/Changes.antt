@@ -1,5 +1,5 @@
 -- What a CREATE or WITHDRAW of the code does to a core. No meaning rests on these. Assumes nothing.
-use Rattle.std.specs.Prelude.{ℕ, suc, ◌+◌, ◌≤◌, ◌<◌, ◌≡◌, true, false, List, [], ◌∷◌, length}
+use Rattle.std.specs.Prelude.{ℕ, suc, ◌+◌, ◌≤◌, ◌<◌, ◌≡◌, true, false, Option, Some, None, List, [], ◌∷◌, length}
 use Rattle.session.specs.Meaning.{Numbered, level_of}
 use Rattle.session.specs.Program.{program_of}
 use Rattle.session.specs.declared.Value.{Value}
@@ -20,7 +20,7 @@ use Rattle.cores.specs.Core.{standing, effect_of, comes_to, is_over, is_asking, 
 use Rattle.cores.specs.Moves.{Makes, passed, counting}
 use Rattle.cores.specs.declared.Core.{Core}
 use Rattle.changes.specs.declared.Change.{Change}
-use Rattle.changes.specs.declared.Change.TheVariants.{Nothing, Create, Withdraw}
+use Rattle.changes.specs.declared.Change.TheVariants.{Create, Withdraw}
 use Rattle.changes.specs.declared.Changed.{Changed}
 use Rattle.cores.specs.declared.Effect.TheVariants as outside
 
@@ -38,10 +38,10 @@ IsChange (op.Create a) = Unit
 IsChange op.Withdraw = Unit
 
 -- what a change does outside its manager, whose top frame was f before
-abbrev pub change_of : defined.Frame → Change → effect.Effect
-change_of f Nothing = effect.Nothing
-change_of f (Create o w) = effect.Write (making o f.r1 f.r2 f.r3 w)
-change_of f (Withdraw o) = effect.Write (record { object = o; field = existence; value = withdrawn } ∷ [])
+abbrev pub change_of : defined.Frame → Option Change → effect.Effect
+change_of f None = effect.Nothing
+change_of f (Some (Create o w)) = effect.Write (making o f.r1 f.r2 f.r3 w)
+change_of f (Some (Withdraw o)) = effect.Write (record { object = o; field = existence; value = withdrawn } ∷ [])
 
 -- a core that runs, with what a CREATE or WITHDRAW needs
 pub record Changeable (s masks current : List ℕ) (c : Core) : Type 0 where

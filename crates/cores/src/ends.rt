@@ -2,30 +2,23 @@
 ghost use Rattle.std.specs.Prelude.{◌<◌, ◌≡◌, ◌&&◌, ltb, leb};
 ghost use Rattle.scripts.specs.Limits.{max_frames};
 ghost use Rattle.scripts.specs.Ending.{is_running};
-ghost use Rattle.contents.specs.Reading.{Indexed};
 ghost use Rattle.frames.specs.Frames.{slot_on, aside_of, Called, Waits};
 ghost use Rattle.cores.specs.Moves.{Pushed, Popped, finished_as, closed_as};
 
 use crate::{Core, Effect};
+use contents::Session;
 use frames::{ANSWERS, Frame, Waiting};
 use scripts::{Ending, MAX_SCRIPT_STEPS};
 use session::Value;
 
 impl Core {
     // A frame is made above the top, which waits.
-    pub fn pushed(
-        self,
-        session: &[u8],
-        index: &[u16],
-        object: u8,
-        way: u16,
-        parameter: Value,
-    ) -> Core
-        requires { Indexed session.now index.now × Called object (slot_on way) session.now × (self.height < max_frames) }
-        ensures { Pushed session.now self object way parameter result }
+    pub fn pushed(self, session: &Session, object: u8, way: u16, parameter: Value) -> Core
+        requires { Called object (slot_on way) session.now.bytes.now × (self.height < max_frames) }
+        ensures { Pushed session.now.bytes.now self object way parameter result }
     {
         let answer = (way % ANSWERS) as u8;
-        let top = Frame::new(session, index, object, way / ANSWERS, answer, parameter);
+        let top = Frame::new(session, object, way / ANSWERS, answer, parameter);
         let height = self.height + 1;
         Core {
             height,
@@ -36,12 +29,12 @@ impl Core {
     }
 
     // The top pops with a reply, to the frame that waits below it.
-    pub fn popped(self, session: &[u8], index: &[u16], below: Waiting, reply: Value) -> Core
-        requires { Indexed session.now index.now × Waits session.now (aside_of below) × (0 < self.height) }
-        ensures { Popped session.now self below reply result }
+    pub fn popped(self, session: &Session, below: Waiting, reply: Value) -> Core
+        requires { Waits session.now.bytes.now (aside_of below) × (0 < self.height) }
+        ensures { Popped session.now.bytes.now self below reply result }
     {
         let f = self.top;
-        let sender = frames::woken(session, index, below);
+        let sender = frames::woken(session, below);
         let top = sender.answered(f.answer, reply);
         let height = self.height - 1;
         Core {

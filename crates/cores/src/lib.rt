@@ -75,22 +75,14 @@ pub enum Effect {
 fn is_nothing(effect: Effect) -> bool
     ensures { result ≡ is_nothing effect }
 {
-    match effect {
-        Effect::Nothing => true,
-        _ => false,
-    }
+    matches!(effect, Effect::Nothing)
 }
 
 // Whether a manager has not ended.
 pub fn is_running(ending: Ending) -> bool
     ensures { result ≡ is_running ending }
 {
-    match ending {
-        Ending::Running => true,
-        Ending::Finished => false,
-        Ending::OutOfSteps => false,
-        Ending::OutOfWrites => false,
-    }
+    matches!(ending, Ending::Running)
 }
 
 impl Core {
@@ -105,8 +97,7 @@ impl Core {
     pub fn may_advance(self, limit: u16) -> bool
         ensures { result ≡ (is_nothing self.effect && ltb self.steps limit) }
     {
-        let effect = self.effect;
-        is_nothing(effect) && self.steps < limit
+        is_nothing(self.effect) && self.steps < limit
     }
 
     // What is kept of it once it has ended, with the stamp of its fork.

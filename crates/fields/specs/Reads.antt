@@ -1,5 +1,5 @@
 -- What the words answer to a READ, and to the question whether an object is there. Assumes nothing.
-use Rattle.std.specs.Prelude.{ℕ, ◌≤◌, ◌<◌, ◌≡◌, Bool, true, not, cond, ◌||◌, List, eqb, ltb, length}
+use Rattle.std.specs.Prelude.{ℕ, ◌≤◌, ◌<◌, ◌≡◌, Bool, true, not, cond, ◌||◌, List, Result, Ok, Err, eqb, ltb, length}
 use Rattle.session.specs.Limits.{fields, max_objects, max_numbers}
 use Rattle.session.specs.Parts.{object_count}
 use Rattle.session.specs.Meaning.{Numbered, level_of}
@@ -7,8 +7,7 @@ use Rattle.session.specs.declared.Value.{Value}
 use Rattle.session.specs.declared.Value.TheVariants.{Nil}
 use Rattle.fields.specs.Limits.{field_words}
 use Rattle.fields.specs.Fields.{field_at, script_in, known_at}
-use Rattle.fields.specs.declared.reads.Found.{Found}
-use Rattle.fields.specs.declared.reads.Found.TheVariants.{Missing, Is}
+use Rattle.fields.specs.declared.reads.Missing.{Missing}
 use Rattle.scripts.specs.Existence.{existence, own_script, script_seen}
 
 -- the script of an object as long as no existence was written
@@ -24,15 +23,23 @@ unfoldable pub script_found : List ℕ → List ℕ → Bool → Bool → ℕ �
 script_found current cache own unchanged o =
     cond unchanged (own_script_of o) (cond own (script_in current o) (cond (known_at cache o existence) (script_in cache o) unknown))
 
+-- a value that is not at hand
+abbrev pub lacking : ℕ → Missing
+lacking k = record { value = k }
+
+-- what the code answers of a script: one that is not at hand is to be asked for by the object's existence
+abbrev pub script_told : ℕ → Result ℕ Missing
+script_told script = cond (eqb script unknown) (Err (lacking existence)) (Ok script)
+
 -- what is found of a field: of an object of the level what it holds, of another what was read; NIL where the object is not there
-unfoldable pub found_of : List ℕ → List ℕ → Bool → Bool → ℕ → ℕ → Found
+unfoldable pub found_of : List ℕ → List ℕ → Bool → Bool → ℕ → ℕ → Result Value Missing
 found_of current cache own unchanged o k =
     let script = script_found current cache own unchanged o in
     cond (eqb script unknown)
-    (Missing existence)
+    (Err (lacking existence))
     (cond (eqb script 0)
-    (Is Nil)
-    (cond own (Is (field_at current o k)) (cond (known_at cache o k) (Is (field_at cache o k)) (Missing k))))
+    (Ok Nil)
+    (cond own (Ok (field_at current o k)) (cond (known_at cache o k) (Ok (field_at cache o k)) (Err (lacking k)))))
 
 -- the scripts in words are those of objects of the session, or none
 abbrev pub Scripted : List ℕ → List ℕ → Type 0

@@ -11,11 +11,11 @@ ghost use Rattle.session.specs.Meaning.{Numbered};
 ghost use Rattle.session.specs.Parts.{object_count};
 ghost use Rattle.session.specs.Program.{program_of};
 ghost use Rattle.scripts.specs.Existence.{existence, initially, is_there, is_unmade, used_of};
-ghost use Rattle.scripts.specs.Valid.{Leveled};
 ghost use Rattle.fields.specs.Limits.{field_words};
-ghost use Rattle.fields.specs.Fields.{field_at, script_in, existence_at_first, known_at, stored_in, FieldsReady, FieldThere, FieldSet, Remembered, Forgotten, Filled};
+ghost use Rattle.fields.specs.Fields.{field_at, script_in, existence_at_first, known_at, stored_in, FieldThere, FieldSet, Remembered, Forgotten, Filled};
 
 use crate::values::{NUMBER_AT, UNREAD, VALUE_WORDS};
+use contents::Session;
 use session::Value;
 use session::limits::{FIELDS, FIRST_MADE, MADE_OBJECTS, MAX_NUMBERS};
 
@@ -114,11 +114,7 @@ fn is_unmade(fields: &[u32], object: usize) -> bool
     requires { FieldThere fields.now object existence }
     ensures { result ≡ is_unmade (field_at fields.now object existence) }
 {
-    let existence = get(fields, object, EXISTENCE_AT);
-    match existence {
-        Value::Nil => true,
-        Value::Number(_) => false,
-    }
+    matches!(get(fields, object, EXISTENCE_AT), Value::Nil)
 }
 
 // How many of the numbers that a level gives are used.
@@ -126,12 +122,9 @@ pub fn used_of(fields: &[u32], level: usize) -> usize
     requires { (field_words ≤ length fields.now) × (level < max_levels) }
     ensures { result ≡ used_of (field_at fields.now) level }
 {
-    for i in 0..MADE_OBJECTS {
-        if is_unmade(fields, FIRST_MADE + MADE_OBJECTS * level + i) {
-            return i;
-        }
-    }
-    MADE_OBJECTS
+    (0..MADE_OBJECTS)
+        .find(|i| is_unmade(fields, FIRST_MADE + MADE_OBJECTS * level + *i))
+        .unwrap_or(MADE_OBJECTS)
 }
 
 // The existence of an object at first: those of the session are there, with their own methods.
@@ -147,41 +140,37 @@ pub fn first_existence(object: usize) -> Value
 }
 
 // What field `k` of an object holds at first: NIL, if it is none of the session's.
-pub fn first_field(session: &[u8], masks: &[u16], object: usize, k: usize) -> Value
-    requires { Leveled session.now masks.now × Numbered session.now object × (k < fieldCount) }
-    ensures { result ≡ initially (program_of session.now) object k }
+pub fn first_field(session: &Session, object: usize, k: usize) -> Value
+    requires { Numbered session.now.bytes.now object × (k < fieldCount) }
+    ensures { result ≡ initially (program_of session.now.bytes.now) object k }
 {
     if object < FIRST_MADE {
-        contents::field_of(session, masks, object, k)
+        session.field_of(object, k)
     } else {
         Value::Nil
     }
 }
 
 // What a value of an object of the session is at first: a field, or its existence.
-fn first_of(session: &[u8], masks: &[u16], object: usize, k: usize) -> Value
-    requires { Leveled session.now masks.now × (object < object_count session.now) × (k ≤ existence) }
-    ensures { result ≡ initially (program_of session.now) object k }
+fn first_of(session: &Session, object: usize, k: usize) -> Value
+    requires { (object < object_count session.now.bytes.now) × (k ≤ existence) }
+    ensures { result ≡ initially (program_of session.now.bytes.now) object k }
 {
     if k < FIELDS {
-        contents::field_of(session, masks, object, k)
+        session.field_of(object, k)
     } else {
         first_existence(object)
     }
 }
 
 // Each object of the session gets its first fields and its existence.
-pub fn fill(session: &[u8], masks: &[u16], fields: &mut [u32])
-    requires { FieldsReady session.now masks.now fields.old }
-    ensures { Filled session.now fields.old fields.new }
+pub fn fill(session: &Session, fields: &mut [u32])
+    requires { field_words ≤ length fields.old }
+    ensures { Filled session.now.bytes.now fields.old fields.new }
 {
-    let n = OBJECT_VALUES * contents::object_count(session);
-    for i in 0..n {
-        set(
-            fields,
-            i / OBJECT_VALUES,
-            i % OBJECT_VALUES,
-            first_of(session, masks, i / OBJECT_VALUES, i % OBJECT_VALUES),
-        );
+    for object in 0..session.object_count() {
+        for k in 0..OBJECT_VALUES {
+            set(fields, object, k, first_of(session, object, k));
+        }
     }
 }

@@ -1,20 +1,29 @@
 // What the words answer to a READ, and to the question whether an object is there.
-ghost use Rattle.std.specs.Prelude.{◌≡◌, ◌<◌};
+ghost use Rattle.std.specs.Prelude.{◌≡◌, ◌<◌, ◌||◌, true};
 ghost use Rattle.session.specs.Limits.{fields as fieldCount, max_numbers};
-ghost use Rattle.fields.specs.Reads.{own_script_of, script_found, found_of, Findable};
+ghost use Rattle.fields.specs.Reads.{own_script_of, script_found, script_told, found_of, Findable};
 
+use crate::EXISTENCE;
 use session::Value;
 use session::limits::FIRST_MADE;
 
-// A script that is not at hand.
-pub const UNKNOWN: u8 = 255;
-
-// What is found of a field.
+// What a manager's READ sees.
 #[derive(Clone, Copy)]
-pub enum Found {
-    // It is to be asked for, or its object's existence.
-    Missing(u8),
-    Is(Value),
+pub struct Sight<'a> {
+    // What the objects of the run hold.
+    pub current: &'a [u32],
+    // What was read of objects of other levels.
+    pub cache: &'a [u32],
+    // Whether an object of any level is taken as one of the manager's own.
+    pub all: bool,
+    // Whether no existence was written.
+    pub unchanged: bool,
+}
+
+// A value of an object that is not at hand: the number of a field, or that of its existence. It is to be asked for.
+#[derive(Clone, Copy)]
+pub struct Missing {
+    pub value: u8,
 }
 
 // The script of an object as long as no existence was written: its own methods, if it is one of the session's.
@@ -29,55 +38,49 @@ pub fn own_script(object: usize) -> u8
     }
 }
 
-// The script of an object, 0 where it is not there: from `current` if the object is of the level, or, of another
-// object, as it was read.
-pub fn script_of(current: &[u32], cache: &[u32], own: bool, unchanged: bool, object: usize) -> u8
-    requires { Findable current.now cache.now object }
-    ensures { result ≡ script_found current.now cache.now own unchanged object }
-{
-    if unchanged {
-        return own_script(object);
+impl Sight<'_> {
+    // The script of an object of the level, 0 where it is not there.
+    pub fn script_here(&self, object: usize) -> u8
+        requires { Findable self.now.current.now self.now.cache.now object }
+        ensures { result ≡ script_found self.now.current.now self.now.cache.now true self.now.unchanged object }
+    {
+        if self.unchanged {
+            own_script(object)
+        } else {
+            crate::script_in(self.current, object) as u8
+        }
     }
-    if own {
-        return crate::script_in(current, object) as u8;
-    }
-    if !crate::is_known(cache, object, crate::EXISTENCE as usize) {
-        return UNKNOWN;
-    }
-    crate::script_in(cache, object) as u8
-}
 
-// A field of an object: from `current` if the object is of the level, or, of another object, as it was read. Of an
-// object that is not there it is NIL.
-pub fn find(
-    current: &[u32],
-    cache: &[u32],
-    own: bool,
-    unchanged: bool,
-    object: usize,
-    k: u8,
-) -> Found
-    requires { Findable current.now cache.now object × (k < fieldCount) }
-    ensures { result ≡ found_of current.now cache.now own unchanged object k }
-{
-    if unchanged {
-        if object >= FIRST_MADE {
-            return Found::Is(Value::Nil);
+    // The script of an object, 0 where it is not there: from `current` if the object is of the level (`own`), or, of
+    // another object, as it was read.
+    pub fn script_of(&self, own: bool, object: usize) -> Result<u8, Missing>
+        requires { Findable self.now.current.now self.now.cache.now object }
+        ensures { result ≡ script_told (script_found self.now.current.now self.now.cache.now (self.now.all || own) self.now.unchanged object) }
+    {
+        if self.unchanged || self.all || own {
+            return Ok(self.script_here(object));
         }
-    } else {
-        let script = script_of(current, cache, own, false, object);
-        if script == UNKNOWN {
-            return Found::Missing(crate::EXISTENCE);
+        if !crate::is_known(self.cache, object, EXISTENCE as usize) {
+            return Err(Missing { value: EXISTENCE });
         }
-        if script == 0 {
-            return Found::Is(Value::Nil);
+        Ok(crate::script_in(self.cache, object) as u8)
+    }
+
+    // A field of an object: from `current` if the object is of the level (`own`), or, of another object, as it was
+    // read. Of an object that is not there it is NIL.
+    pub fn find(&self, own: bool, object: usize, k: u8) -> Result<Value, Missing>
+        requires { Findable self.now.current.now self.now.cache.now object × (k < fieldCount) }
+        ensures { result ≡ found_of self.now.current.now self.now.cache.now (self.now.all || own) self.now.unchanged object k }
+    {
+        if self.script_of(own, object)? == 0 {
+            return Ok(Value::Nil);
         }
+        if self.all || own {
+            return Ok(crate::get(self.current, object, k as usize));
+        }
+        if !crate::is_known(self.cache, object, k as usize) {
+            return Err(Missing { value: k });
+        }
+        Ok(crate::get(self.cache, object, k as usize))
     }
-    if own {
-        return Found::Is(crate::get(current, object, k as usize));
-    }
-    if !crate::is_known(cache, object, k as usize) {
-        return Found::Missing(k);
-    }
-    Found::Is(crate::get(cache, object, k as usize))
 }

@@ -3,7 +3,7 @@
 
 pub mod values;
 
-ghost use Rattle.std.specs.Prelude.{◌+◌, ◌^◌, ◌≤◌, ◌<◌, ◌≡◌, cond, [], ◌∷◌, leb, get_or};
+ghost use Rattle.std.specs.Prelude.{ℕ, List, ◌+◌, ◌^◌, ◌≤◌, ◌<◌, ◌≡◌, cond, [], ◌∷◌, leb, get_or};
 ghost use Rattle.session.specs.Limits.{registers};
 ghost use Rattle.session.specs.Parts.{object_count};
 ghost use Rattle.session.specs.Program.{program_of};
@@ -11,10 +11,9 @@ ghost use Rattle.session.specs.Questions.{verdict_of, Accepted};
 ghost use Rattle.session.specs.declared.Value.TheVariants.{Nil};
 ghost use Rattle.scripts.specs.Frame.{register, with_register, at_step};
 ghost use Rattle.scripts.specs.Manager.{next_step};
-ghost use Rattle.contents.specs.Reading.{Indexed};
-ghost use Rattle.frames.specs.Frames.{into_of, returns_of, answer_of, way_of, slot_of, script_in, name_in, frame_of, aside_of, no_waiting, top_for, top_from, aside_from, Becomes, Called, ScriptAt, Placed, Waits};
+ghost use Rattle.frames.specs.Frames.{into_of, returns_of, answer_of, way_of, slot_of, script_in, name_in, place_of, frame_of, aside_of, no_waiting, top_for, top_from, aside_from, Becomes, Called, ScriptAt, Placed, Waits};
 
-use contents::Method;
+use contents::{Method, Session};
 use session::limits::{NAMES, REGISTERS};
 use session::{Step, Value};
 
@@ -97,31 +96,24 @@ fn pick(k: u8, r0: Value, r1: Value, r2: Value, r3: Value) -> Value
 }
 
 // Where the steps of a method stand. Those of script 0 have none.
-fn method_in(session: &[u8], index: &[u16], slot: usize) -> Method
-    requires { Indexed session.now index.now × (script_in slot ≤ object_count session.now) }
-    ensures { ScriptAt session.now (script_in slot) (name_in slot) result.start result.count }
+fn method_in(session: &Session, slot: usize) -> Method
+    requires { script_in slot ≤ object_count session.now.bytes.now }
+    ensures { ScriptAt session.now.bytes.now (script_in slot) (name_in slot) result.start result.count }
 {
     if slot < NAMES {
         return Method { start: 0, count: 0 };
     }
-    contents::method_of(session, index, slot - NAMES)
+    session.method_of(slot - NAMES)
 }
 
 impl Frame {
     // A frame for a message that found a method, whose reply goes to the sender as `answer` says.
-    pub fn new(
-        session: &[u8],
-        index: &[u16],
-        object: u8,
-        slot: u16,
-        answer: u8,
-        parameter: Value,
-    ) -> Frame
-        requires { Indexed session.now index.now × Called object slot session.now }
-        ensures { (result ≡ top_for object slot answer parameter result.start result.count) × Placed session.now result }
+    pub fn new(session: &Session, object: u8, slot: u16, answer: u8, parameter: Value) -> Frame
+        requires { Called object slot session.now.bytes.now }
+        ensures { (result ≡ top_for object slot answer parameter result.start result.count) × Placed session.now.bytes.now result }
     {
         let slot = slot as usize;
-        let method = method_in(session, index, slot);
+        let method = method_in(session, slot);
         Frame {
             object: object as usize,
             slot,
@@ -137,12 +129,11 @@ impl Frame {
     }
 
     // The step that it makes next, or its script's end.
-    pub fn next_step(self, session: &[u8]) -> Step
-        requires session_value { verdict_of session.now ≡ Accepted }
-        requires placed { Placed session.now self }
-        ensures { result ≡ next_step (program_of session.now) (frame_of self) }
+    pub fn next_step(self, session: &Session) -> Step
+        requires { Placed session.now.bytes.now self }
+        ensures { result ≡ next_step (program_of session.now.bytes.now) (frame_of self) }
     {
-        contents::step_in_method(session, self.start, self.count, self.next)
+        session.step_in_method(self.start, self.count, self.next)
     }
 
     // Whether it is at its script's end.
@@ -211,11 +202,11 @@ pub fn no_frame() -> Waiting
     }
 }
 
-// The frame on top, as one that waits. `session` is for its contract.
-pub fn set_aside(session: &[u8], f: Frame) -> Waiting
-    requires session_value { verdict_of session.now ≡ Accepted }
-    requires placed { Placed session.now f }
-    ensures { (result ≡ aside_from f) × Waits session.now (aside_of result) }
+// The frame on top, as one that waits. In an accepted session an object fits 8 bits, and the number of a step 16.
+pub fn set_aside(f: Frame) -> Waiting
+    requires { (f.object < 2 ^ 8) × (place_of f.slot f.next < 2 ^ 16) }
+    ensures is { result ≡ aside_from f }
+    ensures waits { (session : List ℕ) → verdict_of session ≡ Accepted → Placed session f → Waits session (aside_of result) }
 {
     let r0 = f.r0;
     let r1 = f.r1;
@@ -233,13 +224,13 @@ pub fn set_aside(session: &[u8], f: Frame) -> Waiting
 }
 
 // A frame that waited, as the one on top.
-pub fn woken(session: &[u8], index: &[u16], w: Waiting) -> Frame
-    requires { Indexed session.now index.now × Waits session.now (aside_of w) }
-    ensures { (result ≡ top_from w result.start result.count) × Placed session.now result }
+pub fn woken(session: &Session, w: Waiting) -> Frame
+    requires { Waits session.now.bytes.now (aside_of w) }
+    ensures { (result ≡ top_from w result.start result.count) × Placed session.now.bytes.now result }
 {
     let at = w.at as usize;
     let slot = at / STEP_NUMBERS;
-    let method = method_in(session, index, slot);
+    let method = method_in(session, slot);
     let r0 = w.r0;
     let r1 = w.r1;
     let r2 = w.r2;

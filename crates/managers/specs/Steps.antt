@@ -1,8 +1,8 @@
 -- The script steps that the code's manager makes in a row. No meaning rests on these. Assumes nothing.
 -- How a row of steps is proved: the first loop of `advance` carries that the manager at its start leads to what the core comes to
--- (`proofs/Laws/Advance`: `Turning`); the second, which makes the late pops, leaves that as it is (`Closing`: `Lowering`). At its end what
+-- (`proofs/Laws/Advance`: `Turning`); the second, which makes the late pops, leaves that as it is (`Lowering`). At its end what
 -- the core comes to is the manager handed back (`Done`). One script step is the same with a limit of one more (`Leads`: `Leads-one`).
-use Rattle.std.specs.Prelude.{ℕ, zero, suc, ◌+◌, ◌-◌, ◌≤◌, ◌<◌, ◌≡◌, Bool, true, false, List, length, get_or, replicate}
+use Rattle.std.specs.Prelude.{ℕ, zero, suc, ◌+◌, ◌-◌, ◌≤◌, ◌<◌, ◌≡◌, Bool, true, false, ◌&&◌, ltb, leb, List, length, get_or, replicate}
 use Rattle.session.specs.Parts.{level_count}
 use Rattle.session.specs.Program.{Program, program_of}
 use Rattle.session.specs.declared.Value.{Value}
@@ -19,8 +19,10 @@ use Rattle.contents.specs.Reading.{Indexed}
 use Rattle.scripts.specs.declared.Ending.TheVariants.{Finished}
 use Rattle.fields.specs.Limits.{field_words}
 use Rattle.fields.specs.Reads.{Scripted, Agrees}
-use Rattle.frames.specs.Frames.{frame_of, aside_of, no_waiting, top_from, Placed, Waits}
-use Rattle.cores.specs.Core.{is_nothing, is_asking, is_done, Present}
+use Rattle.frames.specs.Frames.{frame_of, aside_of, no_waiting, top_from, below, Placed, Waits}
+use Rattle.frames.specs.declared.Waiting.{Waiting}
+use Rattle.cores.specs.Core.{comes_to, is_nothing, is_asking, is_done, Present, Sits}
+use Rattle.cores.specs.Moves.{closed_as}
 use Rattle.operations.specs.Operations.{is_pause, pause_of, asking}
 use Rattle.changes.specs.Changes.{IsChange, change_of, OwnExistence}
 use Rattle.cores.specs.declared.Core.{Core}
@@ -119,15 +121,38 @@ pub record Advanced (s current cache : List ℕ) (all unchanged : Bool) (limit :
   pub early : r.core.steps ≡ m.core.steps → is_paused s current cache all unchanged m.core ≡ true
 
 -- one script step; or, before one that waits, none
-pub record Stepped (s current cache : List ℕ) (unchanged : Bool) (m r : Manager) : Type 0 where
-  pub is : is_asking r.core.effect ≡ false → (read : ℕ → ℕ → Value) → Agrees s current cache false unchanged m.core.level read → stepped_of r ≡ stepped (program_of s) read (manager_of m)
-  pub asks : is_asking r.core.effect ≡ true → (manager_of r ≡ manager_of m) × (pause_of s current cache false unchanged m.core ≡ asking r.core.effect)
-  pub still : is_asking r.core.effect ≡ true → (is_running r.core.ending ≡ true) × (pause_of s current cache false unchanged r.core ≡ asking r.core.effect)
+pub record Stepped (s current cache : List ℕ) (all unchanged : Bool) (m r : Manager) : Type 0 where
+  pub is : is_asking r.core.effect ≡ false → (read : ℕ → ℕ → Value) → Agrees s current cache all unchanged m.core.level read → stepped_of r ≡ stepped (program_of s) read (manager_of m)
+  pub asks : is_asking r.core.effect ≡ true → (manager_of r ≡ manager_of m) × (pause_of s current cache all unchanged m.core ≡ asking r.core.effect)
+  pub still : is_asking r.core.effect ≡ true → (is_running r.core.ending ≡ true) × (pause_of s current cache all unchanged r.core ≡ asking r.core.effect)
   pub held : WellFormed s r
   pub level_is : r.core.level ≡ m.core.level
   pub first_is : r.core.first ≡ m.core.first
   pub present : Present s r.core.effect
   pub done : is_done r.core.effect ≡ true
+
+-- pops that were to come led from core c₀ to c, above the frames that wait
+pub record Lowering (s index : List ℕ) (ws : List Waiting) (c₀ c : Core) : Type 0 where
+  pub indexed : Indexed s index
+  pub same : comes_to (program_of s) c (below ws (c.height - 1)) ≡ comes_to (program_of s) c₀ (below ws (c₀.height - 1))
+  pub sits : Sits s c
+  pub done : is_done c.effect ≡ true
+  pub room : length ws ≡ waiting_frames
+  pub each : (k : ℕ) → k + 1 < c.height → Waits s (aside_of (get_or ws k no_waiting))
+  pub effect_is : c.effect ≡ c₀.effect
+  pub steps_are : c.steps ≡ c₀.steps
+  pub level_is : c.level ≡ c₀.level
+  pub first_is : c.first ≡ c₀.first
+  -- nothing pops before a READ
+  pub asks : is_asking c.effect ≡ true → c ≡ c₀
+  pub unfinished : is_asking c.effect ≡ true → (c.top.next < c.top.count) × (c.steps < max_script_steps)
+
+-- no pop is left, and a core that is at its end, or has no steps left, has ended
+pub record Settled (s index : List ℕ) (ws : List Waiting) (c r : Core) : Type 0 where
+  pub lowered : Core
+  pub lowering : Lowering s index ws c lowered
+  pub still : (is_running lowered.ending && (leb lowered.top.count lowered.top.next && ltb 1 lowered.height)) ≡ false
+  pub closed : r ≡ closed_as lowered
 
 -- a manager whose next step is a CREATE or WITHDRAW, with what that needs
 pub record Changeable (s masks index current : List ℕ) (m : Manager) : Type 0 where

@@ -5,11 +5,12 @@ ghost use Rattle.std.specs.Prelude.{◌≤◌, ◌<◌, ◌≡◌};
 ghost use Rattle.session.specs.Parts.{object_count};
 ghost use Rattle.scripts.specs.Limits.{max_script_steps};
 ghost use Rattle.scripts.specs.Valid.{Startable};
-ghost use Rattle.contents.specs.Reading.{Indexed};
-ghost use Rattle.managers.specs.Steps.{no_manager, Starts, WellFormed, Advanceable, Advanced, Stepped, Changeable, ChangedFrom};
+ghost use Rattle.managers.specs.Steps.{no_manager, Starts, WellFormed, Advanceable, Advanced, Stepped, Changeable, ChangedFrom, Lowering, Settled};
 
 use changes::Change;
+use contents::Session;
 use cores::{Core, Effect};
+use fields::reads::Sight;
 use frames::{FIRST_ANSWER, Frame, Waiting};
 use scripts::{Ending, MAX_FRAMES};
 use session::{Message, Value};
@@ -31,11 +32,26 @@ pub struct Manager {
     pub waiting: [Waiting; MAX_WAITING],
 }
 
-// A manager after a CREATE or WITHDRAW, and what that does outside it.
+// A manager after a CREATE or WITHDRAW, and what that does outside it, if anything.
 #[derive(Clone, Copy)]
 pub struct Changed {
     pub manager: Manager,
-    pub change: Change,
+    pub change: Option<Change>,
+}
+
+// The core above the frames that wait, once no frame above the first is at its script's end.
+fn settled(core: Core, session: &Session, waiting: &[Waiting; MAX_WAITING]) -> Core
+    requires { Lowering session.now.bytes.now session.now.index.now waiting.now core core }
+    ensures { Settled session.now.bytes.now session.now.index.now waiting.now core result }
+{
+    let mut core = core;
+    while core.pops() {
+        let at = core.height as usize - BELOW_TOP;
+        let effect = core.effect;
+        let lower = core.popped(session, waiting[at], Value::Nil);
+        core = lower.causing(effect);
+    }
+    core.closed()
 }
 
 impl Manager {
@@ -73,21 +89,13 @@ impl Manager {
 
     // The manager of a message, started at a level with a write stamp: its first frame is made, with the
     // script that is read of its object, and an empty method ends at once.
-    pub fn start(
-        session: &[u8],
-        index: &[u16],
-        level: u8,
-        stamp: u16,
-        message: Message,
-        script: u8,
-    ) -> Manager
-        requires { Indexed session.now index.now × Startable session.now level stamp message × (script ≤ object_count session.now) }
-        ensures { Starts session.now level stamp message script result × WellFormed session.now result }
+    pub fn start(session: &Session, level: u8, stamp: u16, message: Message, script: u8) -> Manager
+        requires { Startable session.now.bytes.now level stamp message × (script ≤ object_count session.now.bytes.now) }
+        ensures { Starts session.now.bytes.now level stamp message script result × WellFormed session.now.bytes.now result }
     {
         let parameter = message.parameter;
         let top = Frame::new(
             session,
-            index,
             message.object,
             frames::slot_of(script, message.name),
             FIRST_ANSWER,
@@ -111,22 +119,11 @@ impl Manager {
     }
 
     // Script steps of a manager that runs, until one concerns others or asks, the manager ends, or `limit`
-    // are made in all. READs are of any object where `all` says so, and else of those of the level and of
-    // what `cache` has of others.
-    pub fn advance(
-        self,
-        session: &[u8],
-        masks: &[u16],
-        index: &[u16],
-        current: &[u32],
-        cache: &[u32],
-        all: bool,
-        unchanged: bool,
-        limit: u16,
-    ) -> Manager
-        requires advanceable { Advanceable session.now masks.now index.now current.now cache.now self }
+    // are made in all. READs see what `sight` has.
+    pub fn advance(self, session: &Session, sight: &Sight, limit: u16) -> Manager
+        requires advanceable { Advanceable session.now.bytes.now session.now.masks.now session.now.index.now sight.now.current.now sight.now.cache.now self }
         requires steps_lt_limit { (self.core.steps < limit) × (limit ≤ max_script_steps) }
-        ensures { Advanced session.now current.now cache.now all unchanged limit self result }
+        ensures { Advanced session.now.bytes.now sight.now.current.now sight.now.cache.now sight.now.all sight.now.unchanged limit self result }
     {
         let mut core = self.core.causing(Effect::Nothing);
         let mut waiting = self.waiting;
@@ -135,72 +132,52 @@ impl Manager {
             let step = f.next_step(session);
             // Nothing is left to do: said once more, so that nothing of an effect is carried along.
             let quiet = core.causing(Effect::Nothing);
-            core = operations::operate(quiet, session, masks, current, cache, all, unchanged, step);
+            core = operations::operate(quiet, session, sight, step);
             let effect = core.effect;
-            if let Effect::Call {
-                object,
-                way,
-                parameter,
-            } = effect
-            {
-                let f = core.top;
-                let at = core.height as usize - TOP;
-                waiting[at] = frames::set_aside(session, f);
-                core = core.pushed(session, index, object, way, parameter);
-            } else if let Effect::Pop(reply) = effect {
-                let at = core.height as usize - BELOW_TOP;
-                core = core.popped(session, index, waiting[at], reply);
+            match effect {
+                Effect::Call {
+                    object,
+                    way,
+                    parameter,
+                } => {
+                    let f = core.top;
+                    let at = core.height as usize - TOP;
+                    waiting[at] = frames::set_aside(f);
+                    core = core.pushed(session, object, way, parameter);
+                }
+                Effect::Pop(reply) => {
+                    let at = core.height as usize - BELOW_TOP;
+                    core = core.popped(session, waiting[at], reply);
+                }
+                _ => {}
             }
         }
-        while core.pops() {
-            let at = core.height as usize - BELOW_TOP;
-            let effect = core.effect;
-            let lower = core.popped(session, index, waiting[at], Value::Nil);
-            core = lower.causing(effect);
-        }
-        core = core.closed();
+        core = settled(core, session, &waiting);
         Manager { core, waiting }
     }
 
     // A CREATE or WITHDRAW of a manager that runs, pops and ending included.
-    pub fn change(self, session: &[u8], masks: &[u16], index: &[u16], current: &[u32]) -> Changed
-        requires { Changeable session.now masks.now index.now current.now self }
-        ensures { ChangedFrom session.now current.now self result }
+    pub fn change(self, session: &Session, current: &[u32]) -> Changed
+        requires { Changeable session.now.bytes.now session.now.masks.now session.now.index.now current.now self }
+        ensures { ChangedFrom session.now.bytes.now current.now self result }
     {
         let quiet = self.core.causing(Effect::Nothing);
         let waiting = self.waiting;
         let f = quiet.top;
-        let changed = changes::make(quiet, session, masks, current, f.next_step(session));
+        let changed = changes::make(quiet, session, current, f.next_step(session));
         let change = changed.change;
-        let mut core = changed.core;
-        while core.pops() {
-            let at = core.height as usize - BELOW_TOP;
-            let effect = core.effect;
-            let lower = core.popped(session, index, waiting[at], Value::Nil);
-            core = lower.causing(effect);
-        }
-        core = core.closed();
+        let core = settled(changed.core, session, &waiting);
         let manager = Manager { core, waiting };
         Changed { manager, change }
     }
 
     // One script step of a manager that runs, pops and ending included. One that needs what the words at hand do not
     // say asks for it, and a CREATE or WITHDRAW waits for `change`: neither is made.
-    pub fn step(
-        self,
-        session: &[u8],
-        masks: &[u16],
-        index: &[u16],
-        current: &[u32],
-        cache: &[u32],
-        unchanged: bool,
-    ) -> Manager
-        requires { Advanceable session.now masks.now index.now current.now cache.now self }
-        ensures { Stepped session.now current.now cache.now unchanged self result }
+    pub fn step(self, session: &Session, sight: &Sight) -> Manager
+        requires { Advanceable session.now.bytes.now session.now.masks.now session.now.index.now sight.now.current.now sight.now.cache.now self }
+        ensures { Stepped session.now.bytes.now sight.now.current.now sight.now.cache.now sight.now.all sight.now.unchanged self result }
     {
         let limit = self.core.steps + 1;
-        self.advance(
-            session, masks, index, current, cache, false, unchanged, limit,
-        )
+        self.advance(session, sight, limit)
     }
 }

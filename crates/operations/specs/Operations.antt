@@ -1,6 +1,6 @@
 -- What an operation of the code makes of a core, and what it waits for. No meaning rests on these. Assumes nothing.
 -- Laws (`proofs/Laws/Operations`): each operation of the code is one of the definitions.
-use Rattle.std.specs.Prelude.{ℕ, suc, ◌+◌, ◌≤◌, ◌<◌, ◌≡◌, Bool, true, false, cond, List, eqb, length}
+use Rattle.std.specs.Prelude.{ℕ, suc, ◌+◌, ◌≤◌, ◌<◌, ◌≡◌, Bool, true, false, cond, List, Result, Ok, Err, eqb, length}
 use Rattle.dominance.specs.Table.{dominates}
 use Rattle.session.specs.Parts.{level_count, masks_of}
 use Rattle.session.specs.Meaning.{level_of}
@@ -18,8 +18,7 @@ use Rattle.scripts.specs.Manager.{is_end, next_step, operated, stepped}
 use Rattle.scripts.specs.Valid.{Leveled}
 use Rattle.fields.specs.Limits.{field_words}
 use Rattle.fields.specs.Reads.{unknown, script_found, found_of, Scripted, is_own, Agrees}
-use Rattle.fields.specs.declared.reads.Found.{Found}
-use Rattle.fields.specs.declared.reads.Found.TheVariants.{Missing, Is}
+use Rattle.fields.specs.declared.reads.Missing.{Missing}
 use Rattle.frames.specs.Frames.{frame_of}
 use Rattle.cores.specs.Core.{standing, comes_to, is_over, is_asking, Present, Sits}
 use Rattle.cores.specs.declared.Core.{Core}
@@ -50,9 +49,9 @@ is_pause (on o k) = true
 is_pause change = true
 
 -- a READ of a field of object o, by what is found
-abbrev pub missing : ℕ → Found → Pause
-missing o (Missing k) = on o k
-missing o (Is v) = none
+abbrev pub missing : ℕ → Result Value Missing → Pause
+missing o (Err m) = on o m.value
+missing o (Ok v) = none
 
 -- a SEND to object o, by what becomes of its message: a frame needs its script
 abbrev pub unseen : ℕ → ℕ → Fate → Pause
@@ -69,7 +68,7 @@ is_call fate.Block = false
 is_call (fate.Fork u) = false
 
 -- what a step of a manager at a level waits for, in a frame of object o: `found` and `script` are what the words say
-abbrev pub waits_for : (ℕ → ℕ → Found) → (ℕ → ℕ) → (ℕ → ℕ → Fate) → ℕ → Step → Pause
+abbrev pub waits_for : (ℕ → ℕ → Result Value Missing) → (ℕ → ℕ) → (ℕ → ℕ → Fate) → ℕ → Step → Pause
 waits_for found script becomes o op.End = none
 waits_for found script becomes o (op.Set a n) = none
 waits_for found script becomes o (op.Add a b) = none

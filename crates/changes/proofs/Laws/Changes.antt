@@ -5,6 +5,7 @@ use mathlib.Core.Bool.{true, false}
 use mathlib.Core.List.{List, ◌∷◌}
 use borrow.Author.Tests.{eq-eqb, ne_eqb, lt-ltb, le-ltb, le-leb, lt-leb}
 use lib.ListN.{length}
+use Rattle.std.specs.Prelude.{None}
 use Rattle.session.specs.Limits.{made_objects}
 use Rattle.session.specs.Meaning.{made_number, level_of}
 use Rattle.session.specs.Program.{program_of}
@@ -28,7 +29,6 @@ use Rattle.cores.specs.Core.{bare, standing, effect_of, comes_to, is_done, Sits}
 use Rattle.cores.specs.Moves.{Able, Moves, Makes, passed, past_of, own_field, counting}
 use Rattle.changes.specs.Changes.{change_of, Changeable, OwnExistence, Spends, Stood, ChangeMade, StepChanged}
 use Rattle.cores.specs.declared.Core.{Core}
-use Rattle.changes.specs.declared.Change.TheVariants as change
 use Rattle.changes.specs.declared.Changed.{Changed}
 use Rattle.cores.specs.declared.Effect.TheVariants.{Nothing, End}
 use Rattle.cores.proofs.Laws.Makes.{effecting, going, makes_going, makes_moved}
@@ -51,27 +51,31 @@ stood_of s P c r d m sits forks done quiet =
 
 module _ (s current : List ℕ) (i : Step) (c : Core) (r : Changed) (able : Able c) (sits : Sits s c) where
   -- a step that leaves another top only
-  pub change_moved : (f : defined.Frame) → Moves c r.core f → r.change ≡ change.Nothing → ((read : ℕ → ℕ → Value) → OwnExistence s current c.level read → (gs : List defined.Frame) → record { manager = with_top (standing c gs) f; effect = effect.Nothing } ≡ operated (program_of s) read (standing c gs) (passed (standing c gs)) i) → ChangeMade s current i c r
-  change_moved f m q e =
+  pub change_moved : (f : defined.Frame) (n : Core) → Moves c n f → (r.core ≡ n) × (r.change ≡ None) → ((read : ℕ → ℕ → Value) → OwnExistence s current c.level read → (gs : List defined.Frame) → record { manager = with_top (standing c gs) f; effect = effect.Nothing } ≡ operated (program_of s) read (standing c gs) (passed (standing c gs)) i) → ChangeMade s current i c r
+  change_moved f n moved left e =
+      let m : Moves c r.core f = rw left.0 moved in
       let made = makes_moved (λ _. Unit) c r.core f (λ n. record { manager = with_top n f; effect = effect.Nothing }) able m (λ gs tall. refl) in
       let quiet : r.core.effect ≡ Nothing = ap (λ x. x.effect) m.core_is ∙ able.internal in
       record {
         is = λ read own gs tall. (
           ap (λ x. x.manager) (made.is (program_of s) gs tall ∙ ap (counting (program_of s)) (e read own gs)),
-          rw q (ap (λ x. x.effect) (e read own gs)),
+          rw left.1 (ap (λ x. x.effect) (e read own gs)),
         );
         stood = stood_of s (λ _. Unit) c r.core _ made sits (ap (λ x. x.forks) m.core_is) (rw quiet refl) (rw quiet refl);
       }
 
   -- one that would write too much
-  pub change_spent : (g : defined.Manager → defined.Frame) (ws : defined.Manager → List Written) → Spends c r.core → r.change ≡ change.Nothing → r.core.forks ≡ c.forks → r.core.effect ≡ End → ((m : defined.Manager) → max_writes < c.writes + length (ws m)) → ((read : ℕ → ℕ → Value) → OwnExistence s current c.level read → (gs : List defined.Frame) → charged (standing c gs) (passed (standing c gs)) (g (standing c gs)) (ws (standing c gs)) ≡ operated (program_of s) read (standing c gs) (passed (standing c gs)) i) → ChangeMade s current i c r
+  pub change_spent : (g : defined.Manager → defined.Frame) (ws : defined.Manager → List Written) (n : Core) → Spends c n × (n.forks ≡ c.forks) × (n.effect ≡ End) → (r.core ≡ n) × (r.change ≡ None) → ((m : defined.Manager) → max_writes < c.writes + length (ws m)) → ((read : ℕ → ℕ → Value) → OwnExistence s current c.level read → (gs : List defined.Frame) → charged (standing c gs) (passed (standing c gs)) (g (standing c gs)) (ws (standing c gs)) ≡ operated (program_of s) read (standing c gs) (passed (standing c gs)) i) → ChangeMade s current i c r
   unfolding charged
-  change_spent g ws spends q forks over full e =
+  change_spent g ws n ended left full e =
+      let spends : Spends c r.core = rw left.0 ended.0 in
+      let forks : r.core.forks ≡ c.forks = rw left.0 ended.1 in
+      let over : r.core.effect ≡ End = rw left.0 ended.2 in
       let made = spends g ws full in
       record {
         is = λ read own gs tall. (
           ap (λ x. x.manager) (made.is (program_of s) gs tall ∙ ap (counting (program_of s)) (e read own gs)),
-          rw q (rw (lt-leb (c.writes + length (ws (standing c gs))) max_writes (full (standing c gs))) at (ap (λ x. x.effect) (e read own gs))),
+          rw left.1 (rw (lt-leb (c.writes + length (ws (standing c gs))) max_writes (full (standing c gs))) at (ap (λ x. x.effect) (e read own gs))),
         );
         stood = stood_of s (λ _. Unit) c r.core _ made sits forks (rw over refl) (rw over refl);
       }

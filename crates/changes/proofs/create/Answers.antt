@@ -1,5 +1,5 @@
 use Prim.Native.Nat.{◌+◌, ◌*◌}
-use mathlib.Core.Path.{◌≡◌, refl, sym, ◌∙◌, subst}
+use mathlib.Core.Path.{◌≡◌, refl, sym, ◌∙◌}
 use native.Mathlib.Omega.{arith}
 use Rattle.session.specs.Meaning.{made_number}
 use Rattle.session.specs.declared.Value.TheVariants.{Nil, Number}
@@ -11,84 +11,72 @@ use Rattle.session.proofs.Laws.Numbers.{number_few}
 use Rattle.scripts.specs.Existence.{used_of, making}
 use Rattle.scripts.specs.Frame.{with_register}
 use Rattle.fields.specs.Fields.{field_at, script_in}
-use Rattle.cores.specs.Moves.{Moves, past_of}
+use Rattle.cores.specs.Moves.{past_of}
 use Rattle.changes.proofs.Laws.Changes.{change_moved, change_spent, change_charged, create_apart, create_gone, create_full, create_made}
 use Rattle.changes.proofs.create.Goals as goal
 
 pub returns-then-level_of-level : goal.returns-then-level_of-level
 returns-then-level_of-level c =
-    let t = c.args.session.now in
     let m = c.args.core in
     let own = c.requires.1 in
-    change_moved t c.args.current.now (op.Create c.args.a) m c.unchanged.result c.requires.0 own.sits (with_register (past_of m) c.args.a Nil) (subst (λ x. Moves m x (with_register (past_of m) c.args.a Nil)) (sym c.unchanged.ensures.0) c.put-m.ensures) c.unchanged.ensures.1
-    (λ read o gs. create_apart t c.args.masks.now c.args.current.now m own c.args.a read gs (λ e. c.if-level_of-level.true (c.level_of.ensures ∙ e)))
+    change_moved _ _ (op.Create c.args.a) m _ c.requires.0 own.sits (with_register (past_of m) c.args.a Nil) _ c.put.ensures c.unchanged.ensures
+    (λ read o gs. create_apart _ _ _ m own c.args.a read gs (λ e. c.if-level_of-level.true (c.level_of.ensures ∙ e)))
 
 pub script_in-script-requires : goal.script_in-script-requires
 script_in-script-requires c =
-    let t = c.args.session.now in
-    let m = c.args.core in
     let own = c.requires.1 in
-    record { room = own.fields_there; object = number_few t own.leveled.accepted m.top.object own.sits.top.called.0; field = omega arith }
+    record { room = own.fields_there; object = number_few _ own.leveled.accepted _ own.sits.top.called.0; field = omega arith }
 
 pub returns-then-script-eq0 : goal.returns-then-script-eq0
 returns-then-script-eq0 c =
-    let t = c.args.session.now in
     let m = c.args.core in
     let own = c.requires.1 in
-    change_moved t c.args.current.now (op.Create c.args.a) m c.unchanged-then-script-eq0.result c.requires.0 own.sits (with_register (past_of m) c.args.a Nil) (subst (λ x. Moves m x (with_register (past_of m) c.args.a Nil)) (sym c.unchanged-then-script-eq0.ensures.0) c.put-m-then-script-eq0.ensures) c.unchanged-then-script-eq0.ensures.1
-    (λ read o gs. create_gone t c.args.masks.now c.args.current.now m own c.args.a read o gs (sym c.level_of.ensures ∙ c.if-level_of-level.false) (sym c.script_in-script.ensures ∙ c.if-script-eq0.true))
+    change_moved _ _ (op.Create c.args.a) m _ c.requires.0 own.sits (with_register (past_of m) c.args.a Nil) _ c.put-then-script-eq0.ensures c.unchanged-then-script-eq0.ensures
+    (λ read o gs. create_gone _ _ _ m own c.args.a read o gs (sym c.level_of.ensures ∙ c.if-level_of-level.false) (sym c.script_in-script.ensures ∙ c.if-script-eq0.true))
 
 pub used_of-used-requires : goal.used_of-used-requires
 used_of-used-requires c =
-    let t = c.args.session.now in
-    let m = c.args.core in
     let own = c.requires.1 in
-    (own.fields_there, omega (arith, own.sits.level, few_levels t (accepted t own.leveled.accepted).three))
+    (own.fields_there, omega (arith, own.sits.level, few_levels _ (accepted _ own.leveled.accepted).three))
 
 pub returns-then-used-ge-MADE_OBJECTS : goal.returns-then-used-ge-MADE_OBJECTS
 returns-then-used-ge-MADE_OBJECTS c =
-    let t = c.args.session.now in
     let m = c.args.core in
     let own = c.requires.1 in
-    change_moved t c.args.current.now (op.Create c.args.a) m c.unchanged-then-used-ge-MADE_OBJECTS.result c.requires.0 own.sits (with_register (past_of m) c.args.a Nil) (subst (λ x. Moves m x (with_register (past_of m) c.args.a Nil)) (sym c.unchanged-then-used-ge-MADE_OBJECTS.ensures.0) c.put-m-then-used-ge-MADE_OBJECTS.ensures) c.unchanged-then-used-ge-MADE_OBJECTS.ensures.1
-    (λ read o gs. create_full t c.args.masks.now c.args.current.now m own c.args.a read o gs (sym c.level_of.ensures ∙ c.if-level_of-level.false) (λ e. c.if-script-eq0.false (c.script_in-script.ensures ∙ e)) (rw c.used_of-used.ensures at c.if-used-ge-MADE_OBJECTS.true))
+    change_moved _ _ (op.Create c.args.a) m _ c.requires.0 own.sits (with_register (past_of m) c.args.a Nil) _ c.put-then-used-ge-MADE_OBJECTS.ensures c.unchanged-then-used-ge-MADE_OBJECTS.ensures
+    (λ read o gs. create_full _ _ _ m own c.args.a read o gs (sym c.level_of.ensures ∙ c.if-level_of-level.false) (λ e. c.if-script-eq0.false (c.script_in-script.ensures ∙ e)) (rw c.used_of-used.ensures at c.if-used-ge-MADE_OBJECTS.true))
 
 pub returns-then-core : goal.returns-then-core
 returns-then-core c =
-    let t = c.args.session.now in
     let m = c.args.core in
     let own = c.requires.1 in
     let used = used_of (field_at c.args.current.now) m.level in
-    change_spent t c.args.current.now (op.Create c.args.a) m c.spent.result c.requires.0 own.sits
+    change_spent _ c.args.current.now (op.Create c.args.a) m _ c.requires.0 own.sits
     (λ x. with_register (past_of m) c.args.a (Number (made_number m.level used)))
     (λ x. making (made_number m.level used) m.top.r1 m.top.r2 m.top.r3 (script_in c.args.current.now m.top.object))
-    c.spent.ensures.0 c.spent.ensures.3 c.spent.ensures.1 c.spent.ensures.2 (λ x. omega (arith, c.if-core.true))
-    (λ read o gs. create_made t c.args.masks.now c.args.current.now m own c.args.a read o gs (sym c.level_of.ensures ∙ c.if-level_of-level.false) (λ e. c.if-script-eq0.false (c.script_in-script.ensures ∙ e)) (rw c.used_of-used.ensures at c.if-used-ge-MADE_OBJECTS.false))
+    _ c.spent.ensures c.unchanged-then-core.ensures (λ x. omega (arith, c.if-core.true))
+    (λ read o gs. create_made _ _ _ m own c.args.a read o gs (sym c.level_of.ensures ∙ c.if-level_of-level.false) (λ e. c.if-script-eq0.false (c.script_in-script.ensures ∙ e)) (rw c.used_of-used.ensures at c.if-used-ge-MADE_OBJECTS.false))
 
 pub overflow_cast-result : goal.overflow_cast-result
 overflow_cast-result c =
-    let t = c.args.session.now in
-    let m = c.args.core in
     let own = c.requires.1 in
-    omega (arith, own.sits.level, few_levels t (accepted t own.leveled.accepted).three, c.used_of-used.ensures, c.if-used-ge-MADE_OBJECTS.false)
+    omega (arith, own.sits.level, few_levels _ (accepted _ own.leveled.accepted).three, c.used_of-used.ensures, c.if-used-ge-MADE_OBJECTS.false)
 
 pub overflow_cast-result-2 : goal.overflow_cast-result-2
 overflow_cast-result-2 c =
-    let t = c.args.session.now in
+    let t = c.args.session.now.bytes.now in
     let m = c.args.core in
     let own = c.requires.1 in
     omega (arith, c.script_in-script.ensures, own.scripted m.top.object (number_few t own.leveled.accepted m.top.object own.sits.top.called.0), object_limit t own.leveled.accepted)
 
 pub returns : goal.returns
 returns c =
-    let t = c.args.session.now in
     let m = c.args.core in
     let own = c.requires.1 in
     let used = used_of (field_at c.args.current.now) m.level in
-    let script = c.script_in-script.ensures in
     let number : 32 + 4 * m.level + c.used_of-used.result ≡ made_number m.level used = rw c.used_of-used.ensures refl in
-    change_charged t c.args.current.now (op.Create c.args.a) m _ c.requires.0 own.sits c.put-m-2.result (with_register (past_of m) c.args.a (Number (made_number m.level used))) 4
+    change_charged _ c.args.current.now (op.Create c.args.a) m _ c.requires.0 own.sits c.put-m.result (with_register (past_of m) c.args.a (Number (made_number m.level used))) 4
     (making (made_number m.level used) m.top.r1 m.top.r2 m.top.r3 (script_in c.args.current.now m.top.object))
-    (rw number at c.put-m-2.ensures) refl refl (omega (arith, c.if-core.false))
-    (rw (number, script) refl)
-    (λ read o gs. create_made t c.args.masks.now c.args.current.now m own c.args.a read o gs (sym c.level_of.ensures ∙ c.if-level_of-level.false) (λ e. c.if-script-eq0.false (c.script_in-script.ensures ∙ e)) (rw c.used_of-used.ensures at c.if-used-ge-MADE_OBJECTS.false))
+    (rw number at c.put-m.ensures) refl refl (omega (arith, c.if-core.false))
+    (rw (number, c.script_in-script.ensures) refl)
+    (λ read o gs. create_made _ _ _ m own c.args.a read o gs (sym c.level_of.ensures ∙ c.if-level_of-level.false) (λ e. c.if-script-eq0.false (c.script_in-script.ensures ∙ e)) (rw c.used_of-used.ensures at c.if-used-ge-MADE_OBJECTS.false))

@@ -21,18 +21,18 @@ withdraws op.Withdraw h other = refl
 
 pub create-requires : goal.create-requires
 create-requires c =
-    (changeable c.args.session.now c.args.masks.now c.args.current.now c.args.core c.requires.0 (op.Create c.in-Create.a) (sym c.requires.1 ∙ c.in-Create.is) refl, c.requires.0)
+    (changeable c.args.session.now.bytes.now c.args.session.now.masks.now c.args.current.now c.args.core c.requires.0 (op.Create c.in-Create.a) (sym c.requires.1 ∙ c.in-Create.is) refl, c.requires.0)
 
 pub returns-in-Create : goal.returns-in-Create
 returns-in-Create c =
-    step_changed c.args.session.now c.args.current.now (op.Create c.in-Create.a) c.args.core c.create.result c.create.ensures (sym c.requires.1 ∙ c.in-Create.is)
+    step_changed c.args.session.now.bytes.now c.args.current.now (op.Create c.in-Create.a) c.args.core c.create.result c.create.ensures (sym c.requires.1 ∙ c.in-Create.is)
 
 pub withdraw-requires : goal.withdraw-requires
 withdraw-requires c =
     let is = withdraws c.args.step c.requires.2 c.in_default.not-Create in
-    (changeable c.args.session.now c.args.masks.now c.args.current.now c.args.core c.requires.0 op.Withdraw (sym c.requires.1 ∙ is) refl, c.requires.0)
+    (changeable c.args.session.now.bytes.now c.args.session.now.masks.now c.args.current.now c.args.core c.requires.0 op.Withdraw (sym c.requires.1 ∙ is) refl, c.requires.0)
 
 pub returns : goal.returns
 returns c =
     let is = withdraws c.args.step c.requires.2 c.in_default.not-Create in
-    step_changed c.args.session.now c.args.current.now op.Withdraw c.args.core c.withdraw.result c.withdraw.ensures (sym c.requires.1 ∙ is)
+    step_changed c.args.session.now.bytes.now c.args.current.now op.Withdraw c.args.core c.withdraw.result c.withdraw.ensures (sym c.requires.1 ∙ is)

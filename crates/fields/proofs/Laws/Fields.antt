@@ -1,5 +1,5 @@
 -- Fields kept in words: one set, one remembered, one forgotten, and all filled. Assumes nothing.
-use Prim.Native.Nat.{ℕ, ◌+◌, ◌*◌, ◌/◌, ◌%◌, ◌<◌}
+use Prim.Native.Nat.{ℕ, ◌+◌, ◌*◌, ◌<◌}
 use mathlib.Core.Path.{◌≡◌, refl, ◌∙◌, ap, ap₂}
 use mathlib.Core.Bool.{true, not}
 use mathlib.Core.List.{List}
@@ -110,25 +110,25 @@ pub record Filling (s ws ws' : List ℕ) (i : ℕ) : Type 0 where
 pub fill_none : (s ws : List ℕ) → Filling s ws ws 0
 fill_none s ws = record { filled = λ o k h l. absurd (omega arith); outside = outside_none ws 0 0 }
 
-pub fill_more : (s ws ws' ws'' : List ℕ) (i : ℕ) (v : Value) → Filling s ws ws' i → FieldThere ws' (i / object_values) (i % object_values) → FieldSet ws' ws'' (i / object_values) (i % object_values) v
-    → v ≡ initially (program_of s) (i / object_values) (i % object_values) → Filling s ws ws'' (i + 1)
-fill_more s ws ws' ws'' i v f h t e =
+pub fill_more : (s ws ws' ws'' : List ℕ) (i object field : ℕ) (v : Value) → i ≡ object_values * object + field → Filling s ws ws' i → FieldThere ws' object field → FieldSet ws' ws'' object field v
+    → v ≡ initially (program_of s) object field → Filling s ws ws'' (i + 1)
+fill_more s ws ws' ws'' i object field v at f h t e =
     record {
       filled = λ o k l m. elim (order (object_values * o + k) i) [
         | less g ↦
-            let kept = field_apart ws' ws'' (i / object_values) (i % object_values) o k h.field l (λ p q. omega arith) t.outside in
+            let kept = field_apart ws' ws'' object field o k h.field l (λ p q. omega (arith, p, q)) t.outside in
             (kept.0 ∙ (f.filled o k l g).0, kept.1 ∙ (f.filled o k l g).1)
         | same g ↦
-            let p : o ≡ i / object_values = omega arith in
-            let q : k ≡ i % object_values = omega arith in
+            let p : o ≡ object = omega (arith, h.field) in
+            let q : k ≡ field = omega (arith, h.field) in
             rw (p, q, t.words)
-            (stored-tag ws' (i / object_values) (i % object_values) (tag v) (number_in v) h ∙ ap tag e, stored_number ws' (i / object_values) (i % object_values) (tag v) (number_in v) h ∙ ap number_in e)
+            (stored-tag ws' object field (tag v) (number_in v) h ∙ ap tag e, stored_number ws' object field (tag v) (number_in v) h ∙ ap number_in e)
         | more g ↦ absurd (omega arith)
       ];
       outside =
           outside_then ws ws' ws'' 0 (value_words * (i + 1))
           (outside_wider ws ws' 0 (value_words * i) 0 (value_words * (i + 1)) (omega arith) (omega arith) f.outside)
-          (outside_wider ws' ws'' (field_place (i / object_values) (i % object_values)) (field_place (i / object_values) (i % object_values) + value_words) 0 (value_words * (i + 1)) (omega arith) (omega arith) t.outside);
+          (outside_wider ws' ws'' (field_place object field) (field_place object field + value_words) 0 (value_words * (i + 1)) (omega arith) (omega arith) t.outside);
     }
 
 pub fill_all : (s ws ws' : List ℕ) (i : ℕ) → i ≡ object_values * object_count s → Filling s ws ws' i → Filled s ws ws'

@@ -16,14 +16,45 @@ use Rattle.lists.proofs.Laws.Lists.{holds, fails, truth}
 use Rattle.scripts.specs.Existence.{existence, script_seen, is_there, field_seen}
 use Rattle.scripts.proofs.Laws.Existence.{there_script}
 use Rattle.fields.specs.Fields.{field_at, known_at}
-use Rattle.fields.specs.Reads.{own_script_of, unknown, script_found, found_of, Scripted, Small, is_own, Agrees}
-use Rattle.fields.specs.declared.reads.Found.TheVariants.{Missing, Is}
+use Rattle.fields.specs.Reads.{own_script_of, unknown, lacking, script_told, script_found, found_of, Scripted, Small, is_own, Agrees}
+use Rattle.fields.specs.declared.reads.Missing.{Missing}
+use Rattle.std.specs.Prelude.{Result, Ok, Err}
 
-same_value : (v w : Value) → Is v ≡ Is w → v ≡ w
+-- what is found of a field, and what is asked for in its place
+abbrev found : Value → Result Value Missing
+found v = Ok v
+
+abbrev missing : ℕ → Result Value Missing
+missing k = Err (lacking k)
+
+-- what is found is one value, and something missing is no value
+same_value : (v w : Value) → found v ≡ found w → v ≡ w
 same_value v w e = cc
 
-no_value : (k : ℕ) (v : Value) → Missing k ≡ Is v → ⊥
-no_value k v e = let z : ◌≡◌ {A = ℕ} 0 1 = cc in omega arith
+no_value : (k : ℕ) (v : Value) → missing k ≡ found v → ⊥
+no_value k v e = cc
+
+-- what is told of a script: it is at hand, and which; or it is not
+abbrev at_hand : ℕ → Result ℕ Missing
+at_hand w = Ok w
+
+abbrev out_of_hand : Missing → Result ℕ Missing
+out_of_hand m = Err m
+
+pub told_script : (w v : ℕ) → script_told w ≡ Ok v → (eqb w unknown ≡ false) × (v ≡ w)
+told_script w v e = elim (truth (eqb w unknown)) [
+  | holds q ↦ absurd (let z : out_of_hand (lacking existence) ≡ at_hand v = rw q at e in cc)
+  | fails q ↦ (q, (let z : at_hand w ≡ at_hand v = rw q at e in cc))
+]
+
+pub told_missing : (w : ℕ) (m : Missing) → script_told w ≡ Err m → (eqb w unknown ≡ true) × (m ≡ lacking existence)
+told_missing w m e = elim (truth (eqb w unknown)) [
+  | holds q ↦ (q, (let z : out_of_hand (lacking existence) ≡ out_of_hand m = rw q at e in cc))
+  | fails q ↦ absurd (let z : at_hand w ≡ out_of_hand m = rw q at e in cc)
+]
+
+pub told_small : (w : ℕ) → w ≤ max_objects → script_told w ≡ Ok w
+told_small w h = rw (ne_eqb w unknown (λ e. omega (arith, e, h)))
 
 -- scripts of objects of the session are small
 pub scripted_small : (s ws : List ℕ) → object_count s ≤ max_objects → Scripted s ws → Small ws
@@ -59,13 +90,13 @@ found_scripted s current cache false false o f g own_low h e = elim (truth (know
     unknown_is q = not_both true refl q
 
 -- what is missing is the field, or existence
-same_missing : (j k : ℕ) → Missing j ≡ Missing k → j ≡ k
-same_missing j k e = cc
+same_missing : (j k : ℕ) → missing j ≡ missing k → j ≡ k
+same_missing j k e = let z : lacking j ≡ lacking k = cc in ap (λ m. m.value) z
 
-no_missing : (k : ℕ) (v : Value) → Is v ≡ Missing k → ⊥
-no_missing k v e = let z : ◌≡◌ {A = ℕ} 0 1 = cc in omega arith
+no_missing : (k : ℕ) (v : Value) → found v ≡ missing k → ⊥
+no_missing k v e = cc
 
-pub missing_low : (current cache : List ℕ) (own unchanged : Bool) (o b k : ℕ) → b < fields → found_of current cache own unchanged o b ≡ Missing k → k ≤ existence
+pub missing_low : (current cache : List ℕ) (own unchanged : Bool) (o b k : ℕ) → b < fields → found_of current cache own unchanged o b ≡ missing k → k ≤ existence
 unfolding found_of
 missing_low current cache own unchanged o b k h q = elim (truth (eqb (script_found current cache own unchanged o) unknown)) [
   | holds e ↦ omega (arith, same_missing existence k (rw e at q))
@@ -93,7 +124,7 @@ module _ (s current cache : List ℕ) (all unchanged : Bool) (level : ℕ) (read
   seen_there_lem e = sym (there_script (read o existence)) ∙ ap (λ w. not (eqb w 0)) (seen_script e)
 
   -- a found field is what a READ sees
-  pub found_seen : (k : ℕ) (v : Value) → k < fields → found_of current cache (is_own s all level o) unchanged o k ≡ Is v → v ≡ field_seen read o k
+  pub found_seen : (k : ℕ) (v : Value) → k < fields → found_of current cache (is_own s all level o) unchanged o k ≡ found v → v ≡ field_seen read o k
   unfolding found_of
   found_seen k v h q = elim (truth (eqb script unknown)) [
     | holds e ↦ absurd (no_value existence v (rw e at q))

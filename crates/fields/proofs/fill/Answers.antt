@@ -1,36 +1,36 @@
-use native.Mathlib.Omega.{arith}
+use Rattle.std.proofs.Common.{◌≡◌, ◌+◌, ◌*◌, refl, sym, arith, add-zero, add_assoc}
+use Rattle.fields.specs.Limits.{object_values}
 use Rattle.session.proofs.Laws.Contents.{object_limit}
-use Rattle.fields.proofs.Laws.Fields.{fill_more, fill_all}
+use Rattle.fields.proofs.Laws.Fields.{fill_none, fill_more, fill_all}
 use Rattle.fields.proofs.fill.Goals as goal
 
-pub overflow_mul-n : goal.overflow_mul-n
-overflow_mul-n c = omega (arith, object_limit c.args.session.now c.requires.accepted, c.object_count-n.ensures)
+pub loop-object-init : goal.loop-object-init
+loop-object-init c = fill_none c.args.session.now.bytes.now c.args.fields.now
 
 pub set-requires : goal.set-requires
 set-requires c =
-    let at = c.loop-i in
     record {
-      room = omega (arith, c.requires.room, at.invariant.2.outside.length_same);
-      object = omega (arith, at.invariant.1, object_limit c.args.session.now c.requires.accepted);
-      field = omega arith;
+      room = omega (arith, c.requires, c.loop-k.auto.fields, c.loop-object.auto.fields);
+      object = omega (arith, c.loop-object-test.true, c.object_count-object-end.ensures, object_limit c.args.session.now.bytes.now c.args.session.now.accepted);
+      field = c.loop-k-test.true;
     }
 
-pub loop-i-preserved : goal.loop-i-preserved
-loop-i-preserved c =
-    let g = c.args in
-    let at = c.loop-i in (
-      omega arith,
-      at.invariant.1,
-      fill_more g.session.now g.fields.now at.fields c.set.new.fields at.i c.first_of.result at.invariant.2
-          record {
-            room = omega (arith, c.requires.room, at.invariant.2.outside.length_same);
-            object = omega (arith, at.invariant.1, object_limit g.session.now c.requires.accepted);
-            field = omega arith;
-          } c.set.ensures c.first_of.ensures,
-    )
+pub loop-k-init : goal.loop-k-init
+loop-k-init c = rw (add-zero (object_values * c.loop-object.object)) c.loop-object.invariant
+
+pub loop-k-preserved : goal.loop-k-preserved
+loop-k-preserved c =
+    let at = c.loop-k in
+    rw (sym (add_assoc (object_values * c.loop-object.object) at.k 1))
+    (fill_more _ _ at.fields c.set.new.fields _ c.loop-object.object at.k c.first_of.result refl at.invariant
+    record {
+      room = omega (arith, c.requires, c.loop-k.auto.fields, c.loop-object.auto.fields);
+      object = omega (arith, c.loop-object-test.true, c.object_count-object-end.ensures, object_limit c.args.session.now.bytes.now c.args.session.now.accepted);
+      field = c.loop-k-test.true;
+    } c.set.ensures c.first_of.ensures)
+
+pub loop-object-preserved : goal.loop-object-preserved
+loop-object-preserved c = let h : object_values * c.loop-object.object + c.loop-k.k ≡ object_values * (c.loop-object.object + 1) = omega arith in rw h at c.loop-k.invariant
 
 pub returns : goal.returns
-returns c =
-    let g = c.args in
-    let at = c.loop-i in
-    fill_all g.session.now g.fields.now at.fields at.i (omega (arith, at.invariant.1)) at.invariant.2
+returns c = fill_all _ _ _ _ (omega (arith, c.object_count-object-end.ensures)) c.loop-object.invariant

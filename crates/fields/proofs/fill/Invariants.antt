@@ -1,11 +1,10 @@
-use Prim.Native.Nat.{◌-◌, ◌*◌, ◌≤◌}
-use mathlib.Core.Path.{◌≡◌}
-use Rattle.session.specs.Parts.{object_count}
+use Prim.Native.Nat.{◌+◌, ◌*◌}
+use Rattle.fields.specs.Limits.{object_values}
 use Rattle.fields.proofs.Laws.Fields.{Filling}
 use Rattle.fields.proofs.fill.Given as goal
 
-abbrev pub invariant-loop-i : goal.invariant-loop-i
-invariant-loop-i l = (l.i ≤ l.n) × (l.n ≡ 4 * object_count l.session) × Filling l.session l.initial.fields l.fields l.i
+abbrev pub invariant-loop-object : goal.invariant-loop-object
+invariant-loop-object l = Filling l.session.bytes.now l.initial.fields l.fields (object_values * l.object)
 
-abbrev pub decreases-loop-i : goal.decreases-loop-i
-decreases-loop-i l = l.n - l.i
+abbrev pub invariant-loop-k : goal.invariant-loop-k
+invariant-loop-k l = Filling l.session.bytes.now l.fn.fields l.fields (object_values * l.object + l.k)

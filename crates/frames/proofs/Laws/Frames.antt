@@ -1,6 +1,6 @@
 -- Frames: what a set register leaves as it is, and where a script's end is. Assumes nothing.
-use Prim.Native.Nat.{ℕ, zero, suc, ◌+◌, ◌-◌, ◌≤◌, ◌<◌}
-use mathlib.Core.Path.{◌≡◌, refl, ◌∙◌, ap, ap₂, subst}
+use Prim.Native.Nat.{ℕ, zero, suc, ◌+◌, ◌-◌, ◌^◌, ◌≤◌, ◌<◌}
+use mathlib.Core.Path.{◌≡◌, refl, ◌∙◌, ap, ap₂, subst, sym}
 use mathlib.Core.Bool.{Bool, true, false}
 use mathlib.Core.List.{List}
 use native.Mathlib.Decide.{dec_lt}
@@ -13,11 +13,13 @@ use Rattle.session.specs.Program.{program_of}
 use Rattle.contents.specs.Reading.{MethodAt}
 use Rattle.session.specs.Questions.{verdict_of, Accepted}
 use Rattle.session.specs.declared.Value.{Value}
+use Rattle.session.proofs.Laws.Contents.{object_limit}
+use Rattle.session.proofs.Laws.Numbers.{number_few}
 use Rattle.scripts.specs.State as defined
 use Rattle.scripts.specs.Frame.{with_register}
 use Rattle.scripts.specs.Manager.{is_end, next_step}
 use Rattle.scripts.proofs.Laws.Accepted.{script_short, inside_not_end, outside_end}
-use Rattle.frames.specs.Frames.{into_of, returns_of, answer_of, answers, way_of, slot_on, answer_on, slot_of, script_in, name_in, step_numbers, place_of, slot_in, next_in, aside_of, aside_from, frame_of, Same, Becomes, ScriptAt, Placed}
+use Rattle.frames.specs.Frames.{into_of, returns_of, answer_of, answers, way_of, slot_on, answer_on, slot_of, script_in, name_in, step_numbers, place_of, slot_in, next_in, aside_of, aside_from, frame_of, Same, Becomes, ScriptAt, Placed, Waits}
 use Rattle.frames.specs.declared.Frame.{Frame}
 
 -- the byte that says where a reply goes is read back
@@ -74,6 +76,20 @@ set_aside_same s f a p =
       r2 = f.r2;
       r3 = f.r3;
     }) slot next
+
+-- a frame that is set aside waits: its object fits 8 bits, and the number of its step 16
+module _ (s : List ℕ) (f : Frame) (a : verdict_of s ≡ Accepted) (p : Placed s f) where
+  pub object_fits : f.object < 2 ^ 8
+  object_fits = omega (arith, number_few s a f.object p.called.0)
+
+  pub place_fits : place_of f.slot f.next < 2 ^ 16
+  place_fits =
+      omega (arith, object_limit s a, p.called.1, p.near, p.at.count_is, script_short s a (script_in f.slot) (name_in f.slot))
+
+  pub aside_waits : Waits s (aside_of (aside_from f))
+  aside_waits =
+      subst (Waits s) (sym (set_aside_same s f a p))
+      (record { present = p.called.0; scripted = p.called.1; near = omega (arith, p.near, p.at.count_is) })
 
 -- where a script's method stands: script 0 has none, and any other has those of an object
 pub script_none : (s : List ℕ) (script name start : ℕ) → script ≡ 0 → ScriptAt s script name start 0

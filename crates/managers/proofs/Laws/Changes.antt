@@ -19,11 +19,11 @@ use Rattle.cores.specs.declared.Core.{Core}
 use Rattle.changes.specs.declared.Changed as made
 use Rattle.cores.specs.declared.Effect.TheVariants.{Nothing}
 use Rattle.managers.specs.Manager.{manager_of}
-use Rattle.managers.specs.Steps.{Changeable, ChangedFrom}
+use Rattle.managers.specs.Steps.{Changeable, ChangedFrom, Lowering}
 use Rattle.managers.specs.declared.Manager.{Manager}
 use Rattle.managers.proofs.Laws.Turns.{below_length}
 use Rattle.managers.proofs.Laws.Advance.{stack_some, same_frames}
-use Rattle.managers.proofs.Laws.Closing.{Lowering, left, closed_comes, closed_held}
+use Rattle.managers.proofs.Laws.Closing.{left, closed_comes, closed_held}
 
 module _ (s masks index current : List ℕ) (m : Manager) (o : Changeable s masks index current m) where
   abbrev quiet : Core

@@ -1,12 +1,12 @@
 -- The pops that are left at the end of a row of script steps, and what the code's manager then is. Assumes nothing.
-use Prim.Native.Nat.{ℕ, ◌+◌, ◌-◌, ◌≤◌, ◌<◌}
+use Prim.Native.Nat.{ℕ, ◌-◌, ◌≤◌, ◌<◌}
 use mathlib.Core.Path.{◌≡◌, refl, sym, ◌∙◌, ap, ap₂}
 use mathlib.Core.Bool.{Bool, true, false, cond, ◌&&◌}
 use mathlib.Core.List.{List, [], ◌∷◌}
 use native.Mathlib.Omega.{arith}
 use borrow.Author.Tests.{lt-leb, ltb-true, ltb-false, leb-true, leb-false}
 use lib.Dec.{ltb, leb}
-use lib.ListN.{length, get_or}
+use lib.ListN.{get_or}
 use Rattle.lists.proofs.Laws.Range.{not_both, and_left, and_right}
 use Rattle.session.specs.Program.{Program, program_of}
 use Rattle.session.specs.declared.Value.{Value}
@@ -17,14 +17,13 @@ use Rattle.scripts.specs.Ending.{is_running}
 use Rattle.scripts.specs.State as defined
 use Rattle.scripts.specs.Frame.{with_register}
 use Rattle.scripts.specs.Manager.{is_end, next_step, concluded}
-use Rattle.contents.specs.Reading.{Indexed}
 use Rattle.scripts.specs.declared.Ending.{Ending}
 use Rattle.scripts.specs.declared.Ending.TheVariants.{Finished, OutOfSteps}
 use Rattle.scripts.proofs.Laws.Settle.{concluded_pop, concluded_last, concluded_out}
 use Rattle.frames.specs.Frames.{into_of, returns_of, frame_of, aside_of, no_waiting, below, Waits}
 use Rattle.frames.specs.declared.Waiting.{Waiting}
 use Rattle.frames.proofs.Laws.Frames.{at_end, not_end, unfinished_there}
-use Rattle.cores.specs.Core.{bare, standing, stack_of, effect_of, settled_of, comes_to, is_over, is_asking, is_done, Tall, Sits}
+use Rattle.cores.specs.Core.{bare, standing, stack_of, effect_of, settled_of, comes_to, is_over, is_asking, is_done, Tall}
 use Rattle.operations.specs.Operations.{is_pause}
 use Rattle.cores.specs.Moves.{causing, restacked, Popped, stood_as, closed_as}
 use Rattle.cores.specs.declared.Core.{Core}
@@ -32,7 +31,7 @@ use Rattle.cores.specs.declared.Effect.{Effect}
 use Rattle.cores.specs.declared.Effect.TheVariants.{Nothing, End, Write, Read, Change, Fork, Call, Pop}
 use Rattle.cores.proofs.Laws.Closed.{closed_over as over_closed, closed_last, closed_unfinished, closed_out}
 use Rattle.managers.specs.Manager.{manager_of, stepped_of}
-use Rattle.managers.specs.Steps.{waiting_frames, WellFormed}
+use Rattle.managers.specs.Steps.{WellFormed, Lowering}
 use Rattle.managers.specs.declared.Manager.{Manager}
 use Rattle.managers.proofs.Laws.Turns.{below-popped, no_pops}
 use Rattle.managers.proofs.Laws.Advance.{Turning, stack_some, asking_pause, pause_unfinished}
@@ -106,22 +105,6 @@ late_comes s c r w gs e d o a h =
     both : (b : Bool) → cond b Nil Nil ≡ Nil
     both true = refl
     both false = refl
-
--- what holds each time round: pops that were to come led from core c₀ here
-pub record Lowering (s index : List ℕ) (ws : List Waiting) (c₀ c : Core) : Type 0 where
-  pub indexed : Indexed s index
-  pub same : comes_to (program_of s) c (below ws (c.height - 1)) ≡ comes_to (program_of s) c₀ (below ws (c₀.height - 1))
-  pub sits : Sits s c
-  pub done : is_done c.effect ≡ true
-  pub room : length ws ≡ waiting_frames
-  pub each : (k : ℕ) → k + 1 < c.height → Waits s (aside_of (get_or ws k no_waiting))
-  pub effect_is : c.effect ≡ c₀.effect
-  pub steps_are : c.steps ≡ c₀.steps
-  pub level_is : c.level ≡ c₀.level
-  pub first_is : c.first ≡ c₀.first
-  -- nothing pops before a READ
-  pub asks : is_asking c.effect ≡ true → c ≡ c₀
-  pub unfinished : is_asking c.effect ≡ true → (c.top.next < c.top.count) × (c.steps < max_script_steps)
 
 pub lowering_start : (s masks index current cache : List ℕ) (all unchanged : Bool) (limit : ℕ) (c₀ : Core) (ws₀ : List Waiting) (c : Core) (ws : List Waiting) → Turning s masks index current cache all unchanged limit c₀ ws₀ c ws → is_done c.effect ≡ true → Lowering s index ws c c
 lowering_start s masks index current cache all unchanged limit c₀ ws₀ c ws t d =

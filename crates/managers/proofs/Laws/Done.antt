@@ -22,11 +22,11 @@ use Rattle.cores.specs.declared.Core.{Core}
 use Rattle.cores.specs.declared.Effect.{Effect}
 use Rattle.cores.specs.declared.Effect.TheVariants.{Nothing, End, Write, Read, Change, Fork, Call, Pop}
 use Rattle.managers.specs.Manager.{manager_of, stepped_of}
-use Rattle.managers.specs.Steps.{Leads, WellFormed, Advanceable, Advanced, Stepped, is_paused}
+use Rattle.managers.specs.Steps.{Leads, WellFormed, Advanceable, Advanced, Stepped, Lowering, is_paused}
 use Rattle.managers.specs.declared.Manager.{Manager}
 use Rattle.managers.proofs.Laws.Leads.{leads_one, Steps, none, some, leads_steps}
 use Rattle.managers.proofs.Laws.Advance.{saying_of, saying_agrees, pause_same, Turning, stack_some, turning_level, turning_first}
-use Rattle.managers.proofs.Laws.Closing.{Lowering, left, closed_comes, closed_held, closed_asks, closed_over, asking_lasts}
+use Rattle.managers.proofs.Laws.Closing.{left, closed_comes, closed_held, closed_asks, closed_over, asking_lasts}
 
 nothing_is : (e : Effect) → e ≡ Nothing → is_nothing e ≡ true
 nothing_is e q = rw q refl
@@ -161,7 +161,7 @@ held_top m high =
     ap top_of (stack_some m.core.height (frame_of m.core.top) (below m.waiting (m.core.height - 1)) high)
 
 -- a limit of one more makes one step
-module _ (s current cache : List ℕ) (unchanged : Bool) (m r : Manager) (h : WellFormed s m) (run : is_running m.core.ending ≡ true) (a : Advanced s current cache false unchanged (m.core.steps + 1) m r) where
+module _ (s current cache : List ℕ) (all unchanged : Bool) (m r : Manager) (h : WellFormed s m) (run : is_running m.core.ending ≡ true) (a : Advanced s current cache all unchanged (m.core.steps + 1) m r) where
   abbrev program : Program
   program = program_of s
 
@@ -188,23 +188,23 @@ module _ (s current cache : List ℕ) (unchanged : Bool) (m r : Manager) (h : We
   -- one that is asked for leaves the manager as it was
   unmoved : is_asking r.core.effect ≡ true → manager_of r ≡ manager_of m
   unfolding manager_of
-  unmoved asks = by (leads_steps program at_hand (manager_of m) (stepped_of r) (a.leads at_hand (saying_agrees s current cache false unchanged m.core.level)))
+  unmoved asks = by (leads_steps program at_hand (manager_of m) (stepped_of r) (a.leads at_hand (saying_agrees s current cache all unchanged m.core.level)))
     where
       at_hand : ℕ → ℕ → Value
-      at_hand = saying_of s current cache false unchanged m.core.level
+      at_hand = saying_of s current cache all unchanged m.core.level
 
       by : Steps (manager_of m) (stepped_of r) → manager_of r ≡ manager_of m
       by (none e) = ap (λ d. d.manager) e
       by (some e) = absurd (omega (arith, e, a.waits asks))
 
-  asked : is_asking r.core.effect ≡ true → (manager_of r ≡ manager_of m) × (pause_of s current cache false unchanged m.core ≡ asking r.core.effect)
+  asked : is_asking r.core.effect ≡ true → (manager_of r ≡ manager_of m) × (pause_of s current cache all unchanged m.core ≡ asking r.core.effect)
   asked w =
       let same = unmoved w in
       let x = a.asks w in
       let top_is : frame_of r.core.top ≡ frame_of m.core.top = sym (held_top r (a.held.live x.0)) ∙ ap top same ∙ held_top m (h.live run) in
-      (same, sym (pause_same s current cache false unchanged r.core m.core a.level_is top_is) ∙ x.1)
+      (same, sym (pause_same s current cache all unchanged r.core m.core a.level_is top_is) ∙ x.1)
 
-  pub step_done : Stepped s current cache unchanged m r
+  pub step_done : Stepped s current cache all unchanged m r
   unfolding manager_of
   step_done =
       record {

@@ -32,8 +32,8 @@ use Rattle.scripts.specs.Manager.{with_top, is_end, next_step, charged, written,
 use Rattle.scripts.specs.Valid.{script_method}
 use Rattle.scripts.proofs.Laws.Accepted.{next_fits}
 use Rattle.scripts.proofs.Laws.Send.{send_by, lent_fate}
-use Rattle.fields.specs.Reads.{own_script_of, unknown, script_found, found_of, Small, is_own, Agrees}
-use Rattle.fields.specs.declared.reads.Found.TheVariants.{Missing, Is}
+use Rattle.fields.specs.Reads.{own_script_of, unknown, lacking, script_found, found_of, Findable, Small, is_own, Agrees}
+use Rattle.std.specs.Prelude.{Ok, Err}
 use Rattle.fields.proofs.Laws.Reads.{scripted_small, own_known, found_scripted, seen_script, seen_there_lem, found_seen}
 use Rattle.frames.specs.Frames.{script_in, name_in, frame_of, Method}
 use Rattle.frames.proofs.Laws.Frames.{unfinished_there}
@@ -171,7 +171,7 @@ module _ (s masks current cache : List ℕ) (all unchanged : Bool) (c r : Core) 
 
 -- a READ, by what is found
 module _ (s masks current cache : List ℕ) (all unchanged : Bool) (c r : Core) (ready : Operable s masks current cache c) (a b : ℕ) (able : Able c) (field : b < fields) where
-  pub read_found : (v : Value) → Moves c r (with_register (past_of c) a v) → found_of current cache (is_own s all c.level c.top.object) unchanged c.top.object b ≡ Is v → OperationMade s current cache all unchanged (op.Read a b) c r
+  pub read_found : (v : Value) → Moves c r (with_register (past_of c) a v) → found_of current cache (is_own s all c.level c.top.object) unchanged c.top.object b ≡ Ok v → OperationMade s current cache all unchanged (op.Read a b) c r
   unfolding operated
   read_found v m e =
       operation_moved s current cache all unchanged (op.Read a b) c r (with_register (past_of c) a v) able ready.sits m
@@ -179,10 +179,22 @@ module _ (s masks current cache : List ℕ) (all unchanged : Bool) (c r : Core) 
       ap (λ w. record { manager = with_top (standing c gs) (with_register (past_of c) a w); effect = effect.Nothing })
       (found_seen s current cache all unchanged c.level read agrees c.top.object ready.sits.top.called.0 b v field e))
 
-  pub read_missing : (k : ℕ) → found_of current cache (is_own s all c.level c.top.object) unchanged c.top.object b ≡ Missing k → k ≤ existence → r ≡ causing c (Read c.top.object k) → OperationMade s current cache all unchanged (op.Read a b) c r
+  pub read_missing : (k : ℕ) → found_of current cache (is_own s all c.level c.top.object) unchanged c.top.object b ≡ Err (lacking k) → k ≤ existence → r ≡ causing c (Read c.top.object k) → OperationMade s current cache all unchanged (op.Read a b) c r
   unfolding pause_on
   read_missing k e low is =
       operation_asked s current cache all unchanged (op.Read a b) c r (Read c.top.object k) able ready.sits is refl refl tt (ready.sits.top.called.0, low) (ap (missing c.top.object) e)
+
+-- the words answer to a question about an object that has a number
+pub findable : (s masks current cache : List ℕ) (c : Core) (o : ℕ) → Operable s masks current cache c → Numbered s o → Findable current cache o
+findable s masks current cache c o ready n =
+    let few = object_limit s ready.leveled.accepted in
+    record {
+      fields_there = ready.fields_there;
+      cache_there = ready.cache_there;
+      object = number_few s ready.leveled.accepted o n;
+      current_small = scripted_small s current few ready.current_scripted;
+      cache_small = scripted_small s cache few ready.cache_scripted;
+    }
 
 -- the next step of a core, once it is known which
 module _ (s current cache : List ℕ) (all unchanged : Bool) (c r : Core) where

@@ -1,20 +1,16 @@
-use mathlib.Core.Path.{◌≡◌, refl, sym, ◌∙◌, ap}
+use mathlib.Core.Path.{◌≡◌, refl, sym, ◌∙◌}
 use mathlib.Core.Bool.{true, false}
 use Prim.Native.Nat.{ℕ}
 use mathlib.Core.Logic.{◌⊎◌, inl, inr}
 use native.Mathlib.Omega.{arith}
-use borrow.Author.Tests.{ne_eqb}
 use Rattle.session.proofs.Laws.Verdict.{accepted}
-use Rattle.session.proofs.Laws.Contents.{object_limit}
 use Rattle.session.proofs.Laws.Numbering.{few_levels}
-use Rattle.session.proofs.Laws.Numbers.{number_few}
 use Rattle.fates.specs.declared.Fate.{Fate}
 use Rattle.fates.specs.declared.Fate.TheVariants as fate
 use Rattle.scripts.specs.Manager.{sent}
 use Rattle.scripts.proofs.Laws.Send.{lent_ordered, fork_present}
-use Rattle.fields.specs.Reads.{is_own, script_found}
-use Rattle.fields.proofs.Laws.Reads.{scripted_small}
-use Rattle.operations.proofs.Laws.Operations.{send_made, send_blocked, send_called, send_asked}
+use Rattle.fields.proofs.Laws.Reads.{told_script, told_missing}
+use Rattle.operations.proofs.Laws.Operations.{findable, send_made, send_blocked, send_called, send_asked}
 use Rattle.operations.proofs.send.Goals as goal
 
 -- a message that is neither forked nor blocked makes a frame
@@ -25,64 +21,49 @@ framed fate.Block p q = absurd (q refl)
 framed (fate.Fork u) p q = absurd (p u refl)
 
 pub fate_of-fate-requires : goal.fate_of-fate-requires
-fate_of-fate-requires c =
-    lent_ordered c.args.session.now c.args.masks.now c.requires.1.leveled
+fate_of-fate-requires c = lent_ordered _ _ c.requires.1.leveled
 
 pub overflow_cast-u : goal.overflow_cast-u
 overflow_cast-u c =
-    let t = c.args.session.now in
+    let t = c.args.session.now.bytes.now in
     let e = sym c.fate_of-fate.ensures ∙ c.in-Fork.is in
     omega (
       arith,
-      fork_present t c.args.masks.now c.requires.1.leveled _ _ c.args.c c.in-Fork.u c.requires.1.sits.level (rw c.level_of-receiver.ensures at e),
+      fork_present t c.args.session.now.masks.now c.requires.1.leveled _ _ c.args.c c.in-Fork.u c.requires.1.sits.level (rw c.level_of-receiver.ensures at e),
       few_levels t (accepted t c.requires.1.leveled.accepted).three,
     )
 
 pub returns-in-Fork : goal.returns-in-Fork
 unfolding sent
 returns-in-Fork c =
-    let t = c.args.session.now in
     let e = sym c.fate_of-fate.ensures ∙ c.in-Fork.is in
-    let u = c.in-Fork.u in
-    send_made t c.args.masks.now c.args.current.now c.args.cache.now c.args.all c.args.unchanged c.args.core c.fork.result c.requires.1 c.args.a c.args.b c.args.c c.level_of-sender.result c.level_of-receiver.result c.level_of-sender.ensures c.level_of-receiver.ensures (fate.Fork u) _ _ e c.fork.ensures
-    (fork_present t c.args.masks.now c.requires.1.leveled _ _ c.args.c u c.requires.1.sits.level (rw c.level_of-receiver.ensures at e), c.requires.3)
+    send_made _ _ _ _ _ _ _ _ c.requires.1 c.args.a c.args.b c.args.c _ _ c.level_of-sender.ensures c.level_of-receiver.ensures _ _ _ e c.fork.ensures
+    (fork_present _ _ c.requires.1.leveled _ _ c.args.c c.in-Fork.u c.requires.1.sits.level (rw c.level_of-receiver.ensures at e), c.requires.3)
     (λ read agrees gs. refl)
 
 pub returns-in-Block : goal.returns-in-Block
 returns-in-Block c =
-    let t = c.args.session.now in
-    send_blocked t c.args.masks.now c.args.current.now c.args.cache.now c.args.all c.args.unchanged c.args.core c.put.result c.requires.1 c.args.a c.args.b c.args.c c.level_of-sender.result c.level_of-receiver.result c.level_of-sender.ensures c.level_of-receiver.ensures (sym c.fate_of-fate.ensures ∙ c.in-Block.is) c.requires.0 c.put.ensures
+    send_blocked _ _ _ _ _ _ _ _ c.requires.1 c.args.a c.args.b c.args.c _ _ c.level_of-sender.ensures c.level_of-receiver.ensures (sym c.fate_of-fate.ensures ∙ c.in-Block.is) c.requires.0 c.put.ensures
 
-pub script_of-script-requires : goal.script_of-script-requires
-script_of-script-requires c =
-    let o = c.requires.1 in
-    let few = object_limit c.args.session.now o.leveled.accepted in
-    record {
-      fields_there = o.fields_there;
-      cache_there = o.cache_there;
-      object = number_few c.args.session.now o.leveled.accepted c.args.c c.requires.3.0;
-      current_small = scripted_small c.args.session.now c.args.current.now few o.current_scripted;
-      cache_small = scripted_small c.args.session.now c.args.cache.now few o.cache_scripted;
-    }
+pub script_of-found-requires : goal.script_of-found-requires
+script_of-found-requires c = findable _ _ _ _ _ _ c.requires.1 c.requires.3.0
 
-pub returns-then-script : goal.returns-then-script
-returns-then-script c =
-    let t = c.args.session.now in
-    let own : c.is_own-own.result ≡ is_own t c.args.all c.args.core.level c.args.c = rw c.level_of-receiver.ensures at c.is_own-own.ensures in
-    let script = ap (λ x. script_found c.args.current.now c.args.cache.now x c.args.unchanged c.args.c) (sym own) ∙ sym c.script_of-script.ensures ∙ c.if-script.true in
+pub returns-in-Err : goal.returns-in-Err
+returns-in-Err c =
+    let own = rw c.level_of-receiver.ensures at c.script_of-found.ensures in
+    let t = told_missing _ _ (sym own ∙ c.in-Err.is) in
     elim (framed c.fate_of-fate.result c.in_default.not-Fork c.in_default-fate.not-Block) [
-      | inl q ↦ send_asked t c.args.masks.now c.args.current.now c.args.cache.now c.args.all c.args.unchanged c.args.core c.causing.result c.requires.1 c.args.a c.args.b c.args.c c.level_of-sender.result c.level_of-receiver.result c.level_of-sender.ensures c.level_of-receiver.ensures fate.Call (sym c.fate_of-fate.ensures ∙ q) (rw script refl) c.requires.0 c.requires.3.0 c.causing.ensures
-      | inr q ↦ send_asked t c.args.masks.now c.args.current.now c.args.cache.now c.args.all c.args.unchanged c.args.core c.causing.result c.requires.1 c.args.a c.args.b c.args.c c.level_of-sender.result c.level_of-receiver.result c.level_of-sender.ensures c.level_of-receiver.ensures fate.Discard (sym c.fate_of-fate.ensures ∙ q) (rw script refl) c.requires.0 c.requires.3.0 c.causing.ensures
+      | inl q ↦ send_asked _ _ _ _ _ _ _ _ c.requires.1 c.args.a c.args.b c.args.c _ _ c.level_of-sender.ensures c.level_of-receiver.ensures fate.Call (sym c.fate_of-fate.ensures ∙ q) (rw t.0 refl) c.requires.0 c.requires.3.0 (rw t.1 at c.causing.ensures)
+      | inr q ↦ send_asked _ _ _ _ _ _ _ _ c.requires.1 c.args.a c.args.b c.args.c _ _ c.level_of-sender.ensures c.level_of-receiver.ensures fate.Discard (sym c.fate_of-fate.ensures ∙ q) (rw t.0 refl) c.requires.0 c.requires.3.0 (rw t.1 at c.causing.ensures)
     ]
 
-pub returns : goal.returns
+pub returns-in-Ok : goal.returns-in-Ok
 unfolding sent
-returns c =
-    let t = c.args.session.now in
-    let own : c.is_own-own.result ≡ is_own t c.args.all c.args.core.level c.args.c = rw c.level_of-receiver.ensures at c.is_own-own.ensures in
-    let script = c.script_of-script.ensures ∙ ap (λ x. script_found c.args.current.now c.args.cache.now x c.args.unchanged c.args.c) own in
-    let known = ne_eqb c.script_of-script.result 255 c.if-script.false in
+returns-in-Ok c =
+    let own = rw c.level_of-receiver.ensures at c.script_of-found.ensures in
+    let t = told_script _ _ (sym own ∙ c.in-Ok.is) in
+    let known = rw (sym t.1) at t.0 in
     elim (framed c.fate_of-fate.result c.in_default.not-Fork c.in_default-fate.not-Block) [
-      | inl q ↦ send_called t c.args.masks.now c.args.current.now c.args.cache.now c.args.all c.args.unchanged c.args.core c.call.result c.requires.1 c.args.a c.args.b c.args.c c.level_of-sender.result c.level_of-receiver.result c.level_of-sender.ensures c.level_of-receiver.ensures fate.Call true c.script_of-script.result (rw (c.returns.ensures, q) at c.call.ensures) (sym c.fate_of-fate.ensures ∙ q) (λ read gs. refl) c.requires.3.0 script known
-      | inr q ↦ send_called t c.args.masks.now c.args.current.now c.args.cache.now c.args.all c.args.unchanged c.args.core c.call.result c.requires.1 c.args.a c.args.b c.args.c c.level_of-sender.result c.level_of-receiver.result c.level_of-sender.ensures c.level_of-receiver.ensures fate.Discard false c.script_of-script.result (rw (c.returns.ensures, q) at c.call.ensures) (sym c.fate_of-fate.ensures ∙ q) (λ read gs. refl) c.requires.3.0 script known
+      | inl q ↦ send_called _ _ _ _ _ _ _ _ c.requires.1 c.args.a c.args.b c.args.c _ _ c.level_of-sender.ensures c.level_of-receiver.ensures fate.Call true _ (rw (c.returns.ensures, q) at c.call.ensures) (sym c.fate_of-fate.ensures ∙ q) (λ read gs. refl) c.requires.3.0 t.1 known
+      | inr q ↦ send_called _ _ _ _ _ _ _ _ c.requires.1 c.args.a c.args.b c.args.c _ _ c.level_of-sender.ensures c.level_of-receiver.ensures fate.Discard false _ (rw (c.returns.ensures, q) at c.call.ensures) (sym c.fate_of-fate.ensures ∙ q) (λ read gs. refl) c.requires.3.0 t.1 known
     ]

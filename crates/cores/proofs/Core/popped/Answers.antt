@@ -16,5 +16,5 @@ returns c =
       core_is = refl;
       top_is = a.ensures.frame ∙ ap (λ g. with_register g (into_of f.answer) v) (ap frame_of w.ensures.0);
       answer_is = a.ensures.same.answer ∙ ap (λ g. g.answer) w.ensures.0;
-      top_placed = register-placed c.args.session.now w.result a.result (into_of f.answer) v a.ensures w.ensures.1;
+      top_placed = register-placed c.args.session.now.bytes.now w.result a.result (into_of f.answer) v a.ensures w.ensures.1;
     }

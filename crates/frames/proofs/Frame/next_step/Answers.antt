@@ -33,4 +33,4 @@ step_is s f p r own none = by (script_in f.slot) refl
 
 pub returns : goal.returns
 returns c =
-    step_is c.args.session.now c.args.self c.requires.placed _ c.step_in_method.ensures.0 c.step_in_method.ensures.1
+    step_is c.args.session.now.bytes.now c.args.self c.requires _ c.step_in_method.ensures.0 c.step_in_method.ensures.1

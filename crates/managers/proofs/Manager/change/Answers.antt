@@ -1,15 +1,17 @@
-use mathlib.Core.Path.{sym, ◌∙◌, subst}
+use mathlib.Core.Path.{subst}
 use Rattle.changes.specs.Changes.{StepChanged}
-use Rattle.managers.proofs.Laws.Closing.{lowering_on}
-use Rattle.managers.proofs.Laws.Changes.{changed_done}
+use Rattle.managers.proofs.Laws.Changes.{changed_done, lowering_changed}
 use Rattle.managers.proofs.Manager.change.Goals as goal
 
-pub loop-at-preserved : goal.loop-at-preserved
-loop-at-preserved c =
-    lowering_on _ _ _ _ _ c.loop-at.invariant (sym c.pops.ensures ∙ c.loop-at-test.true) _ c.popped-lower.ensures _ c.causing-core.ensures
+pub settled-core-requires : goal.settled-core-requires
+settled-core-requires c =
+    let is = c.causing-quiet.ensures in
+    let made = subst (λ z. StepChanged c.args.session.now.bytes.now c.args.current.now z c.make-changed.result) is c.make-changed.ensures in
+    lowering_changed _ _ _ _ _ c.requires c.make-changed.result.core made.stood
 
 pub returns : goal.returns
 returns c =
     let is = c.causing-quiet.ensures in
-    changed_done c.args.session.now c.args.masks.now c.args.index.now c.args.current.now c.args.self c.requires c.make-changed.result
-    (subst (λ z. StepChanged c.args.session.now c.args.current.now z c.make-changed.result) is c.make-changed.ensures) _ c.loop-at.invariant (sym c.pops.ensures ∙ c.loop-at-test.false) _ c.closed-core.ensures
+    let made = subst (λ z. StepChanged c.args.session.now.bytes.now c.args.current.now z c.make-changed.result) is c.make-changed.ensures in
+    let x = c.settled-core.ensures in
+    changed_done _ _ _ _ c.args.self c.requires c.make-changed.result made _ x.lowering x.still _ x.closed

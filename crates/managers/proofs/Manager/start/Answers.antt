@@ -127,4 +127,4 @@ pub returns : goal.returns
 returns c =
     let n = c.new-top in
     let w = c.slot_of in
-    starts c.args.session.now c.requires.0.accepted c.args.level c.args.stamp c.args.message c.requires.1 c.args.script n.result (ap frame_of n.ensures.0 ∙ found c.args.message.object c.args.script c.args.message.name w.result c.args.message.parameter c.requires.1.named w.ensures) n.ensures.1 _ refl c.closed-core.result c.closed-core.ensures
+    starts c.args.session.now.bytes.now c.args.session.now.accepted c.args.level c.args.stamp c.args.message c.requires.0 c.args.script n.result (ap frame_of n.ensures.0 ∙ found c.args.message.object c.args.script c.args.message.name w.result c.args.message.parameter c.requires.0.named w.ensures) n.ensures.1 _ refl c.closed-core.result c.closed-core.ensures
