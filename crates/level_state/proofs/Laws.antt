@@ -17,5 +17,6 @@ pub mod Asks
 pub mod Script
 pub mod Told
 pub mod Made
+pub mod Done
 pub mod Changes
 pub mod Asked
