@@ -1,5 +1,6 @@
 -- Laws of the words of a run and of a scheduler step: what the proofs of this crate and of the runs cite.
 pub mod Representation
+pub mod Tables
 pub mod Write
 pub mod Writes
 pub mod Arrive
@@ -16,5 +17,6 @@ pub mod Asks
 pub mod Script
 pub mod Told
 pub mod Made
+pub mod Done
 pub mod Changes
 pub mod Asked

@@ -19,6 +19,7 @@ use Rattle.histories.specs.Histories.{histories_at, InOrder}
 use Rattle.tallies.specs.Places.{next_place, waiting_place, versions_place, busy_place, changes_place, all_changes_place, tally_numbers}
 use Rattle.queues.specs.Queue.{queue_words, fork_at, forks_at, ForksRise}
 use Rattle.versions.specs.Log.{log_start, log_of}
+use Rattle.level_state.specs.declared.RunState.{RunState}
 
 -- a run's words: the newest fields and existence of objects, the histories, what is counted of each level, the forks, and the versions
 pub record Words : Type 0 where
@@ -27,6 +28,10 @@ pub record Words : Type 0 where
   pub tallies : List ℕ
   pub queue : List ℕ
   pub work : List ℕ
+
+-- those of a run's state, and of the work slice that it is lent
+abbrev pub words_of : RunState → List ℕ → Words
+words_of x work = record { current = x.current; ended = x.ended; tallies = x.tallies; queue = x.queue; work = work }
 
 -- whether a manager runs at level l: m, and its fork is the one behind those that have ended
 abbrev pub Runs : ℕ → Words → ℕ → Manager → ℕ → Activity → Type 0

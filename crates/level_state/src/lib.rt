@@ -1,12 +1,29 @@
-// What a run with scheduler steps keeps of each level: what its words stand for, what the parts of a scheduler step do to them,
-// and how the steps of a run end. Definitions and laws; of code there is only the type of that end.
+// What a run with scheduler steps keeps, and of each level: what its words stand for, what the parts of a scheduler step do to
+// them, and how the steps of a run end. Definitions and laws; of code there are only the types of what is kept and of that end.
 //
-// What a run keeps is lent: `current` holds the newest fields and existence of objects, and `cache` what a manager
-// has read of them, as in `fields`; `ended` the histories, as in `histories`; `tallies` the counts of each level, as in
-// the crate of that name; `queue` the forks, as in `queues`; `work` the versions, as in `versions`.
-// How the scheduler steps of a run end.
+// Beside a run's state a slice is lent, `work`: it holds the versions, as in `versions`. `cache` holds what a manager has read,
+// as in `fields`.
 #![tactic(auto)]
 
+use fields::FIELD_WORDS;
+use histories::limits::HISTORY_WORDS;
+use queues::QUEUE_WORDS;
+use tallies::TALLIES;
+
+// What a run with scheduler steps keeps beside the versions.
+#[derive(Drop)]
+pub struct RunState {
+    // The newest fields and existence of objects, as in `fields`.
+    pub current: [u32; FIELD_WORDS],
+    // The histories, as in `histories`.
+    pub ended: [u32; HISTORY_WORDS],
+    // The counts of each level, as in `tallies`.
+    pub tallies: [usize; TALLIES],
+    // The forks, as in `queues`.
+    pub queue: [u32; QUEUE_WORDS],
+}
+
+// How the scheduler steps of a run end.
 #[derive(Clone, Copy)]
 pub enum RunEnd {
     Finished,

@@ -1,6 +1,7 @@
 // What the manager that runs at a level writes: a field, and what a CREATE or WITHDRAW does.
 #![tactic(auto)]
 
+ghost use Rattle.std.specs.Prelude.{◌≡◌};
 ghost use Rattle.scripts.specs.Existence.{making};
 ghost use Rattle.scripts.specs.Effect as effect;
 ghost use Rattle.frames.specs.Frames.{frame_of};
@@ -8,15 +9,16 @@ ghost use Rattle.changes.specs.Changes.{change_of};
 ghost use Rattle.level_state.specs.Steps.{WriteReady, Wrote, withdrawing, ChangeReady, ChangeDone, Changing, ChangedBy};
 
 use changes::Change;
+use contents::Session;
 use frames::Frame;
+use level_state::RunState;
 use managers::Manager;
 use session::Value;
 use tallies::VERSIONS;
 
 // A write takes effect.
 pub fn write(
-    current: &mut [u32],
-    tallies: &mut [usize],
+    state: &mut RunState,
     work: &mut [u32],
     level: usize,
     stamp: u16,
@@ -24,19 +26,19 @@ pub fn write(
     field: u8,
     value: Value,
 )
-    requires { WriteReady current.old tallies.old work.old level object field }
-    ensures { Wrote current.old current.new tallies.old tallies.new work.old work.new level stamp object field value }
+    requires { WriteReady state.old.current state.old.tallies work.old level object field }
+    ensures wrote { Wrote state.old.current state.new.current state.old.tallies state.new.tallies work.old work.new level stamp object field value }
+    ensures rest { (state.new.ended ≡ state.old.ended) × (state.new.queue ≡ state.old.queue) }
 {
-    let count = tallies[VERSIONS + level];
-    fields::set(current, object as usize, field as usize, value);
+    let count = state.tallies[VERSIONS + level];
+    fields::set(&mut state.current, object as usize, field as usize, value);
     versions::append(work, level, count, stamp, object, field, value);
-    tallies[VERSIONS + level] = count + 1;
+    state.tallies[VERSIONS + level] = count + 1;
 }
 
 // The writes of a CREATE: the three fields of the made object, then that it is there, with the methods of a script.
 fn write_made(
-    current: &mut [u32],
-    tallies: &mut [usize],
+    state: &mut RunState,
     work: &mut [u32],
     level: usize,
     stamp: u16,
@@ -46,17 +48,17 @@ fn write_made(
     third: Value,
     script: u8,
 )
-    requires { ChangeReady current.old tallies.old work.old level (effect.Write (making object first second third script)) }
-    ensures { ChangeDone current.old current.new tallies.old tallies.new work.old work.new level stamp (effect.Write (making object first second third script)) }
+    requires { ChangeReady state.old.current state.old.tallies work.old level (effect.Write (making object first second third script)) }
+    ensures change_done { ChangeDone state.old.current state.new.current state.old.tallies state.new.tallies work.old work.new level stamp (effect.Write (making object first second third script)) }
+    ensures rest { (state.new.ended ≡ state.old.ended) × (state.new.queue ≡ state.old.queue) }
 {
     let existence = Value::Number(script as u32);
-    tallies::change(tallies, level);
-    write(current, tallies, work, level, stamp, object, 0, first);
-    write(current, tallies, work, level, stamp, object, 1, second);
-    write(current, tallies, work, level, stamp, object, 2, third);
+    tallies::change(&mut state.tallies, level);
+    write(state, work, level, stamp, object, 0, first);
+    write(state, work, level, stamp, object, 1, second);
+    write(state, work, level, stamp, object, 2, third);
     write(
-        current,
-        tallies,
+        state,
         work,
         level,
         stamp,
@@ -67,22 +69,15 @@ fn write_made(
 }
 
 // The write of a WITHDRAW: the object is no longer there.
-fn write_withdrawn(
-    current: &mut [u32],
-    tallies: &mut [usize],
-    work: &mut [u32],
-    level: usize,
-    stamp: u16,
-    object: u8,
-)
-    requires { ChangeReady current.old tallies.old work.old level (effect.Write (withdrawing object)) }
-    ensures { ChangeDone current.old current.new tallies.old tallies.new work.old work.new level stamp (effect.Write (withdrawing object)) }
+fn write_withdrawn(state: &mut RunState, work: &mut [u32], level: usize, stamp: u16, object: u8)
+    requires { ChangeReady state.old.current state.old.tallies work.old level (effect.Write (withdrawing object)) }
+    ensures change_done { ChangeDone state.old.current state.new.current state.old.tallies state.new.tallies work.old work.new level stamp (effect.Write (withdrawing object)) }
+    ensures rest { (state.new.ended ≡ state.old.ended) × (state.new.queue ≡ state.old.queue) }
 {
     let existence = Value::Number(0);
-    tallies::change(tallies, level);
+    tallies::change(&mut state.tallies, level);
     write(
-        current,
-        tallies,
+        state,
         work,
         level,
         stamp,
@@ -94,16 +89,16 @@ fn write_withdrawn(
 
 // What a CREATE or WITHDRAW writes. `top` is the frame that it was made in, as it stood before it.
 fn write_change(
-    current: &mut [u32],
-    tallies: &mut [usize],
+    state: &mut RunState,
     work: &mut [u32],
     level: usize,
     stamp: u16,
     top: Frame,
     change: Change,
 )
-    requires { ChangeReady current.old tallies.old work.old level (change_of (frame_of top) change) }
-    ensures { ChangeDone current.old current.new tallies.old tallies.new work.old work.new level stamp (change_of (frame_of top) change) }
+    requires { ChangeReady state.old.current state.old.tallies work.old level (change_of (frame_of top) change) }
+    ensures change_done { ChangeDone state.old.current state.new.current state.old.tallies state.new.tallies work.old work.new level stamp (change_of (frame_of top) change) }
+    ensures rest { (state.new.ended ≡ state.old.ended) × (state.new.queue ≡ state.old.queue) }
 {
     match change {
         Change::Create { object, script } => {
@@ -111,11 +106,11 @@ fn write_change(
             let second = top.r2;
             let third = top.r3;
             write_made(
-                current, tallies, work, level, stamp, object, first, second, third, script,
+                state, work, level, stamp, object, first, second, third, script,
             );
         }
         Change::Withdraw { object } => {
-            write_withdrawn(current, tallies, work, level, stamp, object);
+            write_withdrawn(state, work, level, stamp, object);
         }
         Change::Nothing => {}
     }
@@ -123,23 +118,21 @@ fn write_change(
 
 // A CREATE or WITHDRAW of the manager that runs at a level is made, with what it writes.
 pub fn change(
-    session: &[u8],
-    masks: &[u16],
-    index: &[u16],
-    current: &mut [u32],
-    tallies: &mut [usize],
+    session: &Session,
+    state: &mut RunState,
     work: &mut [u32],
     level: usize,
     m: Manager,
 ) -> Manager
-    requires { Changing session.now masks.now index.now current.old tallies.old work.old level m }
-    ensures { ChangedBy session.now current.old current.new tallies.old tallies.new work.old work.new level m result }
+    requires { Changing session.now.bytes.now session.now.masks.now session.now.index.now state.old.current state.old.tallies work.old level m }
+    ensures changed_by { ChangedBy session.now.bytes.now state.old.current state.new.current state.old.tallies state.new.tallies work.old work.new level m result }
+    ensures rest { (state.new.ended ≡ state.old.ended) × (state.new.queue ≡ state.old.queue) }
 {
     let core = m.core;
     let top = core.top;
     let stamp = core.first + core.forks as u16;
-    let made = m.change(session, masks, index, current);
+    let made = m.change(session.bytes, session.masks, session.index, &state.current);
     let change = made.change;
-    write_change(current, tallies, work, level, stamp, top, change);
+    write_change(state, work, level, stamp, top, change);
     made.manager
 }

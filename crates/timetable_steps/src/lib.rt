@@ -3,12 +3,13 @@
 
 ghost use Rattle.std.specs.Prelude.{◌≡◌};
 ghost use Rattle.permits.specs.Permits.{number_of_permit, ended_of, Countable};
-ghost use Rattle.level_state.specs.Steps.{Tables};
+ghost use Rattle.level_state.specs.Representation.{words_of};
 ghost use Rattle.level_state.specs.Script.{ScriptStep, Unseen};
 ghost use Rattle.timetable_steps.specs.Refusals.{RefusedAt, end_of};
 
+use contents::Session;
 use cores::Effect;
-use level_state::RunEnd;
+use level_state::{RunEnd, RunState};
 use managers::Manager;
 use permits::Permit;
 
@@ -35,11 +36,11 @@ pub fn refused_at(permit: Permit, place: u32) -> RunEnd
 }
 
 // The end of a run whose timetable has no more bytes: question 15.
-pub fn at_end(masks: &[u16], tallies: &[usize]) -> RunEnd
-    requires { Countable masks.now tallies.now }
-    ensures { result ≡ end_of (ended_of masks.now tallies.now) }
+pub fn at_end(session: &Session, state: &RunState) -> RunEnd
+    requires { Countable session.now.masks.now state.now.tallies }
+    ensures { result ≡ end_of (ended_of session.now.masks.now state.now.tallies) }
 {
-    if !permits::all_ended(masks, tallies) {
+    if !permits::all_ended(session.masks, &state.tallies) {
         return RunEnd::Refused {
             number: 15,
             place: 0,
@@ -50,34 +51,38 @@ pub fn at_end(masks: &[u16], tallies: &[usize]) -> RunEnd
 
 // A script step that asks for the existence of an object is made once that is read; a READ may ask for the field then.
 pub fn step_seen(
-    session: &[u8],
-    masks: &[u16],
-    index: &[u16],
-    current: &[u32],
-    ended: &[u32],
-    tallies: &[usize],
-    queue: &[u32],
+    session: &Session,
+    state: &RunState,
     work: &[u32],
     cache: &mut [u32],
     level: usize,
     m: Manager,
     object: u8,
 ) -> Manager
-    requires tables { Tables session.now masks.now index.now }
-    requires unseen { Unseen session.now (record { current = current.now; ended = ended.now; tallies = tallies.now; queue = queue.now; work = work.now }) level cache.old m object }
-    ensures { ScriptStep session.now (record { current = current.entry.now; ended = ended.now; tallies = tallies.now; queue = queue.now; work = work.now }) level cache.new m result }
+    requires { Unseen session.now.bytes.now (words_of state.now work.now) level cache.old m object }
+    ensures { ScriptStep session.now.bytes.now (words_of state.now work.now) level cache.new m result }
 {
-    level_reads::answer_existence(
-        session, masks, current, ended, tallies, queue, work, cache, level, object,
+    level_reads::answer_existence(session, state, work, cache, level, object);
+    let n = m.step(
+        session.bytes,
+        session.masks,
+        session.index,
+        &state.current,
+        cache,
+        false,
     );
-    let n = m.step(session, masks, index, current, cache, false);
     let core = n.core;
     let effect = core.effect;
     if let Effect::Read { object: o, field } = effect {
-        level_reads::answer_read(
-            session, masks, current, ended, tallies, queue, work, cache, level, o, field,
+        level_reads::answer_read(session, state, work, cache, level, o, field);
+        let r = n.step(
+            session.bytes,
+            session.masks,
+            session.index,
+            &state.current,
+            cache,
+            false,
         );
-        let r = n.step(session, masks, index, current, cache, false);
         fields::forget(cache, o as usize, field as usize);
         fields::forget(cache, object as usize, fields::EXISTENCE as usize);
         return r;

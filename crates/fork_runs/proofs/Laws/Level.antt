@@ -143,11 +143,6 @@ module _ (s : List ℕ) (a : verdict_of s ≡ Accepted) (l : ℕ) (h : l < level
 pub record LevelLoop (s : List ℕ) (w₀ w : Words) (l : ℕ) (m : Manager) : Type 0 where
   pub drains : (st : State) → Quiescent s w₀ st → refusal_under conservative (program_of s) st l ≡ 0 → Draining s st w l m
   pub rest : SameRest w₀.work w.work
-  pub current_long : length w.current ≡ length w₀.current
-  pub ended_long : length w.ended ≡ length w₀.ended
-  pub tallies_long : length w.tallies ≡ length w₀.tallies
-  pub queue_long : length w.queue ≡ length w₀.queue
-  pub work_long : length w.work ≡ length w₀.work
 
 module _ (s : List ℕ) (a : verdict_of s ≡ Accepted) (w₀ : Words) (l : ℕ) (q : LevelReady s w₀ l) where
   ready_present : l < level_count s
@@ -159,11 +154,6 @@ module _ (s : List ℕ) (a : verdict_of s ≡ Accepted) (w₀ : Words) (l : ℕ)
       record {
         drains = λ st r ok. drain_start s a l ready_present st w₀ m r ok;
         rest = refl;
-        current_long = refl;
-        ended_long = refl;
-        tallies_long = refl;
-        queue_long = refl;
-        work_long = refl;
       }
 
   module _ (w : Words) (m : Manager) (i : LevelLoop s w₀ w l m) where

@@ -74,11 +74,6 @@ pub record NextLoop (s : List ℕ) (w₁ w : Words) (l : ℕ) (m₁ m : code.Man
   pub count : get_or w.tallies l 0 + bit m ≡ get_or w₁.tallies l 0 + bit m₁
   pub rest : SameRest w₁.work w.work
   pub cache_long : length cache ≡ field_words
-  pub current_long : length w.current ≡ length w₁.current
-  pub ended_long : length w.ended ≡ length w₁.ended
-  pub tallies_long : length w.tallies ≡ length w₁.tallies
-  pub queue_long : length w.queue ≡ length w₁.queue
-  pub work_long : length w.work ≡ length w₁.work
 
 -- what is counted once a manager that ran has made its steps, and its history is kept where it has ended
 settled_counts : {ended ended' tallies tallies' queue : List ℕ} {l : ℕ} (m : code.Manager) → l < max_levels → tally_numbers ≤ length tallies → get_or tallies (busy_place l) 0 ≡ 1 → Settled ended ended' tallies tallies' queue l (manager_of m) → (get_or tallies' (busy_place l) 0 ≡ bit m) × (get_or tallies' l 0 + bit m ≡ get_or tallies l 0 + 1)
@@ -183,11 +178,6 @@ module _ {s masks index : List ℕ} (rd : Tables s masks index) {w₀ : Words} {
           count = refl;
           rest = refl;
           cache_long = length-replicate {A = ℕ} field_words 0;
-          current_long = refl;
-          ended_long = refl;
-          tallies_long = refl;
-          queue_long = refl;
-          work_long = refl;
         }
 
     module _ {w : Words} {m' : code.Manager} {cache : List ℕ} (i : NextLoop s begun_words w l m m' cache) where
@@ -232,8 +222,8 @@ module _ {s masks index : List ℕ} (rd : Tables s masks index) {w₀ : Words} {
               let same = (e []).0 on in
               rw (same.0, same.1) (turn_known cache' t known)
 
-          next_again : length cache' ≡ length cache → length q.current ≡ length w.current → length ended'' ≡ length w.ended → length tallies'' ≡ length w.tallies → length q.queue ≡ length w.queue → length q.work ≡ length w.work → NextLoop s begun_words then l m r cache'
-          next_again c0 c1 c2 c3 c4 c5 =
+          next_again : length cache' ≡ length cache → NextLoop s begun_words then l m r cache'
+          next_again c0 =
               let before : get_or w.tallies l 0 + 1 ≡ get_or tallies' l 0 + bit m = rw run at i.count in
               record {
                 drains = λ from g. t.unsettled from (i.drains from g) ended'' tallies'' (settled_of_lem r e);
@@ -249,11 +239,6 @@ module _ {s masks index : List ℕ} (rd : Tables s masks index) {w₀ : Words} {
                 count = counts_then.1 ∙ ap (λ n. n + 1) t.count ∙ before;
                 rest = t.rest ∙ i.rest;
                 cache_long = c0 ∙ i.cache_long;
-                current_long = c1 ∙ i.current_long;
-                ended_long = c2 ∙ i.ended_long;
-                tallies_long = c3 ∙ i.tallies_long;
-                queue_long = c4 ∙ i.queue_long;
-                work_long = c5 ∙ i.work_long;
               }
 
         -- it has made its steps, with the flag of existence that is counted
@@ -289,7 +274,7 @@ module _ {s masks index : List ℕ} (rd : Tables s masks index) {w₀ : Words} {
             told_again c0 =
                 next_again ad.held ad.level_is (turn_asked rd go ad next_drains is) cache' (turn_remembers rd go ad next_drains is q)
                 (core_on w.ended w.tallies w.queue l r.core (ad.asks (ap is_asking is)).0)
-                c0 refl refl refl refl refl
+                c0
 
           -- what its last step did outside it is done
           module _ (not_asks : is_asking r.core.effect ≡ false) (q : Parts) (x : Performed (parts_of w) q l r.core.first r.core.forks (effect_of r.core.effect)) where
@@ -303,7 +288,7 @@ module _ {s masks index : List ℕ} (rd : Tables s masks index) {w₀ : Words} {
             done_less w' = turn_made rd go ad not_asks w' cache
 
             -- and its history is kept where it has ended
-            pub done_again : {ended'' tallies'' : List ℕ} → CoreSettled w.ended ended'' q.tallies tallies'' q.queue l r.core → length q.current ≡ length w.current → length ended'' ≡ length w.ended → length tallies'' ≡ length w.tallies → length q.queue ≡ length w.queue → length q.work ≡ length w.work → NextLoop s begun_words (record { current = q.current; ended = ended''; tallies = tallies''; queue = q.queue; work = q.work }) l m r cache
+            pub done_again : {ended'' tallies'' : List ℕ} → CoreSettled w.ended ended'' q.tallies tallies'' q.queue l r.core → NextLoop s begun_words (record { current = q.current; ended = ended''; tallies = tallies''; queue = q.queue; work = q.work }) l m r cache
             done_again e = next_again ad.held ad.level_is turn cache go.known_read e refl
 
           -- its next step is a CREATE or WITHDRAW
@@ -322,9 +307,9 @@ module _ {s masks index : List ℕ} (rd : Tables s masks index) {w₀ : Words} {
               pub changed_less : (w' : Words) → steps_left s w' cache r' < steps_left s w cache m'
               changed_less w' = turn_counted rd go ad next_drains is made w' cache
 
-              pub changed_again : {ended'' tallies'' : List ℕ} → CoreSettled w.ended ended'' tallies₁ tallies'' w.queue l r'.core → length current' ≡ length w.current → length ended'' ≡ length w.ended → length tallies'' ≡ length w.tallies → length work' ≡ length w.work → NextLoop s begun_words (record { current = current'; ended = ended''; tallies = tallies''; queue = w.queue; work = work' }) l m r' cache
-              changed_again e c1 c2 c3 c5 =
-                  next_again made.held (made.level_is ∙ ad.level_is) changed_turn cache go.known_read e refl c1 c2 c3 refl c5
+              pub changed_again : {ended'' tallies'' : List ℕ} → CoreSettled w.ended ended'' tallies₁ tallies'' w.queue l r'.core → NextLoop s begun_words (record { current = current'; ended = ended''; tallies = tallies''; queue = w.queue; work = work' }) l m r' cache
+              changed_again e =
+                  next_again made.held (made.level_is ∙ ad.level_is) changed_turn cache go.known_read e refl
 
 -- the managers in turn
 pub record Turns (s : List ℕ) (w₀ w : Words) (l : ℕ) : Type 0 where
@@ -364,18 +349,13 @@ module _ (s : List ℕ) (a : verdict_of s ≡ Accepted) (w₀ : Words) (l : ℕ)
           let few = ((d.drains q.0 i.held drains).invariant (λ _. any_manager)).represents.counts_few l turns_small in
           omega (arith, d.count, few)
 
-      pub turns_again : length w'.current ≡ length w.current → length w'.ended ≡ length w.ended → length w'.tallies ≡ length w.tallies → length w'.queue ≡ length w.queue → length w'.work ≡ length w.work → Turns s w₀ w' l
-      turns_again c1 c2 c3 c4 c5 =
+      pub turns_again : Turns s w₀ w' l
+      turns_again =
           record {
             held = d.last;
             loop = record {
               drains = λ st x ok. d.drains st i.held (i.loop.drains st x ok);
               rest = d.rest ∙ i.loop.rest;
-              current_long = c1 ∙ i.loop.current_long;
-              ended_long = c2 ∙ i.loop.ended_long;
-              tallies_long = c3 ∙ i.loop.tallies_long;
-              queue_long = c4 ∙ i.loop.queue_long;
-              work_long = c5 ∙ i.loop.work_long;
             };
             quiescent = d.quiescent;
           }

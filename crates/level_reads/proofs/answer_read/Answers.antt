@@ -3,4 +3,4 @@ use Rattle.level_reads.proofs.answer_read.Goals as goal
 
 pub remember-requires : goal.remember-requires
 remember-requires c =
-    field_there c.requires.leveled.accepted c.requires.read_ready.0
+    field_there c.args.session.now.accepted c.requires.read_ready.0

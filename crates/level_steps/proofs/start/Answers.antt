@@ -2,11 +2,11 @@ use Rattle.managers.specs.Manager.{manager_of}
 use Rattle.level_state.proofs.Laws.Made.{begun, settled_of_lem}
 use Rattle.level_steps.proofs.start.Goals as goal
 
-pub returns : goal.returns
-returns c =
+pub returns-clause-started : goal.returns-clause-started
+returns-clause-started c =
     let called = c.settle in
     let made = c.start-m in
     let seen = c.script_of-script in (
-      begun c.message_at-message.result c.requires c.message_at-message.ensures seen.result called.new.ended called.new.tallies (manager_of made.result) seen.ensures.0 made.ensures.0 (settled_of_lem made.result called.ensures),
+      begun c.message_at-message.result c.requires c.message_at-message.ensures seen.result called.new.state.ended called.new.state.tallies (manager_of made.result) seen.ensures.0 made.ensures.0 (settled_of_lem made.result called.ensures.settled),
       made.ensures.1,
     )

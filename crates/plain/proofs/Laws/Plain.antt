@@ -203,11 +203,6 @@ pub record PlainLoop (s masks : List ℕ) (w₀ w : Words) (level : ℕ) : Type 
   pub ran : Ran s w level
   pub low : level ≤ length masks
   pub rest : SameRest w₀.work w.work
-  pub current_long : length w.current ≡ length w₀.current
-  pub ended_long : length w.ended ≡ length w₀.ended
-  pub tallies_long : length w.tallies ≡ length w₀.tallies
-  pub queue_long : length w.queue ≡ length w₀.queue
-  pub work_long : length w.work ≡ length w₀.work
 
 -- its measure: the managers that there is room for, and the levels before the last
 abbrev pub plain_left : List ℕ → List ℕ → ℕ → ℕ
@@ -219,11 +214,6 @@ plain_start {s} {masks} {w} r =
       ran = ran_start s w r;
       low = omega arith;
       rest = refl;
-      current_long = refl;
-      ended_long = refl;
-      tallies_long = refl;
-      queue_long = refl;
-      work_long = refl;
     }
 
 module _ {s masks : List ℕ} (y : Leveled s masks) {w₀ w : Words} {level : ℕ} (i : PlainLoop s masks w₀ w level) where
@@ -252,11 +242,6 @@ module _ {s masks : List ℕ} (y : Leveled s masks) {w₀ w : Words} {level : �
             ran = ran_skip s masks a y.masks_are long w level i.ran h z;
             low = omega (arith, h);
             rest = i.rest;
-            current_long = i.current_long;
-            ended_long = i.ended_long;
-            tallies_long = i.tallies_long;
-            queue_long = i.queue_long;
-            work_long = i.work_long;
           }
 
       pub plain_skip_less : plain_left masks w.tallies (level + 1) < plain_left masks w.tallies level
@@ -272,15 +257,10 @@ module _ {s masks : List ℕ} (y : Leveled s masks) {w₀ w : Words} {level : �
         plain_less =
             omega (arith, h, long, few, ran_less s masks a y.masks_are long w level i.ran h z w' d)
 
-        pub plain_again : length w'.current ≡ length w.current → length w'.ended ≡ length w.ended → length w'.tallies ≡ length w.tallies → length w'.queue ≡ length w.queue → length w'.work ≡ length w.work → PlainLoop s masks w₀ w' 0
-        plain_again c1 c2 c3 c4 c5 =
+        pub plain_again : PlainLoop s masks w₀ w' 0
+        plain_again =
             record {
               ran = ran_level s masks a y.masks_are long w level i.ran h z w' d;
               low = omega arith;
               rest = d.rest ∙ i.rest;
-              current_long = c1 ∙ i.current_long;
-              ended_long = c2 ∙ i.ended_long;
-              tallies_long = c3 ∙ i.tallies_long;
-              queue_long = c4 ∙ i.queue_long;
-              work_long = c5 ∙ i.work_long;
             }

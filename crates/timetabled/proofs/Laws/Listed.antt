@@ -180,11 +180,6 @@ pub record ListLoop (s ls : List ℕ) (d : code.Manager) (w₀ w : Words) (manag
   pub blank : Blank cache
   pub cache_long : length cache ≡ field_words
   pub rest : SameRest w₀.work w.work
-  pub current_long : length w.current ≡ length w₀.current
-  pub ended_long : length w.ended ≡ length w₀.ended
-  pub tallies_long : length w.tallies ≡ length w₀.tallies
-  pub queue_long : length w.queue ≡ length w₀.queue
-  pub work_long : length w.work ≡ length w₀.work
 
 pub list_start : {s masks : List ℕ} (ls : List ℕ) (d : code.Manager) {none : code.Manager} {w : Words} → Leveled s masks → is_running none.core.ending ≡ false → Quiescent s w (initial_state s) → ListLoop s ls d w w (replicate max_levels none) (replicate field_words 0) 0
 list_start {s} ls d {none} {w} y over r =
@@ -196,11 +191,6 @@ list_start {s} ls d {none} {w} y over r =
       blank = blank_zeros field_words;
       cache_long = length-replicate {A = ℕ} field_words 0;
       rest = refl;
-      current_long = refl;
-      ended_long = refl;
-      tallies_long = refl;
-      queue_long = refl;
-      work_long = refl;
     }
 
 module _ {s masks : List ℕ} (y : Leveled s masks) {ls : List ℕ} {d : code.Manager} {w₀ w : Words} {managers : List code.Manager} {cache : List ℕ} {i : ℕ} (g : ListLoop s ls d w₀ w managers cache i) where
@@ -278,8 +268,8 @@ module _ {s masks index ls : List ℕ} {d : code.Manager} {w₀ w : Words} {mana
       record { kept = kept-blank s w level cache g.loop.blank; there = cache_there; flag = λ q. eqb-true _ 0 (sym e ∙ q) }
 
   -- once the words represent the state after it, the next one's turn comes
-  again : {w' : Words} {cache' : List ℕ} {r : code.Manager} → StepRepresented s level m w w' cache' r → length cache' ≡ length cache → length w'.current ≡ length w.current → length w'.ended ≡ length w.ended → length w'.tallies ≡ length w.tallies → length w'.queue ≡ length w.queue → length w'.work ≡ length w.work → ListLoop s ls d w₀ w' (set managers level r) cache' (i + 1)
-  again {w'} {cache'} {r} x c0 c1 c2 c3 c4 c5 =
+  again : {w' : Words} {cache' : List ℕ} {r : code.Manager} → StepRepresented s level m w w' cache' r → length cache' ≡ length cache → ListLoop s ls d w₀ w' (set managers level r) cache' (i + 1)
+  again {w'} {cache'} {r} x c0 =
       let next = steps_made_step s y.accepted (few y g.loop) ls i w (held_in managers d) g.loop.steps_made masks y.masks_are (long y g.loop) g.more g.given m refl w' cache' r x in
       record {
         steps_made = held next (held_in (set managers level r) d) (held_set managers d level r there);
@@ -289,11 +279,6 @@ module _ {s masks index ls : List ℕ} {d : code.Manager} {w₀ w : Words} {mana
         blank = x.blank;
         cache_long = c0 ∙ g.loop.cache_long;
         rest = x.rest ∙ g.loop.rest;
-        current_long = c1 ∙ g.loop.current_long;
-        ended_long = c2 ∙ g.loop.ended_long;
-        tallies_long = c3 ∙ g.loop.tallies_long;
-        queue_long = c4 ∙ g.loop.queue_long;
-        work_long = c5 ∙ g.loop.work_long;
       }
     where
       next_is : suc i ≡ i + 1
@@ -311,9 +296,9 @@ module _ {s masks index ls : List ℕ} {d : code.Manager} {w₀ w : Words} {mana
     pub list_starts : StartReady s masks index w level
     list_starts = start_here s masks index w level m g.read none_busy may
 
-    pub list_started : {ended' tallies' : List ℕ} {r : code.Manager} → Started s w ended' tallies' level (manager_of r) × WellFormed s r → length ended' ≡ length w.ended → length tallies' ≡ length w.tallies → ListLoop s ls d w₀ (record { current = w.current; ended = ended'; tallies = tallies'; queue = w.queue; work = w.work }) (set managers level r) cache (i + 1)
-    list_started {ended'} {tallies'} {r} x c1 c2 =
-        again (start_done s masks index w level m g.read none_busy cache ended' tallies' r g.loop.blank x) refl refl c1 c2 refl refl
+    pub list_started : {ended' tallies' : List ℕ} {r : code.Manager} → Started s w ended' tallies' level (manager_of r) × WellFormed s r → ListLoop s ls d w₀ (record { current = w.current; ended = ended'; tallies = tallies'; queue = w.queue; work = w.work }) (set managers level r) cache (i + 1)
+    list_started {ended'} {tallies'} {r} x =
+        again (start_done s masks index w level m g.read none_busy cache ended' tallies' r g.loop.blank x) refl
 
   -- m runs there: it makes a script step
   module _ (z : busy_in w.tallies level ≡ true) where
@@ -382,13 +367,13 @@ module _ {s masks index ls : List ℕ} {d : code.Manager} {w₀ w : Words} {mana
             pub list_settles : SettleReady w.ended tallies' w.queue level
             list_settles = change_room advancing stands made
 
-            pub list_changed : {ended'' tallies'' : List ℕ} → CoreSettled w.ended ended'' tallies' tallies'' w.queue level r.core → length current' ≡ length w.current → length ended'' ≡ length w.ended → length tallies'' ≡ length w.tallies → length work' ≡ length w.work → ListLoop s ls d w₀ (record { current = current'; ended = ended''; tallies = tallies''; queue = w.queue; work = work' }) (set managers level r) cache (i + 1)
-            list_changed settled c1 c2 c3 c5 = again (change_represented advancing stands made settled g.loop.blank) refl c1 c2 c3 refl c5
+            pub list_changed : {ended'' tallies'' : List ℕ} → CoreSettled w.ended ended'' tallies' tallies'' w.queue level r.core → ListLoop s ls d w₀ (record { current = current'; ended = ended''; tallies = tallies''; queue = w.queue; work = work' }) (set managers level r) cache (i + 1)
+            list_changed settled = again (change_represented advancing stands made settled g.loop.blank) refl
 
     -- what the step did outside is done
     module _ {cache' : List ℕ} {r : code.Manager} (made : ScriptStep s w level cache' m r) where
       pub list_performs : PerformReady w.current w.tallies w.queue w.work level r.core.first r.core.forks (effect_of r.core.effect) × SettleReady w.ended w.tallies w.queue level
       list_performs = (done_performs advancing made, done_settles advancing made)
 
-      pub list_done : {w' : Words} → StepDone w w' level r.core → length cache' ≡ length cache → length w'.current ≡ length w.current → length w'.ended ≡ length w.ended → length w'.tallies ≡ length w.tallies → length w'.queue ≡ length w.queue → length w'.work ≡ length w.work → ListLoop s ls d w₀ w' (set managers level r) cache' (i + 1)
+      pub list_done : {w' : Words} → StepDone w w' level r.core → length cache' ≡ length cache → ListLoop s ls d w₀ w' (set managers level r) cache' (i + 1)
       list_done x = again (step_represented advancing made x)

@@ -5,6 +5,7 @@ use Rattle.session.specs.declared.Value.TheVariants.{Nil}
 use Rattle.scripts.specs.declared.Ending.TheVariants.{Running}
 use Rattle.cores.specs.declared.Effect.TheVariants.{Nothing}
 use Rattle.managers.specs.declared.Manager.{Manager}
+use Rattle.level_state.specs.Representation.{words_of}
 use Rattle.timetabled.proofs.Laws.Listed.{ListLoop}
 use Rattle.timetabled.proofs.run.Given as goal
 
@@ -29,7 +30,7 @@ none =
 
 abbrev pub invariant-loop-i : goal.invariant-loop-i
 invariant-loop-i l =
-    ListLoop l.session l.timetable none (record { current = l.initial.current; ended = l.initial.ended; tallies = l.initial.tallies; queue = l.initial.queue; work = l.initial.work }) (record { current = l.current; ended = l.ended; tallies = l.tallies; queue = l.queue; work = l.work }) l.managers l.cache l.i
+    ListLoop l.session.bytes.now l.timetable none (words_of l.initial.state l.initial.work) (words_of l.state l.work) l.managers l.cache l.i
 
 abbrev pub decreases-loop-i : goal.decreases-loop-i
 decreases-loop-i l = length l.timetable - l.i
