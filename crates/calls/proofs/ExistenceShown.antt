@@ -9,8 +9,8 @@ use Rattle.lists.specs.Lists.{joined}
 use Rattle.session.specs.Record.{Record}
 use Rattle.session.specs.Emptied.{emptied}
 use Rattle.session.specs.Program.{Program}
-use Rattle.session.specs.declared.Value.{Value}
-use Rattle.session.specs.declared.Value.TheVariants.{Nil, Number}
+use Rattle.session.specs.Value.{Value}
+use Rattle.std.specs.Prelude.{None, Some}
 use Rattle.session.specs.declared.Step.{Step}
 use Rattle.session.specs.declared.Step.TheVariants.{Set, Write, Send, Quit, Create, Withdraw}
 use Rattle.model.specs.Rules.{latest, depth_first_order}
@@ -190,24 +190,24 @@ pub record Shown : Type 0 where
   -- "handed out upward; a CREATE once all four are used gives NIL", and is no ending 2
   five_shown : in_runs five (shown_to 0 five) ≡ replicate 3 (0 ∷ 32 ∷ 33 ∷ 34 ∷ 35 ∷ [])
   five_counts : in_runs five (managers_at 0) ≡ replicate 3 ((0 ∷ 16 ∷ 0 ∷ 1 ∷ 1 ∷ 7 ∷ []) ∷ [])
-  five_reply : in_runs five replied ≡ replicate 3 (Nil ∷ [])
+  five_reply : in_runs five replied ≡ replicate 3 (None ∷ [])
   -- "with registers 1, 2 and 3 as its fields .. a gets its number": also where a is register 1, the fields are what the registers held before
-  five_fields : in_runs five fields_of_four ≡ replicate 3 ((Nil ∷ Number 8 ∷ Nil ∷ []) ∷ (Number 32 ∷ Number 8 ∷ Nil ∷ []) ∷ (Number 33 ∷ Number 8 ∷ Nil ∷ []) ∷ (Number 34 ∷ Number 8 ∷ Nil ∷ []) ∷ [])
+  five_fields : in_runs five fields_of_four ≡ replicate 3 ((None ∷ Some 8 ∷ None ∷ []) ∷ (Some 32 ∷ Some 8 ∷ None ∷ []) ∷ (Some 33 ∷ Some 8 ∷ None ∷ []) ∷ (Some 34 ∷ Some 8 ∷ None ∷ []) ∷ [])
   -- "withdrawals or not, since a number is never used twice": by one manager, and by the next one of its level
   again_shown : in_runs again (shown_to 0 again) ≡ replicate 3 (0 ∷ 33 ∷ [])
-  again_reply : in_runs again replied ≡ replicate 3 (Number 33 ∷ [])
+  again_reply : in_runs again replied ≡ replicate 3 (Some 33 ∷ [])
   used_shown : in_runs used (shown_to 1 used) ≡ replicate 3 (0 ∷ 1 ∷ 37 ∷ 38 ∷ 39 ∷ [])
-  used_fields : in_runs used fields_of_used ≡ replicate 3 ((Nil ∷ Nil ∷ Nil ∷ []) ∷ (Number 36 ∷ Nil ∷ Nil ∷ []) ∷ (Number 37 ∷ Nil ∷ Nil ∷ []) ∷ (Nil ∷ Nil ∷ Nil ∷ []) ∷ [])
+  used_fields : in_runs used fields_of_used ≡ replicate 3 ((None ∷ None ∷ None ∷ []) ∷ (Some 36 ∷ None ∷ None ∷ []) ∷ (Some 37 ∷ None ∷ None ∷ []) ∷ (None ∷ None ∷ None ∷ []) ∷ [])
   used_counts : in_runs used (managers_at 1) ≡ replicate 3 ((0 ∷ 14 ∷ 0x10000000 ∷ 1 ∷ 1 ∷ 6 ∷ []) ∷ (0 ∷ 5 ∷ 0x20000000 ∷ 2 ∷ 2 ∷ 5 ∷ []) ∷ [])
   -- "Passing 16 is ending 2, and nothing is made, removed or added to the count": the number is not used, and the next manager's CREATE gets it
   passing_counts : in_runs passing (managers_at 1) ≡ replicate 3 ((2 ∷ 13 ∷ 0x10000000 ∷ 1 ∷ 1 ∷ 14 ∷ []) ∷ (0 ∷ 16 ∷ 0x20000000 ∷ 2 ∷ 2 ∷ 14 ∷ []) ∷ [])
   passing_shown : in_runs passing (shown_to 1 passing) ≡ replicate 3 (0 ∷ 1 ∷ 36 ∷ [])
   sixteen_counts : in_runs at_sixteen (managers_at 0) ≡ replicate 3 ((2 ∷ 16 ∷ 0 ∷ 1 ∷ 1 ∷ 5 ∷ []) ∷ [])
   sixteen_shown : in_runs at_sixteen (shown_to 0 at_sixteen) ≡ replicate 3 (0 ∷ 32 ∷ 33 ∷ 34 ∷ 35 ∷ [])
-  sixteen_reply : in_runs at_sixteen replied ≡ replicate 3 (Nil ∷ [])
+  sixteen_reply : in_runs at_sixteen replied ≡ replicate 3 (None ∷ [])
   fifteen_counts : in_runs at_fifteen (managers_at 0) ≡ replicate 3 ((0 ∷ 16 ∷ 0 ∷ 1 ∷ 1 ∷ 8 ∷ []) ∷ [])
   fifteen_shown : in_runs at_fifteen (shown_to 0 at_fifteen) ≡ replicate 3 (32 ∷ 33 ∷ 34 ∷ [])
-  fifteen_reply : in_runs at_fifteen replied ≡ replicate 3 (Number 34 ∷ [])
+  fifteen_reply : in_runs at_fifteen replied ≡ replicate 3 (Some 34 ∷ [])
   -- "[An object] withdrawn by the end is not shown. Existing made [ones] are shown after the others by number". "Level n owns numbers 32 + 4n to 35 + 4n":
   -- each level counts its own
   shown_to_3 : plain_bytes (making makes) 0 3 ≡ for3

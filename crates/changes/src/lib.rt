@@ -63,21 +63,21 @@ fn create(core: Core, session: &Session, current: &[u32], a: u8) -> Changed
     let f = core.top;
     let level = core.level as usize;
     if session.level_of(f.object) != level {
-        return unchanged(core.put(a, Value::Nil));
+        return unchanged(core.put(a, None));
     }
     let script = fields::script_in(current, f.object);
     if script == 0 {
-        return unchanged(core.put(a, Value::Nil));
+        return unchanged(core.put(a, None));
     }
     let used = fields::used_of(current, level);
     if used >= MADE_OBJECTS {
-        return unchanged(core.put(a, Value::Nil));
+        return unchanged(core.put(a, None));
     }
     if core.writes > MAX_WRITES - MAKING {
         return unchanged(spent(core));
     }
     let number = FIRST_MADE + MADE_OBJECTS * level + used;
-    let m = core.put(a, Value::Number(number as u32));
+    let m = core.put(a, Some(number as u32));
     let writes = m.writes + MAKING;
     Changed {
         core: Core { writes, ..m },

@@ -116,9 +116,9 @@ impl Session<'_> {
         let mask = record::byte_at(self.bytes, r, places::FIELD_MASK);
         if (mask >> k) % 2 == 1 {
             let at = places::FIRST_FIELD + places::WORD_BYTES * k;
-            Value::Number(record::word_at(self.bytes, r, at))
+            Some(record::word_at(self.bytes, r, at))
         } else {
-            Value::Nil
+            None
         }
     }
 
@@ -154,9 +154,9 @@ impl Session<'_> {
         let object = record::byte_at(self.bytes, r, places::OBJECT);
         let name = record::byte_at(self.bytes, r, places::NAME);
         let parameter = if record::byte_at(self.bytes, r, places::TAG) == places::NUMBER_TAG {
-            Value::Number(record::word_at(self.bytes, r, places::PARAMETER))
+            Some(record::word_at(self.bytes, r, places::PARAMETER))
         } else {
-            Value::Nil
+            None
         };
         Message {
             object,
@@ -197,9 +197,9 @@ pub fn field_of(session: &[u8], masks: &[u16], object: usize, k: usize) -> Value
     let r = masks.len() + object;
     let mask = record::byte_at(session, r, places::FIELD_MASK);
     if (mask >> k) % 2 == 1 {
-        Value::Number(record::word_at(session, r, places::FIRST_FIELD + places::WORD_BYTES * k))
+        Some(record::word_at(session, r, places::FIRST_FIELD + places::WORD_BYTES * k))
     } else {
-        Value::Nil
+        None
     }
 }
 
@@ -236,7 +236,7 @@ pub fn root(session: &[u8]) -> Message
     let object = record::byte_at(session, r, places::OBJECT);
     let name = record::byte_at(session, r, places::NAME);
     if record::byte_at(session, r, places::TAG) == places::NUMBER_TAG {
-        let parameter = Value::Number(record::word_at(session, r, places::PARAMETER));
+        let parameter = Some(record::word_at(session, r, places::PARAMETER));
         Message {
             object,
             name,
@@ -246,7 +246,7 @@ pub fn root(session: &[u8]) -> Message
         Message {
             object,
             name,
-            parameter: Value::Nil,
+            parameter: None,
         }
     }
 }

@@ -2,8 +2,8 @@
 -- Laws: each move of a core is an operation of the definitions, counted, with the pops of its step (`proofs/Laws/Makes`).
 use Rattle.std.specs.Prelude.{ℕ, suc, ◌+◌, ◌-◌, ◌≤◌, ◌<◌, ◌≡◌, true, false, cond, List, [], ◌∷◌, eqb, ltb, leb, length}
 use Rattle.session.specs.Program.{Program}
-use Rattle.session.specs.declared.Value.{Value}
-use Rattle.session.specs.declared.Value.TheVariants.{Nil}
+use Rattle.session.specs.Value.{Value}
+use Rattle.std.specs.Prelude.{None}
 use Rattle.scripts.specs.Limits.{max_script_steps}
 use Rattle.scripts.specs.Effect.{Written}
 use Rattle.scripts.specs.Ending.{is_running}
@@ -120,7 +120,7 @@ finished_as c v = ended_as c 0 Finished v
 
 -- the top, at its script's end, is to pop
 abbrev pub ending_as : Core → Core
-ending_as c = cond (eqb c.height 1) (finished_as c Nil) (causing c (Pop Nil))
+ending_as c = cond (eqb c.height 1) (finished_as c None) (causing c (Pop None))
 
 -- the core with so many frames and another top, and nothing left to do
 abbrev pub restacked : Core → ℕ → Frame → Core
@@ -147,7 +147,7 @@ pub record Pushed (s : List ℕ) (c : Core) (object way : ℕ) (parameter : Valu
 -- the top has popped with a reply to the frame that waited below it
 pub record Popped (s : List ℕ) (c : Core) (below : Waiting) (v : Value) (r : Core) : Type 0 where
   pub core_is : r ≡ restacked c (c.height - 1) r.top
-  pub top_is : frame_of r.top ≡ with_register (aside_of below) (into_of c.top.answer) (cond (returns_of c.top.answer) v Nil)
+  pub top_is : frame_of r.top ≡ with_register (aside_of below) (into_of c.top.answer) (cond (returns_of c.top.answer) v None)
   pub answer_is : r.top.answer ≡ below.answer
   pub top_placed : Placed s r.top
 
@@ -156,6 +156,6 @@ abbrev pub closed_as : Core → Core
 closed_as c =
     cond (is_running c.ending)
     (cond (leb c.top.count c.top.next)
-    (stood_as c 0 Finished Nil)
+    (stood_as c 0 Finished None)
     (cond (ltb c.steps max_script_steps) c (stood_as c c.height OutOfSteps c.reply)))
     c

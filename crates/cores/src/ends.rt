@@ -80,7 +80,7 @@ impl Core {
             return Core {
                 height: 0,
                 ending: Ending::Finished,
-                reply: Value::Nil,
+                reply: None,
                 ..self
             };
         }

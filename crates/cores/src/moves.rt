@@ -64,7 +64,7 @@ impl Core {
         ensures { Makes (λ s. Numbered s c × (script ≤ object_count s)) self result (λ m. called m (passed m) a (frame_for c script b a returns (register (passed m) a))) }
     {
         if self.height >= MAX_FRAMES {
-            return self.put(a, Value::Nil);
+            return self.put(a, None);
         }
         let f = self.top;
         let parameter = f.register(a);
@@ -83,11 +83,11 @@ impl Core {
         ensures { Makes (λ s. (level < level_count s) × Method c b s) self result (λ m. forked m (passed m) a level (record { object = c; name = b; parameter = register (passed m) a })) }
     {
         if self.forks >= MAX_FORKS {
-            return self.put(a, Value::Nil);
+            return self.put(a, None);
         }
         let f = self.top;
         let parameter = f.register(a);
-        let m = self.put(a, Value::Nil);
+        let m = self.put(a, None);
         let forks = m.forks + 1;
         let effect = Effect::Fork {
             level,

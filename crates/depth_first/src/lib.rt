@@ -16,6 +16,7 @@ use fields::FIELD_WORDS;
 use histories::limits::HISTORY_WORDS;
 use progress::{Fork, Progress};
 use session::limits::{MAX_LEVELS, MAX_METHODS};
+use tallies::Tallies;
 
 // The fork of the root message.
 fn root_fork(session: &Session) -> Fork
@@ -64,9 +65,9 @@ pub fn run(bytes: &[u8], masks: &[u16], clearance: usize, res: &mut [u8]) -> usi
     let mut progress = Progress {
         current: [0; FIELD_WORDS],
         ended: [0; HISTORY_WORDS],
-        tallies: tallies::first(),
+        tallies: Tallies::first(),
     };
-    fields::fill(session.bytes, session.masks, &mut progress.current);
+    fields::fill(&session, &mut progress.current);
     run_over(&session, &mut progress, clearance, res)
 }
 

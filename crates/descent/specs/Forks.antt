@@ -6,7 +6,7 @@ use Rattle.session.specs.Limits.{names}
 use Rattle.session.specs.Parts.{level_count}
 use Rattle.session.specs.Meaning.{Numbered}
 use Rattle.session.specs.Program.{program_of}
-use Rattle.session.specs.declared.Value.{Value}
+use Rattle.session.specs.Value.{Value}
 use Rattle.scripts.specs.Limits.{max_forks}
 use Rattle.scripts.specs.State.{Manager}
 use Rattle.scripts.specs.declared.Ended.{Ended}

@@ -9,6 +9,7 @@ ghost use Rattle.descent.specs.Forks.{Runnable, Performable, Performed, ForkDone
 
 use contents::Session;
 use cores::Effect;
+use fields::reads::Sight;
 use progress::{Fork, Progress};
 use scripts::Ended;
 use session::Message;
@@ -72,7 +73,7 @@ fn run_kept(session: &Session, progress: &mut Progress, left: usize, fork: Fork)
     requires runnable { Runnable session.now.bytes.now left fork }
     ensures { ForkDone session.now.bytes.now left fork progress.old progress.new }
 {
-    if tallies::has_room(&progress.tallies, fork.level as usize) {
+    if progress.tallies.has_room(fork.level as usize) {
         run_manager(session, progress, left, fork);
     }
 }
@@ -95,18 +96,13 @@ pub fn run_manager(session: &Session, progress: &mut Progress, left: usize, fork
     let mut ending = core.ending;
     while cores::is_running(ending) {
         // Every READ is answered by the fields: what was read before is never asked.
-        let same = tallies::is_unchanged(&progress.tallies);
-        let current = &progress.current;
-        m = m.advance(
-            session.bytes,
-            session.masks,
-            session.index,
-            current,
-            current,
-            true,
-            same,
-            limit,
-        );
+        let sight = Sight {
+            current: &progress.current,
+            cache: &progress.current,
+            all: true,
+            unchanged: progress.tallies.is_unchanged(),
+        };
+        m = m.advance(session, &sight, limit);
         let core = m.core;
         let effect = core.effect;
         if let Effect::Change = effect {
@@ -120,6 +116,6 @@ pub fn run_manager(session: &Session, progress: &mut Progress, left: usize, fork
     }
     let core = m.core;
     let history = core.ended(fork.stamp);
-    tallies::close(&mut progress.ended, &mut progress.tallies, level, history);
+    progress.tallies.close(&mut progress.ended, level, history);
     history
 }

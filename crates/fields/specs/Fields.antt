@@ -6,8 +6,8 @@ use Rattle.session.specs.Limits.{max_objects, max_numbers}
 use Rattle.session.specs.Parts.{object_count, masks_of}
 use Rattle.session.specs.Questions.{verdict_of, Accepted}
 use Rattle.session.specs.Program.{program_of}
-use Rattle.session.specs.declared.Value.{Value}
-use Rattle.session.specs.declared.Value.TheVariants.{Nil, Number}
+use Rattle.session.specs.Value.{Value}
+use Rattle.std.specs.Prelude.{None, Some}
 use Rattle.scripts.specs.Value.{tag, number_in}
 use Rattle.scripts.specs.Existence.{existence, own_script, initially}
 use Rattle.fields.specs.Limits.{value_words, object_values, field_words}
@@ -15,7 +15,7 @@ use Rattle.lists.specs.Outside.{Outside}
 
 -- a value in two words: "tag (1 number, 0 NIL)", and the number
 abbrev pub value_of : ℕ → ℕ → Value
-value_of tag n = cond (eqb tag 1) (Number n) Nil
+value_of tag n = cond (eqb tag 1) (Some n) None
 
 -- where the two words of a field stand
 abbrev pub field_place : ℕ → ℕ → ℕ
@@ -31,7 +31,7 @@ script_in ws o = number_in (field_at ws o existence)
 
 -- existence at first, by the number alone: below 32 it is one of the session's
 abbrev pub existence_at_first : ℕ → Value
-existence_at_first o = cond (ltb o max_objects) (Number (own_script o)) Nil
+existence_at_first o = cond (ltb o max_objects) (Some (own_script o)) None
 
 -- there are words for the fields of an accepted session, with its level table
 pub record FieldsReady (s masks ws : List ℕ) : Type 0 where
@@ -66,8 +66,8 @@ known_at ws o k = not (eqb (get_or ws (field_place o k) 0) 0)
 
 -- the tag of a value that was read
 abbrev pub known_tag : Value → ℕ
-known_tag Nil = 2
-known_tag (Number n) = 1
+known_tag None = 2
+known_tag (Some n) = 1
 
 -- one field is known to hold v, and the others are known as they were
 pub record Remembered (ws ws' : List ℕ) (o k : ℕ) (v : Value) : Type 0 where

@@ -3,8 +3,8 @@ use Rattle.std.specs.Prelude.{ℕ, ◌≤◌, ◌<◌, ◌≡◌, Bool, true, no
 use Rattle.session.specs.Limits.{fields, max_objects, max_numbers}
 use Rattle.session.specs.Parts.{object_count}
 use Rattle.session.specs.Meaning.{Numbered, level_of}
-use Rattle.session.specs.declared.Value.{Value}
-use Rattle.session.specs.declared.Value.TheVariants.{Nil}
+use Rattle.session.specs.Value.{Value}
+use Rattle.std.specs.Prelude.{None}
 use Rattle.fields.specs.Limits.{field_words}
 use Rattle.fields.specs.Fields.{field_at, script_in, known_at}
 use Rattle.fields.specs.declared.reads.Missing.{Missing}
@@ -38,7 +38,7 @@ found_of current cache own unchanged o k =
     cond (eqb script unknown)
     (Err (lacking existence))
     (cond (eqb script 0)
-    (Ok Nil)
+    (Ok None)
     (cond own (Ok (field_at current o k)) (cond (known_at cache o k) (Ok (field_at cache o k)) (Err (lacking k)))))
 
 -- the scripts in words are those of objects of the session, or none

@@ -114,7 +114,7 @@ fn is_unmade(fields: &[u32], object: usize) -> bool
     requires { FieldThere fields.now object existence }
     ensures { result ≡ is_unmade (field_at fields.now object existence) }
 {
-    matches!(get(fields, object, EXISTENCE_AT), Value::Nil)
+    matches!(get(fields, object, EXISTENCE_AT), None)
 }
 
 // How many of the numbers that a level gives are used.
@@ -133,9 +133,9 @@ pub fn first_existence(object: usize) -> Value
     ensures { result ≡ existence_at_first object }
 {
     if object < FIRST_MADE {
-        Value::Number(object as u32 + 1)
+        Some(object as u32 + 1)
     } else {
-        Value::Nil
+        None
     }
 }
 
@@ -147,7 +147,7 @@ pub fn first_field(session: &Session, object: usize, k: usize) -> Value
     if object < FIRST_MADE {
         session.field_of(object, k)
     } else {
-        Value::Nil
+        None
     }
 }
 

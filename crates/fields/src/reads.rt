@@ -73,7 +73,7 @@ impl Sight<'_> {
         ensures { result ≡ found_of self.now.current.now self.now.cache.now (self.now.all || own) self.now.unchanged object k }
     {
         if self.script_of(own, object)? == 0 {
-            return Ok(Value::Nil);
+            return Ok(None);
         }
         if self.all || own {
             return Ok(crate::get(self.current, object, k as usize));

@@ -26,11 +26,7 @@ const NIL_READ: u32 = 2;
 pub fn value_of(tag: u32, number: u32) -> Value
     ensures { result ≡ value_of tag number }
 {
-    if tag == NUMBER_WORD {
-        Value::Number(number)
-    } else {
-        Value::Nil
-    }
+    (tag == NUMBER_WORD).then_some(number)
 }
 
 // The tag of a value.
@@ -38,8 +34,8 @@ pub fn tag_of(value: Value) -> u8
     ensures { (result ≡ tag value) × (result ≤ 1) }
 {
     match value {
-        Value::Nil => NIL,
-        Value::Number(_) => NUMBER,
+        None => NIL,
+        Some(_) => NUMBER,
     }
 }
 
@@ -48,8 +44,8 @@ pub fn known_tag(value: Value) -> u32
     ensures { result ≡ known_tag value }
 {
     match value {
-        Value::Nil => NIL_READ,
-        Value::Number(_) => NUMBER_WORD,
+        None => NIL_READ,
+        Some(_) => NUMBER_WORD,
     }
 }
 
@@ -57,8 +53,5 @@ pub fn known_tag(value: Value) -> u32
 pub fn number_in(value: Value) -> u32
     ensures { result ≡ number_in value }
 {
-    match value {
-        Value::Nil => 0,
-        Value::Number(n) => n,
-    }
+    value.unwrap_or(0)
 }

@@ -5,8 +5,8 @@ use Rattle.session.specs.Limits.{names, registers}
 use Rattle.session.specs.Parts.{object_count}
 use Rattle.session.specs.Meaning.{Numbered}
 use Rattle.contents.specs.Reading.{MethodAt}
-use Rattle.session.specs.declared.Value.{Value}
-use Rattle.session.specs.declared.Value.TheVariants.{Nil}
+use Rattle.session.specs.Value.{Value}
+use Rattle.std.specs.Prelude.{None}
 use Rattle.scripts.specs.Existence.{own_script}
 use Rattle.scripts.specs.State as defined
 use Rattle.scripts.specs.Valid.{script_method}
@@ -78,7 +78,7 @@ aside_of f =
 
 -- what stands where none waits
 abbrev pub no_waiting : Waiting
-no_waiting = record { object = 0; answer = 0; at = 0; r0 = Nil; r1 = Nil; r2 = Nil; r3 = Nil }
+no_waiting = record { object = 0; answer = 0; at = 0; r0 = None; r1 = None; r2 = None; r3 = None }
 
 -- a frame for a message, with the place of its method
 abbrev pub top_for : ℕ → ℕ → ℕ → Value → ℕ → ℕ → Frame
@@ -91,9 +91,9 @@ top_for object slot answer parameter start count =
       count = count;
       answer = answer;
       r0 = parameter;
-      r1 = Nil;
-      r2 = Nil;
-      r3 = Nil;
+      r1 = None;
+      r2 = None;
+      r3 = None;
     }
 
 -- a frame that waited as the one on top, with the place of its method, and the one on top as one that waits

@@ -8,7 +8,6 @@ ghost use Rattle.session.specs.Limits.{registers};
 ghost use Rattle.session.specs.Parts.{object_count};
 ghost use Rattle.session.specs.Program.{program_of};
 ghost use Rattle.session.specs.Questions.{verdict_of, Accepted};
-ghost use Rattle.session.specs.declared.Value.TheVariants.{Nil};
 ghost use Rattle.scripts.specs.Frame.{register, with_register, at_step};
 ghost use Rattle.scripts.specs.Manager.{next_step};
 ghost use Rattle.frames.specs.Frames.{into_of, returns_of, answer_of, way_of, slot_of, script_in, name_in, place_of, frame_of, aside_of, no_waiting, top_for, top_from, aside_from, Becomes, Called, ScriptAt, Placed, Waits};
@@ -177,12 +176,12 @@ impl Frame {
 
     // The frame with a reply, or NIL in its place, in the register that `answer` says.
     pub fn answered(self, answer: u8, reply: Value) -> Frame
-        ensures { Becomes self result (with_register (frame_of self) (into_of answer) (cond (returns_of answer) reply Nil)) }
+        ensures { Becomes self result (with_register (frame_of self) (into_of answer) (cond (returns_of answer) reply None)) }
     {
         if answer >= REGISTERS {
             self.with_register(answer % REGISTERS, reply)
         } else {
-            self.with_register(answer % REGISTERS, Value::Nil)
+            self.with_register(answer % REGISTERS, None)
         }
     }
 }
@@ -195,10 +194,10 @@ pub fn no_frame() -> Waiting
         object: 0,
         answer: 0,
         at: 0,
-        r0: Value::Nil,
-        r1: Value::Nil,
-        r2: Value::Nil,
-        r3: Value::Nil,
+        r0: None,
+        r1: None,
+        r2: None,
+        r3: None,
     }
 }
 

@@ -13,7 +13,6 @@ use contents::Session;
 use fields::values;
 use level_state::RunState;
 use session::Value;
-use tallies::VERSIONS;
 
 // The write stamp up to which the manager that runs at a level reads at level `j`, below: the one that it
 // carries from an ancestor there, or the end stamp of the largest smaller fork stamp there, or 0.
@@ -21,13 +20,13 @@ fn bound_of(state: &RunState, level: usize, j: usize) -> u16
     requires { BoundReady state.now.ended state.now.tallies state.now.queue level j }
     ensures { (n : ℕ) → j < n → bound_in n state.now.ended state.now.tallies state.now.queue level j ≡ result }
 {
-    let i = state.tallies[level];
+    let i = state.tallies.ended(level);
     let carried = queues::carried_at(&state.queue, level, i, j);
     if carried != 0 {
         return carried;
     }
     let stamp = queues::stamp_at(&state.queue, level, i);
-    histories::end_before(&state.ended, j, state.tallies[j], stamp) as u16
+    histories::end_before(&state.ended, j, state.tallies.ended(j), stamp) as u16
 }
 
 // What the manager that runs at a level reads of a field: at its level the newest version, which is the
@@ -48,17 +47,12 @@ pub fn field_of(
     if j == level {
         return fields::get(&state.current, object as usize, field as usize);
     }
-    let initial = fields::first_field(
-        session.bytes,
-        session.masks,
-        object as usize,
-        field as usize,
-    );
+    let initial = fields::first_field(session, object as usize, field as usize);
     let bound = bound_of(state, level, j);
     versions::newest_to(
         work,
         j,
-        state.tallies[VERSIONS + j],
+        state.tallies.versions(j),
         bound,
         object,
         field,
@@ -80,7 +74,7 @@ pub fn existence_of(
     ensures { ReadIs session.now.bytes.now (words_of state.now work.now) level object existence result }
 {
     let j = session.level_of(object as usize);
-    if j == level || tallies::is_level_unchanged(&state.tallies, j) {
+    if j == level || state.tallies.is_level_unchanged(j) {
         return fields::get(&state.current, object as usize, fields::EXISTENCE as usize);
     }
     let initial = fields::first_existence(object as usize);
@@ -88,7 +82,7 @@ pub fn existence_of(
     versions::newest_to(
         work,
         j,
-        state.tallies[VERSIONS + j],
+        state.tallies.versions(j),
         bound,
         object,
         fields::EXISTENCE,
@@ -103,7 +97,7 @@ pub fn script_of(session: &Session, state: &RunState, work: &[u32], level: usize
     requires named { Named session.now.bytes.now object existence }
     ensures { ScriptIs session.now.bytes.now (words_of state.now work.now) level object result × (result ≤ object_count session.now.bytes.now) }
 {
-    if tallies::is_unchanged(&state.tallies) {
+    if state.tallies.is_unchanged() {
         return fields::reads::own_script(object as usize);
     }
     let existence = existence_of(session, state, work, level, object);

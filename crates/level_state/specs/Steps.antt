@@ -7,7 +7,7 @@ use Rattle.session.specs.Limits.{max_levels, max_numbers, fields}
 use Rattle.session.specs.Parts.{level_count}
 use Rattle.session.specs.Meaning.{Numbered, level_of}
 use Rattle.session.specs.Program.{program_of}
-use Rattle.session.specs.declared.Value.{Value}
+use Rattle.session.specs.Value.{Value}
 use Rattle.session.specs.declared.Message.{Message}
 use Rattle.scripts.specs.Existence.{existence, script_seen, initially, withdrawn}
 use Rattle.scripts.specs.Limits.{max_forks, write_stamps}

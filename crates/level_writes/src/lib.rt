@@ -52,7 +52,7 @@ fn write_made(
     ensures change_done { ChangeDone state.old.current state.new.current state.old.tallies state.new.tallies work.old work.new level stamp (effect.Write (making object first second third script)) }
     ensures rest { (state.new.ended ≡ state.old.ended) × (state.new.queue ≡ state.old.queue) }
 {
-    let existence = Value::Number(script as u32);
+    let existence = Some(script as u32);
     tallies::change(&mut state.tallies, level);
     write(state, work, level, stamp, object, 0, first);
     write(state, work, level, stamp, object, 1, second);
@@ -74,7 +74,7 @@ fn write_withdrawn(state: &mut RunState, work: &mut [u32], level: usize, stamp: 
     ensures change_done { ChangeDone state.old.current state.new.current state.old.tallies state.new.tallies work.old work.new level stamp (effect.Write (withdrawing object)) }
     ensures rest { (state.new.ended ≡ state.old.ended) × (state.new.queue ≡ state.old.queue) }
 {
-    let existence = Value::Number(0);
+    let existence = Some(0);
     tallies::change(&mut state.tallies, level);
     write(
         state,

@@ -5,8 +5,8 @@
 use Rattle.std.specs.Prelude.{ℕ, zero, suc, ◌+◌, ◌-◌, ◌≤◌, ◌<◌, ◌≡◌, Bool, true, false, ◌&&◌, ltb, leb, List, length, get_or, replicate}
 use Rattle.session.specs.Parts.{level_count}
 use Rattle.session.specs.Program.{Program, program_of}
-use Rattle.session.specs.declared.Value.{Value}
-use Rattle.session.specs.declared.Value.TheVariants.{Nil}
+use Rattle.session.specs.Value.{Value}
+use Rattle.std.specs.Prelude.{None}
 use Rattle.session.specs.declared.Message.{Message}
 use Rattle.scripts.specs.Existence.{script_seen}
 use Rattle.scripts.specs.Limits.{max_frames, max_script_steps, max_writes, max_forks, write_stamps}
@@ -59,7 +59,7 @@ no_manager =
         forks = 0;
         height = 0;
         ending = Finished;
-        reply = Nil;
+        reply = None;
         top = top_from no_waiting 0 0;
         effect = Nothing;
       };

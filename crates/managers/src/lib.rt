@@ -48,7 +48,7 @@ fn settled(core: Core, session: &Session, waiting: &[Waiting; MAX_WAITING]) -> C
     while core.pops() {
         let at = core.height as usize - BELOW_TOP;
         let effect = core.effect;
-        let lower = core.popped(session, waiting[at], Value::Nil);
+        let lower = core.popped(session, waiting[at], None);
         core = lower.causing(effect);
     }
     core.closed()
@@ -66,10 +66,10 @@ impl Manager {
             start: 0,
             count: 0,
             answer: 0,
-            r0: Value::Nil,
-            r1: Value::Nil,
-            r2: Value::Nil,
-            r3: Value::Nil,
+            r0: None,
+            r1: None,
+            r2: None,
+            r3: None,
         };
         let core = Core {
             level: 0,
@@ -79,7 +79,7 @@ impl Manager {
             forks: 0,
             height: 0,
             ending: Ending::Finished,
-            reply: Value::Nil,
+            reply: None,
             top,
             effect: Effect::Nothing,
         };
@@ -109,7 +109,7 @@ impl Manager {
             forks: 0,
             height: 1,
             ending: Ending::Running,
-            reply: Value::Nil,
+            reply: None,
             top,
             effect: Effect::Nothing,
         };

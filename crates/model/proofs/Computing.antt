@@ -16,7 +16,7 @@ use Rattle.session.specs.Meaning.{owner_of, level_of, method_of}
 use Rattle.session.specs.Emptied.{emptied, blanked, stays}
 use Rattle.session.specs.SessionW.{session_w}
 use Rattle.session.specs.Program.{Program, program_of, seen_by}
-use Rattle.session.specs.declared.Value.TheVariants.{Nil}
+use Rattle.std.specs.Prelude.{None}
 use Rattle.session.specs.declared.Message.{Message}
 use Rattle.session.specs.declared.Step.{Step}
 use Rattle.session.specs.declared.Step.TheVariants.{End}
@@ -46,13 +46,13 @@ each_level masks methods =
       dom = table.dominates masks;
       objects = length masks;
       level = λ o. o;
-      field = λ o k. Nil;
+      field = λ o k. None;
       step = λ o name j. get_or (get_or (get_or methods o []) name []) j End;
     }
 
 -- the message of name 0 to an object, with no parameter
 abbrev pub message : ℕ → Message
-message o = record { object = o; name = 0; parameter = Nil }
+message o = record { object = o; name = 0; parameter = None }
 
 -- the result bytes of a program's plain run, and of its depth-first run, of that message, for a clearance
 abbrev pub bytes_after : Program → ℕ → ℕ → Outcome → List ℕ

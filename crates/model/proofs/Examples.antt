@@ -10,8 +10,8 @@ use Rattle.model.specs.Result.{Result, result_of, result_of_depth_first}
 use Rattle.session.specs.Record.{byte_of}
 use Rattle.session.specs.Parts.{of_kind}
 use Rattle.session.specs.Program.{Program}
-use Rattle.session.specs.declared.Value.{Value}
-use Rattle.session.specs.declared.Value.TheVariants.{Number}
+use Rattle.session.specs.Value.{Value}
+use Rattle.std.specs.Prelude.{Some}
 use Rattle.session.specs.declared.Message.{Message}
 use Rattle.session.specs.declared.Step.TheVariants.{Set, Read, Write, Send, Quit}
 use Rattle.model.specs.History.{History}
@@ -113,8 +113,8 @@ pub record Examples : Type 0 where
   broad_plain : counts_after (run_of broad root (plain_order broad root)) ≡ 1 ∷ 15 ∷ 30 ∷ []
   broad_depth_first : counts_deep (depth_first broad root) ≡ 1 ∷ 15 ∷ 30 ∷ []
   -- "the end stamp of the largest smaller fork stamp there"; "starts one above the last one's end stamp"
-  chain_plain : fields_after (run_of chain root (plain_order chain root)) ≡ Number 8 ∷ Number 7 ∷ []
-  chain_depth_first : first_fields (result_of_depth_first chain (depth_first chain root)) ≡ Number 8 ∷ Number 7 ∷ []
+  chain_plain : fields_after (run_of chain root (plain_order chain root)) ≡ Some 8 ∷ Some 7 ∷ []
+  chain_depth_first : first_fields (result_of_depth_first chain (depth_first chain root)) ≡ Some 8 ∷ Some 7 ∷ []
   -- "groups of kind 6 stand by rising level number": of the levels that the clearance dominates, whichever first ended a manager
   groups_of_1 : levels_of (ran_hanging 1) ≡ 1 ∷ 3 ∷ []
   groups_of_0 : levels_of (ran_hanging 0) ≡ 0 ∷ 1 ∷ 2 ∷ 3 ∷ []

@@ -11,8 +11,8 @@ use Rattle.dominance.specs.Table.{dominates}
 use Rattle.session.specs.Record.{byte_of}
 use Rattle.session.specs.Meaning.{owner_of}
 use Rattle.session.specs.Program.{Program}
-use Rattle.session.specs.declared.Value.{Value}
-use Rattle.session.specs.declared.Value.TheVariants.{Nil, Number}
+use Rattle.session.specs.Value.{Value}
+use Rattle.std.specs.Prelude.{None, Some}
 use Rattle.session.specs.declared.Step.{Step}
 use Rattle.session.specs.declared.Step.TheVariants.{End, Set, Jump, Read, Write, Send, Quit, Create, Withdraw}
 use Rattle.scripts.specs.Ending.{number_of_ending}
@@ -30,7 +30,7 @@ placed masks levels methods =
       dom = dominates masks;
       objects = length levels;
       level = λ o. cond (ltb o (length levels)) (get_or levels o 0) (owner_of (length masks) o);
-      field = λ o k. Nil;
+      field = λ o k. None;
       step = λ o name j. get_or (get_or (get_or methods o []) name []) j End;
     }
 
@@ -217,30 +217,30 @@ pub record Existences : Type 0 where
   between_makers : in_runs between (managers_at 1) ≡ replicate 3 ((0 ∷ 4 ∷ 0x10000000 ∷ 1 ∷ 1 ∷ 1 ∷ []) ∷ (0 ∷ 5 ∷ 0x30000000 ∷ 2 ∷ 2 ∷ 3 ∷ []) ∷ [])
   -- "as a READ would see it when the frame is made": a fork to an object that a later fork makes finds an empty method, one after that its maker's
   later_found : in_runs later (managers_at 1) ≡ replicate 3 ((0 ∷ 0 ∷ 0x10000000 ∷ 1 ∷ 1 ∷ 0 ∷ []) ∷ (0 ∷ 4 ∷ 0x20000000 ∷ 2 ∷ 2 ∷ 1 ∷ []) ∷ (0 ∷ 1 ∷ 0x30000000 ∷ 3 ∷ 3 ∷ 2 ∷ []) ∷ [])
-  later_written : in_runs later (fields_of 36) ≡ replicate 3 (Nil ∷ Nil ∷ Number 7 ∷ [])
+  later_written : in_runs later (fields_of 36) ≡ replicate 3 (None ∷ None ∷ Some 7 ∷ [])
   beside_found : in_runs beside (managers_at 3) ≡ replicate 3 ((0 ∷ 0 ∷ 0x11000000 ∷ 1 ∷ 1 ∷ 0 ∷ []) ∷ (0 ∷ 0 ∷ 0x31000000 ∷ 2 ∷ 2 ∷ 3 ∷ []) ∷ [])
   -- "A message to an object that isn't there .. finds an empty method; the filter goes by the number's level": it is forked, uses a stamp, and its
   -- manager makes no step. At the sender's level it replies NIL
   absent_forked : in_runs absent (managers_at 1) ≡ replicate 3 ((0 ∷ 0 ∷ 0x10000000 ∷ 1 ∷ 1 ∷ 0 ∷ []) ∷ (0 ∷ 1 ∷ 0x20000000 ∷ 2 ∷ 2 ∷ 1 ∷ []) ∷ (0 ∷ 0 ∷ 0x30000000 ∷ 3 ∷ 3 ∷ 0 ∷ []) ∷ [])
   absent_sender : in_runs absent (managers_at 0) ≡ replicate 3 ((0 ∷ 0 ∷ 0 ∷ 1 ∷ 4 ∷ 6 ∷ []) ∷ [])
-  absent_reply : in_runs absent replied ≡ replicate 3 (Nil ∷ [])
+  absent_reply : in_runs absent replied ≡ replicate 3 (None ∷ [])
   -- "the methods of the frame's own object": those of the first maker, also when the makers are withdrawn
-  makers_reply : in_runs makers replied ≡ replicate 3 (Number 8 ∷ [])
+  makers_reply : in_runs makers replied ≡ replicate 3 (Some 8 ∷ [])
   makers_shown : in_runs makers (shown_to 0 makers) ≡ replicate 3 (0 ∷ 33 ∷ [])
-  makers_fields : in_runs makers (fields_of 33) ≡ replicate 3 (Nil ∷ Nil ∷ Number 6 ∷ [])
+  makers_fields : in_runs makers (fields_of 33) ≡ replicate 3 (None ∷ None ∷ Some 6 ∷ [])
   makers_root : in_runs makers (managers_at 0) ≡ replicate 3 ((0 ∷ 10 ∷ 0 ∷ 1 ∷ 1 ∷ 13 ∷ []) ∷ [])
   -- "Both work only if that object's level is the manager's; otherwise CREATE gives NIL and WITHDRAW does nothing"
-  below_reply : in_runs below (fields_of 1) ≡ replicate 3 (Nil ∷ Nil ∷ Nil ∷ [])
+  below_reply : in_runs below (fields_of 1) ≡ replicate 3 (None ∷ None ∷ None ∷ [])
   below_shown : in_runs below (shown_to 1 below) ≡ replicate 3 (0 ∷ 1 ∷ 32 ∷ [])
   below_counts : in_runs below (managers_at 1) ≡ replicate 3 ((0 ∷ 4 ∷ 0x10000000 ∷ 1 ∷ 1 ∷ 15 ∷ []) ∷ [])
   -- in a frame of the manager's level above such a frame both work: a message to 36 runs there, with the methods of its maker, and its reply is
   -- thrown away
-  discarded_made : in_runs discarded (fields_of 36) ≡ replicate 3 (Nil ∷ Number 6 ∷ Nil ∷ [])
+  discarded_made : in_runs discarded (fields_of 36) ≡ replicate 3 (None ∷ Some 6 ∷ None ∷ [])
   discarded_shown : in_runs discarded (shown_to 1 discarded) ≡ replicate 3 (0 ∷ 1 ∷ 36 ∷ 37 ∷ [])
   discarded_counts : in_runs discarded (managers_at 1) ≡ replicate 3 ((0 ∷ 10 ∷ 0x10000000 ∷ 1 ∷ 1 ∷ 11 ∷ []) ∷ [])
   -- "In a frame whose reads see its object withdrawn, READ gives NIL, WRITE and a second WITHDRAW do nothing. CREATE there gives NIL": none counts,
   -- and SEND and QUIT work on
-  withdrawn_replies : in_runs own_withdrawn (fields_of 0) ≡ replicate 3 (Number 4 ∷ Nil ∷ Nil ∷ [])
+  withdrawn_replies : in_runs own_withdrawn (fields_of 0) ≡ replicate 3 (Some 4 ∷ None ∷ None ∷ [])
   withdrawn_shown : in_runs own_withdrawn (shown_to 0 own_withdrawn) ≡ replicate 3 (0 ∷ [])
   withdrawn_counts : in_runs own_withdrawn (managers_at 0) ≡ replicate 3 ((0 ∷ 8 ∷ 0 ∷ 1 ∷ 1 ∷ 23 ∷ []) ∷ [])
 

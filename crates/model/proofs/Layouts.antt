@@ -8,8 +8,8 @@ use Rattle.dominance.specs.Table.{dominates}
 use Rattle.lists.specs.Lists.{tab}
 use Rattle.session.specs.Record.{Record}
 use Rattle.session.specs.Program.{Program}
-use Rattle.session.specs.declared.Value.{Value}
-use Rattle.session.specs.declared.Value.TheVariants.{Nil, Number}
+use Rattle.session.specs.Value.{Value}
+use Rattle.std.specs.Prelude.{None, Some}
 use Rattle.session.specs.declared.Step.{Step}
 use Rattle.session.specs.declared.Step.TheVariants.{End, Set, Jump, Write, Send, Quit}
 use Rattle.scripts.specs.declared.Ending.{Ending}
@@ -25,7 +25,7 @@ use Rattle.model.proofs.Computing.{computing, each_level, message, plain_bytes, 
 
 -- fields by a list
 abbrev fields : List Value → ℕ → Value
-fields vs k = get_or vs k Nil
+fields vs k = get_or vs k None
 
 -- one level and one object, its first field 7, with this script
 abbrev alone : List Step → Program
@@ -35,7 +35,7 @@ alone script =
       dom = dominates (0x01 ∷ []);
       objects = 1;
       level = λ o. 0;
-      field = λ o k. get_or (Number 7 ∷ []) k Nil;
+      field = λ o k. get_or (Some 7 ∷ []) k None;
       step = λ o name j. get_or script j End;
     }
 
@@ -107,7 +107,7 @@ last_deep l p = last_or [] (map (history_record l) (tally_at (depth_first p (mes
 -- a history
 abbrev ended : Ending → History
 ended e =
-    record { ending = e; writes = 16; stamp = 0x12345678; first = 0x0102; last = 0x0304; steps = 0x0100; reply = Nil }
+    record { ending = e; writes = 16; stamp = 0x12345678; first = 0x0102; last = 0x0304; steps = 0x0100; reply = None }
 
 pub record Layouts : Type 0 where
   -- questions 10, 11 and 16: "at least 8,192 numbers", "question 11 wants 5,136 bytes", "Question 16 now wants 7,420 bytes"
@@ -115,17 +115,17 @@ pub record Layouts : Type 0 where
   result_lent : result_bytes ≡ 5136
   page_lent : page_bytes ≡ 7420
   -- "byte 1 number, byte 2 level, byte 3 mask of fields holding a number (bit k for field k), bytes 4 to 15 three 32-bit fields"
-  object_whole : object_record 31 6 (fields (Number 0x01020304 ∷ Number 0x05060708 ∷ Number 0xFFFEFDFC ∷ [])) ≡ 5 ∷ 31 ∷ 6 ∷ 7 ∷ 0x04 ∷ 0x03 ∷ 0x02 ∷ 0x01 ∷ 0x08 ∷ 0x07 ∷ 0x06 ∷ 0x05 ∷ 0xFC ∷ 0xFD ∷ 0xFE ∷ 0xFF ∷ []
-  object_second : object_record 2 1 (fields (Nil ∷ Number 0x00010000 ∷ [])) ≡ 5 ∷ 2 ∷ 1 ∷ 2 ∷ 0 ∷ 0 ∷ 0 ∷ 0 ∷ 0 ∷ 0 ∷ 1 ∷ 0 ∷ 0 ∷ 0 ∷ 0 ∷ 0 ∷ []
-  object_third : object_record 2 1 (fields (Nil ∷ Nil ∷ Number 0x0100 ∷ [])) ≡ 5 ∷ 2 ∷ 1 ∷ 4 ∷ 0 ∷ 0 ∷ 0 ∷ 0 ∷ 0 ∷ 0 ∷ 0 ∷ 0 ∷ 0 ∷ 1 ∷ 0 ∷ 0 ∷ []
-  object_zero : object_record 2 1 (fields (Number 0 ∷ [])) ≡ 5 ∷ 2 ∷ 1 ∷ 1 ∷ replicate 12 0
+  object_whole : object_record 31 6 (fields (Some 0x01020304 ∷ Some 0x05060708 ∷ Some 0xFFFEFDFC ∷ [])) ≡ 5 ∷ 31 ∷ 6 ∷ 7 ∷ 0x04 ∷ 0x03 ∷ 0x02 ∷ 0x01 ∷ 0x08 ∷ 0x07 ∷ 0x06 ∷ 0x05 ∷ 0xFC ∷ 0xFD ∷ 0xFE ∷ 0xFF ∷ []
+  object_second : object_record 2 1 (fields (None ∷ Some 0x00010000 ∷ [])) ≡ 5 ∷ 2 ∷ 1 ∷ 2 ∷ 0 ∷ 0 ∷ 0 ∷ 0 ∷ 0 ∷ 0 ∷ 1 ∷ 0 ∷ 0 ∷ 0 ∷ 0 ∷ 0 ∷ []
+  object_third : object_record 2 1 (fields (None ∷ None ∷ Some 0x0100 ∷ [])) ≡ 5 ∷ 2 ∷ 1 ∷ 4 ∷ 0 ∷ 0 ∷ 0 ∷ 0 ∷ 0 ∷ 0 ∷ 0 ∷ 0 ∷ 0 ∷ 1 ∷ 0 ∷ 0 ∷ []
+  object_zero : object_record 2 1 (fields (Some 0 ∷ [])) ≡ 5 ∷ 2 ∷ 1 ∷ 1 ∷ replicate 12 0
   -- "byte 1 level, 2 ending, 3 writes, 4 to 7 fork stamp, 8 and 9 first write stamp .., 10 and 11 last .., 12 and 13 script steps"
   history_0 : history_record 5 (ended Finished) ≡ 6 ∷ 5 ∷ 0 ∷ 16 ∷ 0x78 ∷ 0x56 ∷ 0x34 ∷ 0x12 ∷ 0x02 ∷ 0x01 ∷ 0x04 ∷ 0x03 ∷ 0x00 ∷ 0x01 ∷ 0 ∷ 0 ∷ []
   history_1 : history_record 5 (ended OutOfSteps) ≡ 6 ∷ 5 ∷ 1 ∷ 16 ∷ 0x78 ∷ 0x56 ∷ 0x34 ∷ 0x12 ∷ 0x02 ∷ 0x01 ∷ 0x04 ∷ 0x03 ∷ 0x00 ∷ 0x01 ∷ 0 ∷ 0 ∷ []
   history_2 : history_record 5 (ended OutOfWrites) ≡ 6 ∷ 5 ∷ 2 ∷ 16 ∷ 0x78 ∷ 0x56 ∷ 0x34 ∷ 0x12 ∷ 0x02 ∷ 0x01 ∷ 0x04 ∷ 0x03 ∷ 0x00 ∷ 0x01 ∷ 0 ∷ 0 ∷ []
   -- "byte 1 that level, byte 3 tag, 4 to 7 reply"
-  reply_number : reply_record 3 (Number 0x01020304) ≡ 7 ∷ 3 ∷ 0 ∷ 1 ∷ 0x04 ∷ 0x03 ∷ 0x02 ∷ 0x01 ∷ replicate 8 0
-  reply_nil : reply_record 3 Nil ≡ 7 ∷ 3 ∷ replicate 14 0
+  reply_number : reply_record 3 (Some 0x01020304) ≡ 7 ∷ 3 ∷ 0 ∷ 1 ∷ 0x04 ∷ 0x03 ∷ 0x02 ∷ 0x01 ∷ replicate 8 0
+  reply_nil : reply_record 3 None ≡ 7 ∷ 3 ∷ replicate 14 0
   -- "1 the 256th step left frames", and the reply is NIL
   loops : plain_bytes looping 0 0 ≡ looping_bytes
   loops_depth_first : deep_bytes looping 0 0 ≡ looping_bytes

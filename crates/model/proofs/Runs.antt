@@ -7,8 +7,8 @@ use lib.ListN.{replicate}
 use Rattle.session.specs.Meaning.{root_of}
 use Rattle.session.specs.Program.{Program, program_of}
 use Rattle.session.specs.SessionW.{session_w}
-use Rattle.session.specs.declared.Value.{Value}
-use Rattle.session.specs.declared.Value.TheVariants.{Number}
+use Rattle.session.specs.Value.{Value}
+use Rattle.std.specs.Prelude.{Some}
 use Rattle.session.specs.declared.Step.TheVariants.{Set, Read, Write, Send, Quit}
 use Rattle.model.specs.Schedule.{Outcome, finished, refused, run_of, plain_order}
 use Rattle.model.specs.DepthFirst.{depth_first}
@@ -56,7 +56,7 @@ fields_after (finished st) = fields_of (result_of lineage st)
 fields_after (refused number place) = []
 
 abbrev lineage_fields : List Value
-lineage_fields = Number 1 ∷ Number 10 ∷ Number 21 ∷ Number 3 ∷ Number 13 ∷ Number 22 ∷ []
+lineage_fields = Some 1 ∷ Some 10 ∷ Some 21 ∷ Some 3 ∷ Some 13 ∷ Some 22 ∷ []
 
 -- Levels 3 over 1 and 2, these over 0. The root sends to 3, 2 and 1; those at 1 and 2 make one step each
 abbrev diamond : Program

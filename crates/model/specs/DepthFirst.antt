@@ -3,7 +3,7 @@
 -- its fields, histories and reply (`Root`: `same_result`). The run step by step: `Laws/Code/DepthFirst`.
 use Rattle.std.specs.Prelude.{ℕ, zero, suc, ◌+◌, cond, ◌&&◌, List, [], ◌∷◌, ◌++◌, eqb, ltb, length, get_or, replicate}
 use Rattle.session.specs.Program.{Program}
-use Rattle.session.specs.declared.Value.{Value}
+use Rattle.session.specs.Value.{Value}
 use Rattle.session.specs.declared.Message.{Message}
 use Rattle.scripts.specs.Existence.{initially}
 use Rattle.scripts.specs.Limits.{max_script_steps}

@@ -1,6 +1,6 @@
 -- What is kept of a manager that has ended. Assumes nothing.
 use Rattle.std.specs.Prelude.{ℕ, ◌+◌, ◌*◌, ◌^◌, ◌≤◌, ◌<◌, List, [], ◌∷◌, map, ltb}
-use Rattle.session.specs.declared.Value.{Value}
+use Rattle.session.specs.Value.{Value}
 use Rattle.lists.specs.Lists.{select}
 use Rattle.scripts.specs.declared.Ending.{Ending}
 use Rattle.scripts.specs.Limits.{max_writes, max_forks, max_script_steps}

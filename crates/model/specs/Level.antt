@@ -2,7 +2,7 @@
 -- Laws, in `theorems`: two forks with different stamps leave the same level, whichever arrives first (`Laws/Steps/Arrivals`); write stamps of a
 -- level rise (`Laws/Invariant/WriteStamps`, `State`), and its versions, newest first, never rise in theirs (`Versions`).
 use Rattle.std.specs.Prelude.{ℕ, ◌+◌, ◌-◌, Bool, true, false, not, cond, ◌&&◌, ◌||◌, List, [], ◌∷◌, eqb, leb, length, take}
-use Rattle.session.specs.declared.Value.{Value}
+use Rattle.session.specs.Value.{Value}
 use Rattle.scripts.specs.Ending.{is_running}
 use Rattle.scripts.specs.Effect.{Written}
 use Rattle.scripts.specs.State.{Manager}

@@ -6,8 +6,8 @@ use Rattle.session.specs.Limits.{max_objects, made_objects}
 use Rattle.lists.specs.Lists.{tab, select, joined}
 use Rattle.session.specs.Record.{Record, byte_of, word_of}
 use Rattle.session.specs.Program.{Program}
-use Rattle.session.specs.declared.Value.{Value}
-use Rattle.session.specs.declared.Value.TheVariants.{Nil}
+use Rattle.session.specs.Value.{Value}
+use Rattle.std.specs.Prelude.{None}
 use Rattle.scripts.specs.Existence.{existence, initially, is_there}
 use Rattle.scripts.specs.Value.{tag, number_in}
 use Rattle.scripts.specs.Ending.{number_of_ending}
@@ -110,7 +110,7 @@ histories_shown p r c = joined (map (λ l. map (history_record l) (r.ended l)) (
 
 -- the reply of the root manager, whose fork stamp, 0, is the first at its level. "Replies of ended stacks with frames are NIL"
 abbrev pub reply_of : List History → Value
-reply_of [] = Nil
+reply_of [] = None
 reply_of (h ∷ hs) = h.reply
 
 -- "Kind 7, if the root's level is dominated"

@@ -5,7 +5,7 @@
 use Rattle.std.specs.Prelude.{ℕ, cond, List, [], ◌∷◌, ◌++◌, map, eqb, get_or}
 use Rattle.lists.specs.Lists.{tab}
 use Rattle.session.specs.Program.{Program, seen_by}
-use Rattle.session.specs.declared.Value.{Value}
+use Rattle.session.specs.Value.{Value}
 use Rattle.scripts.specs.Existence.{initially}
 use Rattle.scripts.specs.Manager.{started, stepped}
 use Rattle.scripts.specs.State.{Manager}

@@ -73,7 +73,7 @@ fn send(core: Core, session: &Session, sight: &Sight, a: u8, b: u8, c: u8) -> Co
         return core.fork(a, b, c, u as u8);
     }
     if let Fate::Block = fate {
-        return core.put(a, Value::Nil);
+        return core.put(a, None);
     }
     let own = receiver == core.level as usize;
     let found = sight.script_of(own, c as usize);
@@ -105,9 +105,9 @@ fn end(core: Core) -> Core
     ensures { result ≡ ending_as core }
 {
     if core.height == 1 {
-        return core.finished(Value::Nil);
+        return core.finished(None);
     }
-    core.causing(Effect::Pop(Value::Nil))
+    core.causing(Effect::Pop(None))
 }
 
 // The next operation of the top.
@@ -118,7 +118,7 @@ pub fn operate(core: Core, session: &Session, sight: &Sight, step: Step) -> Core
     let f = core.top;
     match step {
         Step::End => end(core),
-        Step::Set { a, n } => core.put(a, Value::Number(n)),
+        Step::Set { a, n } => core.put(a, Some(n)),
         Step::Add { a, b } => core.put(a, values::sum(f.register(a), f.register(b))),
         Step::Jump { a, b } => core.jump(a, b),
         Step::Read { a, b } => read(core, session, sight, a, b),

@@ -10,7 +10,7 @@ use fields::FIELD_WORDS;
 use histories::limits::HISTORY_WORDS;
 use managers::Manager;
 use session::Message;
-use tallies::{NEXT, TALLIES};
+use tallies::Tallies;
 
 // What a depth-first run keeps.
 #[derive(Drop)]
@@ -21,7 +21,7 @@ pub struct Progress {
     pub ended: [u32; HISTORY_WORDS],
     // How many managers of each level have ended, the write stamp of its next one, and whether existence was
     // written, as in the crate of that name.
-    pub tallies: [usize; TALLIES],
+    pub tallies: Tallies,
 }
 
 // A fork that is about to run, or runs: its level, its fork stamp, how many forks deep it is, and its
@@ -42,15 +42,8 @@ impl Progress {
         ensures { StartDone session.now.bytes.now self.now.current self.now.tallies fork result }
     {
         let message = fork.message;
-        let next = self.tallies[NEXT + fork.level as usize] as u16;
+        let next = self.tallies.next(fork.level as usize) as u16;
         let script = fields::script_in(&self.current, message.object as usize) as u8;
-        Manager::start(
-            session.bytes,
-            session.index,
-            fork.level,
-            next,
-            message,
-            script,
-        )
+        Manager::start(session, fork.level, next, message, script)
     }
 }

@@ -14,35 +14,35 @@ use session::Value;
 impl Progress {
     // What a CREATE or WITHDRAW of a manager of a level writes, and that it does. `before` is the frame that made it, as
     // it was before the step.
-    fn write(&mut self, level: usize, before: Frame, change: Change)
+    fn write(&mut self, level: usize, before: Frame, change: Option<Change>)
         requires { Writable self.old.current self.old.tallies level change }
         ensures written { Written level before change self.old.current self.old.tallies self.new.current self.new.tallies }
         ensures ended_stays { self.new.ended ≡ self.old.ended }
     {
         match change {
-            Change::Create { object, script } => {
+            Some(Change::Create { object, script }) => {
                 let first = before.r1;
                 let second = before.r2;
                 let third = before.r3;
-                let made = Value::Number(script as u32);
+                let made = Some(script as u32);
                 let current = &mut self.current;
                 fields::set(current, object as usize, 0, first);
                 fields::set(current, object as usize, 1, second);
                 fields::set(current, object as usize, 2, third);
                 fields::set(current, object as usize, EXISTENCE as usize, made);
-                tallies::change(&mut self.tallies, level);
+                self.tallies.change(level);
             }
-            Change::Withdraw { object } => {
-                let withdrawn = Value::Number(0);
+            Some(Change::Withdraw { object }) => {
+                let withdrawn = Some(0);
                 fields::set(
                     &mut self.current,
                     object as usize,
                     EXISTENCE as usize,
                     withdrawn,
                 );
-                tallies::change(&mut self.tallies, level);
+                self.tallies.change(level);
             }
-            Change::Nothing => {}
+            None => {}
         }
     }
 
@@ -52,7 +52,7 @@ impl Progress {
         ensures change_done { ChangeDone session.now.bytes.now m result self.old.current self.old.tallies self.new.current self.new.tallies }
         ensures ended_stays { self.new.ended ≡ self.old.ended }
     {
-        let made = m.change(session.bytes, session.masks, session.index, &self.current);
+        let made = m.change(session, &self.current);
         let manager = made.manager;
         let change = made.change;
         // The manager as it was: its registers are the fields of an object that is made.

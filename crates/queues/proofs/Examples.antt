@@ -6,7 +6,7 @@ use mathlib.Core.List.{List, [], ◌∷◌, ◌++◌, map}
 use lib.ListN.{replicate, take}
 use Rattle.lists.specs.Lists.{tab, rising_from}
 use Rattle.session.specs.declared.Message.{Message}
-use Rattle.session.specs.declared.Value.TheVariants.{Nil, Number}
+use Rattle.std.specs.Prelude.{None, Some}
 use Rattle.model.specs.Limits.{max_managers}
 use Rattle.lists.specs.Changed.{inserted, last_or}
 use Rattle.model.specs.Fork.{Fork, root_fork}
@@ -14,10 +14,10 @@ use Rattle.rows.specs.Rows.{row_at, rows_at}
 use Rattle.queues.specs.Queue.{fork_place, fork_of_row, row_of, row_of_child, fork_at, forks_at, ForksRise, is_dropped}
 
 abbrev root : Message
-root = record { object = 3; name = 15; parameter = Nil }
+root = record { object = 3; name = 15; parameter = None }
 
 abbrev sent : Message
-sent = record { object = 2; name = 1; parameter = Number 7 }
+sent = record { object = 2; name = 1; parameter = Some 7 }
 
 -- a child of the root that carries write stamp 4 for level 1
 abbrev child : Fork

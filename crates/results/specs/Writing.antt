@@ -7,7 +7,7 @@ use Rattle.lists.specs.Lists.{joined}
 use Rattle.session.specs.Parts.{level_count}
 use Rattle.session.specs.Meaning.{Numbered}
 use Rattle.session.specs.Program.{Program, program_of}
-use Rattle.session.specs.declared.Value.{Value}
+use Rattle.session.specs.Value.{Value}
 use Rattle.scripts.specs.Existence.{existence, is_there}
 use Rattle.fields.specs.Fields.{field_at, FieldsReady}
 use Rattle.model.specs.Limits.{result_bytes}

@@ -125,7 +125,7 @@ impl Outcome<'_> {
         ensures { result ≡ reply_of (histories_at self.now.histories.now level count) }
     {
         if count == 0 {
-            return Value::Nil;
+            return None;
         }
         let at = places::place_of(level, 0);
         values::value_of(

@@ -9,8 +9,8 @@ use Rattle.lists.specs.Range.{all, first}
 use Rattle.dominance.specs.Join.{is_least, join}
 use Rattle.dominance.specs.Table.{dominates}
 use Rattle.session.specs.Program.{Program}
-use Rattle.session.specs.declared.Value.{Value}
-use Rattle.session.specs.declared.Value.TheVariants.{Nil, Number}
+use Rattle.session.specs.Value.{Value}
+use Rattle.std.specs.Prelude.{None, Some}
 use Rattle.session.specs.declared.Step.{Step}
 use Rattle.session.specs.declared.Step.TheVariants.{End, Set, Add, Jump, Read, Write, Send, Quit}
 use Rattle.fates.specs.Filter.{fate_of}
@@ -32,13 +32,13 @@ program_with levels methods =
       dom = dominates (0x01 ∷ 0x03 ∷ 0x05 ∷ 0x0F ∷ []);
       objects = 3;
       level = λ o. get_or levels o 0;
-      field = λ o k. Nil;
+      field = λ o k. None;
       step = λ o name j. cond (eqb name 0) (get_or (get_or methods o []) j End) End;
     }
 
 -- what a READ sees: another number for each field of each object. Each object is there, with its own methods
 abbrev shown : ℕ → ℕ → Value
-shown o k = cond (eqb k existence) (Number (own_script o)) (Number (3 * o + k + 5))
+shown o k = cond (eqb k existence) (Some (own_script o)) (Some (3 * o + k + 5))
 
 -- the same, but of existence: object 1 has this one's script
 abbrev seen_with : Value → ℕ → ℕ → Value
@@ -46,7 +46,7 @@ seen_with v o k = cond (eqb o 1 && eqb k existence) v (shown o k)
 
 -- the manager of a message to object 0, at a level, after k script steps
 unfoldable pub manager : Program → ℕ → ℕ → Manager
-manager p level zero = started p shown level 1 (record { object = 0; name = 0; parameter = Number 4 })
+manager p level zero = started p shown level 1 (record { object = 0; name = 0; parameter = Some 4 })
 manager p level (suc k) = (stepped p shown (manager p level k)).manager
 
 -- what the script step after them does outside
@@ -96,12 +96,12 @@ silent = Set 0 8 ∷ []
 -- the manager of a message to object 1, which is seen with an existence, as it starts; object 1 has a method 0 and object 2 another
 abbrev found : Value → Manager
 found v =
-    started (program_with [] ([] ∷ eight ∷ (Set 0 7 ∷ Set 0 6 ∷ Quit 0 ∷ []) ∷ [])) (seen_with v) 0 1 (record { object = 1; name = 0; parameter = Number 4 })
+    started (program_with [] ([] ∷ eight ∷ (Set 0 7 ∷ Set 0 6 ∷ Quit 0 ∷ []) ∷ [])) (seen_with v) 0 1 (record { object = 1; name = 0; parameter = Some 4 })
 
 -- object 0 sends to object 1, which is seen with an existence, and sets a register; after that
 unfoldable sent_to : Value → ℕ → Manager
 sent_to v zero =
-    started (program_with [] ((Send 0 0 1 ∷ Set 1 1 ∷ []) ∷ eight ∷ (Set 0 7 ∷ Set 0 6 ∷ Quit 0 ∷ []) ∷ [])) (seen_with v) 0 1 (record { object = 0; name = 0; parameter = Number 4 })
+    started (program_with [] ((Send 0 0 1 ∷ Set 1 1 ∷ []) ∷ eight ∷ (Set 0 7 ∷ Set 0 6 ∷ Quit 0 ∷ []) ∷ [])) (seen_with v) 0 1 (record { object = 0; name = 0; parameter = Some 4 })
 sent_to v (suc k) =
     (stepped (program_with [] ((Send 0 0 1 ∷ Set 1 1 ∷ []) ∷ eight ∷ (Set 0 7 ∷ Set 0 6 ∷ Quit 0 ∷ []) ∷ [])) (seen_with v) (sent_to v k)).manager
 
@@ -131,100 +131,100 @@ forking = program_with (0 ∷ 1 ∷ []) ((filling ++ replicate 15 (Send 0 0 1) +
 
 -- a manager at level 2 and write stamp 5, started for a message by a name to object 1, which has a method 0
 abbrev started_by : ℕ → Manager
-started_by name = started (program_with [] ([] ∷ eight ∷ [])) shown 2 5 (record { object = 1; name = name; parameter = Number 4 })
+started_by name = started (program_with [] ([] ∷ eight ∷ [])) shown 2 5 (record { object = 1; name = name; parameter = Some 4 })
 
 pub record Examples : Type 0 where
   -- a manager's start: its level and write stamps, and its first frame, for its message
   start_level : (started_by 0).level ≡ 2
   start_stamps : stamps (started_by 0) ≡ 0 ∷ 5 ∷ 5 ∷ []
   start_stands : standing (started_by 0) ≡ 1 ∷ 0 ∷ 0 ∷ 0 ∷ []
-  start_registers : registers (started_by 0) ≡ Number 4 ∷ Nil ∷ Nil ∷ Nil ∷ []
+  start_registers : registers (started_by 0) ≡ Some 4 ∷ None ∷ None ∷ None ∷ []
   start_name : standing (started_by 1) ≡ 0 ∷ 0 ∷ 0 ∷ 0 ∷ []
   -- existence at first: the objects of the session are there with their own methods, others never were, and fields are the session's
-  first_there : initially (program_with [] []) 2 existence ≡ Number 3
-  first_absent : initially (program_with [] []) 3 existence ≡ Nil
-  first_made : initially (program_with [] []) 32 existence ≡ Nil
-  first_field : initially (program_with [] []) 2 2 ≡ Nil
+  first_there : initially (program_with [] []) 2 existence ≡ Some 3
+  first_absent : initially (program_with [] []) 3 existence ≡ None
+  first_made : initially (program_with [] []) 32 existence ≡ None
+  first_field : initially (program_with [] []) 2 2 ≡ None
   -- "A message to an object that isn't there .. finds an empty method": never made, or withdrawn. One that is there has its script's methods
-  started_never : standing (found Nil) ≡ 0 ∷ 0 ∷ 0 ∷ 0 ∷ []
-  started-withdrawn : standing (found (Number 0)) ≡ 0 ∷ 0 ∷ 0 ∷ 0 ∷ []
-  started_own : standing (found (Number 2)) ≡ 1 ∷ 0 ∷ 0 ∷ 0 ∷ []
-  started_made : standing (stepped (program_with [] ([] ∷ eight ∷ (Set 0 7 ∷ Set 0 6 ∷ Quit 0 ∷ []) ∷ [])) shown (found (Number 3))).manager ≡ 1 ∷ 1 ∷ 0 ∷ 0 ∷ []
-  started_made_sets : registers (stepped (program_with [] ([] ∷ eight ∷ (Set 0 7 ∷ Set 0 6 ∷ Quit 0 ∷ []) ∷ [])) shown (found (Number 3))).manager ≡ Number 7 ∷ Nil ∷ Nil ∷ Nil ∷ []
-  sent_never : registers (sent_to Nil 1) ≡ Nil ∷ Nil ∷ Nil ∷ Nil ∷ []
-  sent-withdrawn : standing (sent_to (Number 0) 1) ≡ 1 ∷ 1 ∷ 0 ∷ 0 ∷ []
-  sent_own : registers (sent_to (Number 2) 2) ≡ Number 8 ∷ Nil ∷ Nil ∷ Nil ∷ []
-  sent_made : registers (sent_to (Number 3) 2) ≡ Number 7 ∷ Nil ∷ Nil ∷ Nil ∷ []
-  sent_made_of : (top (sent_to (Number 3) 2)).object ≡ 1
+  started_never : standing (found None) ≡ 0 ∷ 0 ∷ 0 ∷ 0 ∷ []
+  started-withdrawn : standing (found (Some 0)) ≡ 0 ∷ 0 ∷ 0 ∷ 0 ∷ []
+  started_own : standing (found (Some 2)) ≡ 1 ∷ 0 ∷ 0 ∷ 0 ∷ []
+  started_made : standing (stepped (program_with [] ([] ∷ eight ∷ (Set 0 7 ∷ Set 0 6 ∷ Quit 0 ∷ []) ∷ [])) shown (found (Some 3))).manager ≡ 1 ∷ 1 ∷ 0 ∷ 0 ∷ []
+  started_made_sets : registers (stepped (program_with [] ([] ∷ eight ∷ (Set 0 7 ∷ Set 0 6 ∷ Quit 0 ∷ []) ∷ [])) shown (found (Some 3))).manager ≡ Some 7 ∷ None ∷ None ∷ None ∷ []
+  sent_never : registers (sent_to None 1) ≡ None ∷ None ∷ None ∷ None ∷ []
+  sent-withdrawn : standing (sent_to (Some 0) 1) ≡ 1 ∷ 1 ∷ 0 ∷ 0 ∷ []
+  sent_own : registers (sent_to (Some 2) 2) ≡ Some 8 ∷ None ∷ None ∷ None ∷ []
+  sent_made : registers (sent_to (Some 3) 2) ≡ Some 7 ∷ None ∷ None ∷ None ∷ []
+  sent_made_of : (top (sent_to (Some 3) 2)).object ≡ 1
   -- "SET a to n"
-  set : (alone (Set 1 3 ∷ Quit 1 ∷ []) 2).reply ≡ Number 3
-  fills : registers (alone (filling ++ Quit 0 ∷ []) 3) ≡ Number 4 ∷ Number 5 ∷ Number 6 ∷ Number 7 ∷ []
+  set : (alone (Set 1 3 ∷ Quit 1 ∷ []) 2).reply ≡ Some 3
+  fills : registers (alone (filling ++ Quit 0 ∷ []) 3) ≡ Some 4 ∷ Some 5 ∷ Some 6 ∷ Some 7 ∷ []
   -- "ADD b to a, .. NIL if either is NIL"; "ADD gives NIL when the sum passes 4,294,967,295; at that value it is still a number"
-  add : sum (Number 0) (Number 0) ≡ Number 0
-  add_bound : sum (Number 0xFFFFFFFE) (Number 1) ≡ Number 0xFFFFFFFF
-  add_to_bound : sum (Number 0) (Number 0xFFFFFFFF) ≡ Number 0xFFFFFFFF
-  add_past : sum (Number 0xFFFFFFFF) (Number 1) ≡ Nil
-  add_twice : sum (Number 0x7FFFFFFF) (Number 0x7FFFFFFF) ≡ Number 0xFFFFFFFE
-  add_twice_past : sum (Number 0x80000000) (Number 0x80000000) ≡ Nil
-  add_most : sum (Number 0xFFFFFFFF) (Number 0xFFFFFFFF) ≡ Nil
-  add_nil : sum (Number 0) Nil ≡ Nil
-  add_to_nil : sum Nil (Number 0) ≡ Nil
-  add_to : registers (alone (filling ++ Add 2 1 ∷ Quit 0 ∷ []) 4) ≡ Number 4 ∷ Number 5 ∷ Number 11 ∷ Number 7 ∷ []
-  add_over : registers (alone (Set 1 0xFFFFFFFF ∷ Add 0 1 ∷ Quit 0 ∷ []) 2) ≡ Nil ∷ Number 0xFFFFFFFF ∷ Nil ∷ Nil ∷ []
-  add_itself : registers (alone (Set 1 0x80000000 ∷ Add 1 1 ∷ Quit 0 ∷ []) 2) ≡ Number 4 ∷ Nil ∷ Nil ∷ Nil ∷ []
-  counted_up : registers (alone counting 6) ≡ Number 4 ∷ Number 0xFFFFFFFF ∷ Number 1 ∷ Nil ∷ []
-  counted_past : registers (alone counting 7) ≡ Number 4 ∷ Nil ∷ Number 1 ∷ Nil ∷ []
-  counted_out : (alone counting 10).reply ≡ Nil
+  add : sum (Some 0) (Some 0) ≡ Some 0
+  add_bound : sum (Some 0xFFFFFFFE) (Some 1) ≡ Some 0xFFFFFFFF
+  add_to_bound : sum (Some 0) (Some 0xFFFFFFFF) ≡ Some 0xFFFFFFFF
+  add_past : sum (Some 0xFFFFFFFF) (Some 1) ≡ None
+  add_twice : sum (Some 0x7FFFFFFF) (Some 0x7FFFFFFF) ≡ Some 0xFFFFFFFE
+  add_twice_past : sum (Some 0x80000000) (Some 0x80000000) ≡ None
+  add_most : sum (Some 0xFFFFFFFF) (Some 0xFFFFFFFF) ≡ None
+  add_nil : sum (Some 0) None ≡ None
+  add_to_nil : sum None (Some 0) ≡ None
+  add_to : registers (alone (filling ++ Add 2 1 ∷ Quit 0 ∷ []) 4) ≡ Some 4 ∷ Some 5 ∷ Some 11 ∷ Some 7 ∷ []
+  add_over : registers (alone (Set 1 0xFFFFFFFF ∷ Add 0 1 ∷ Quit 0 ∷ []) 2) ≡ None ∷ Some 0xFFFFFFFF ∷ None ∷ None ∷ []
+  add_itself : registers (alone (Set 1 0x80000000 ∷ Add 1 1 ∷ Quit 0 ∷ []) 2) ≡ Some 4 ∷ None ∷ None ∷ None ∷ []
+  counted_up : registers (alone counting 6) ≡ Some 4 ∷ Some 0xFFFFFFFF ∷ Some 1 ∷ None ∷ []
+  counted_past : registers (alone counting 7) ≡ Some 4 ∷ None ∷ Some 1 ∷ None ∷ []
+  counted_out : (alone counting 10).reply ≡ None
   counted_on : is_running (alone counting 9).ending ≡ true
   counted_end : is_running (alone counting 10).ending ≡ false
-  nil_added : registers (alone (Add 0 1 ∷ Quit 0 ∷ []) 1) ≡ Nil ∷ Nil ∷ Nil ∷ Nil ∷ []
-  added_to_nil : registers (alone (Add 1 0 ∷ Quit 0 ∷ []) 1) ≡ Number 4 ∷ Nil ∷ Nil ∷ Nil ∷ []
+  nil_added : registers (alone (Add 0 1 ∷ Quit 0 ∷ []) 1) ≡ None ∷ None ∷ None ∷ None ∷ []
+  added_to_nil : registers (alone (Add 1 0 ∷ Quit 0 ∷ []) 1) ≡ Some 4 ∷ None ∷ None ∷ None ∷ []
   -- "JUMP to step b, counted from 0, if a is NIL or 0"
-  jump_nil : (alone (Jump 1 2 ∷ Quit 1 ∷ Quit 0 ∷ []) 2).reply ≡ Number 4
-  jump_0 : (alone (Set 1 0 ∷ Jump 1 3 ∷ Quit 1 ∷ Quit 0 ∷ []) 3).reply ≡ Number 4
-  jump_not : (alone (Jump 0 2 ∷ Quit 1 ∷ Quit 0 ∷ []) 2).reply ≡ Nil
-  jump_not_1 : (alone (Set 1 1 ∷ Jump 1 3 ∷ Quit 1 ∷ Quit 0 ∷ []) 3).reply ≡ Number 1
+  jump_nil : (alone (Jump 1 2 ∷ Quit 1 ∷ Quit 0 ∷ []) 2).reply ≡ Some 4
+  jump_0 : (alone (Set 1 0 ∷ Jump 1 3 ∷ Quit 1 ∷ Quit 0 ∷ []) 3).reply ≡ Some 4
+  jump_not : (alone (Jump 0 2 ∷ Quit 1 ∷ Quit 0 ∷ []) 2).reply ≡ None
+  jump_not_1 : (alone (Set 1 1 ∷ Jump 1 3 ∷ Quit 1 ∷ Quit 0 ∷ []) 3).reply ≡ Some 1
   -- "READ field b into a", "WRITE a to field b", of "the frame's own object"
-  read : (alone (Read 2 1 ∷ Quit 2 ∷ []) 2).reply ≡ Number 6
-  read_own : registers (manager (asking 0 0 0 (Read 0 2 ∷ Quit 0 ∷ [])) 0 5) ≡ Number 10 ∷ Nil ∷ Nil ∷ Nil ∷ []
-  write : effect_after (program_with [] ((Write 0 2 ∷ []) ∷ [])) 0 0 ≡ write1 0 2 (Number 4)
-  write_own : effect_after (asking 0 0 0 (Write 0 2 ∷ [])) 0 4 ≡ write1 1 2 (Number 6)
+  read : (alone (Read 2 1 ∷ Quit 2 ∷ []) 2).reply ≡ Some 6
+  read_own : registers (manager (asking 0 0 0 (Read 0 2 ∷ Quit 0 ∷ [])) 0 5) ≡ Some 10 ∷ None ∷ None ∷ None ∷ []
+  write : effect_after (program_with [] ((Write 0 2 ∷ []) ∷ [])) 0 0 ≡ write1 0 2 (Some 4)
+  write_own : effect_after (asking 0 0 0 (Write 0 2 ∷ [])) 0 4 ≡ write1 1 2 (Some 6)
   -- NIL is written, and counted
-  write_nil : effect_after (program_with [] ((Write 1 2 ∷ Quit 0 ∷ []) ∷ [])) 0 0 ≡ write1 0 2 Nil
+  write_nil : effect_after (program_with [] ((Write 1 2 ∷ Quit 0 ∷ []) ∷ [])) 0 0 ≡ write1 0 2 None
   nil_counted : standing (alone (Write 1 2 ∷ Quit 0 ∷ []) 1) ≡ 1 ∷ 1 ∷ 1 ∷ 0 ∷ []
   -- "WRITE takes effect only if the object's level is m; otherwise it does nothing"
   write_below : effect_after (program_with [] ((Write 0 2 ∷ Quit 0 ∷ []) ∷ [])) 1 0 ≡ effect.Nothing
   below_not_counted : standing (manager (program_with [] ((Write 0 2 ∷ Quit 0 ∷ []) ∷ [])) 1 1) ≡ 1 ∷ 1 ∷ 0 ∷ 0 ∷ []
   below_never_ends : standing (manager (program_with [] ((replicate 17 (Write 0 0) ++ Quit 0 ∷ []) ∷ [])) 1 17) ≡ 1 ∷ 17 ∷ 0 ∷ 0 ∷ []
   -- writes are counted for the limit, not script steps, and a write changes no stamp
-  written_late : effect_after (program_with [] ((replicate 17 (Set 0 9) ++ Write 0 0 ∷ []) ∷ [])) 0 17 ≡ write1 0 0 (Number 9)
+  written_late : effect_after (program_with [] ((replicate 17 (Set 0 9) ++ Write 0 0 ∷ []) ∷ [])) 0 17 ≡ write1 0 0 (Some 9)
   write_stamps_lem : stamps (alone (Write 0 0 ∷ Quit 0 ∷ []) 1) ≡ 0 ∷ 1 ∷ 1 ∷ []
   -- "An empty first method ends in the start step", "replying NIL"
   empty : standing (alone [] 0) ≡ 0 ∷ 0 ∷ 0 ∷ 0 ∷ []
-  empty_reply : (alone [] 0).reply ≡ Nil
+  empty_reply : (alone [] 0).reply ≡ None
   -- "register 0 starts as the parameter, the rest NIL"
-  parameter : registers (manager (asking 0 0 0 eight) 0 4) ≡ Number 6 ∷ Nil ∷ Nil ∷ Nil ∷ []
+  parameter : registers (manager (asking 0 0 0 eight) 0 4) ≡ Some 6 ∷ None ∷ None ∷ None ∷ []
   -- a reply returns to the register that was sent, from an equal level and from below
-  returned : registers (manager (asking 0 0 0 eight) 0 6) ≡ Number 4 ∷ Number 5 ∷ Number 8 ∷ Number 7 ∷ []
-  returned_up : registers (manager (asking 1 0 0 eight) 1 6) ≡ Number 4 ∷ Number 5 ∷ Number 8 ∷ Number 7 ∷ []
-  replied : (manager (asking 0 0 0 eight) 0 7).reply ≡ Number 8
+  returned : registers (manager (asking 0 0 0 eight) 0 6) ≡ Some 4 ∷ Some 5 ∷ Some 8 ∷ Some 7 ∷ []
+  returned_up : registers (manager (asking 1 0 0 eight) 1 6) ≡ Some 4 ∷ Some 5 ∷ Some 8 ∷ Some 7 ∷ []
+  replied : (manager (asking 0 0 0 eight) 0 7).reply ≡ Some 8
   -- a method's end replies NIL, and so does an empty method, inside the step that sends
-  at_end : registers (manager (asking 0 0 0 silent) 0 5) ≡ Number 4 ∷ Number 5 ∷ Nil ∷ Number 7 ∷ []
-  no_steps : registers (manager (asking 0 0 1 eight) 0 4) ≡ Number 4 ∷ Number 5 ∷ Nil ∷ Number 7 ∷ []
+  at_end : registers (manager (asking 0 0 0 silent) 0 5) ≡ Some 4 ∷ Some 5 ∷ None ∷ Some 7 ∷ []
+  no_steps : registers (manager (asking 0 0 1 eight) 0 4) ≡ Some 4 ∷ Some 5 ∷ None ∷ Some 7 ∷ []
   no_steps_stand : standing (manager (asking 0 0 1 eight) 0 4) ≡ 1 ∷ 4 ∷ 0 ∷ 0 ∷ []
   -- "If u is m, the method runs as a frame and its reply is thrown away"
-  runs_above : registers (manager (asking 0 1 0 eight) 1 4) ≡ Number 6 ∷ Nil ∷ Nil ∷ Nil ∷ []
-  thrown_away : registers (manager (asking 0 1 0 eight) 1 6) ≡ Number 4 ∷ Number 5 ∷ Nil ∷ Number 7 ∷ []
+  runs_above : registers (manager (asking 0 1 0 eight) 1 4) ≡ Some 6 ∷ None ∷ None ∷ None ∷ []
+  thrown_away : registers (manager (asking 0 1 0 eight) 1 6) ≡ Some 4 ∷ Some 5 ∷ None ∷ Some 7 ∷ []
   -- "Incomparable: reply NIL, nothing runs"
-  blocked : registers (manager (asking 1 2 0 eight) 1 4) ≡ Number 4 ∷ Number 5 ∷ Nil ∷ Number 7 ∷ []
+  blocked : registers (manager (asking 1 2 0 eight) 1 4) ≡ Some 4 ∷ Some 5 ∷ None ∷ Some 7 ∷ []
   blocked_stands : standing (manager (asking 1 2 0 eight) 1 4) ≡ 1 ∷ 4 ∷ 0 ∷ 0 ∷ []
   blocked_effect : effect_after (asking 1 2 0 eight) 1 3 ≡ effect.Nothing
   -- 8 frames and no ninth, whose reply is NIL
   eighth : standing (alone deeper 7) ≡ 8 ∷ 7 ∷ 0 ∷ 0 ∷ []
   no_ninth : standing (alone deeper 8) ≡ 8 ∷ 8 ∷ 0 ∷ 0 ∷ []
   deep_ends : standing (alone deeper 16) ≡ 0 ∷ 16 ∷ 0 ∷ 0 ∷ []
-  full_eighth : registers (alone full_deeper 31) ≡ Number 6 ∷ Number 5 ∷ Number 6 ∷ Number 7 ∷ []
-  ninth_nil : registers (alone full_deeper 32) ≡ Number 6 ∷ Number 5 ∷ Nil ∷ Number 7 ∷ []
+  full_eighth : registers (alone full_deeper 31) ≡ Some 6 ∷ Some 5 ∷ Some 6 ∷ Some 7 ∷ []
+  ninth_nil : registers (alone full_deeper 32) ≡ Some 6 ∷ Some 5 ∷ None ∷ Some 7 ∷ []
   ninth_stands : standing (alone full_deeper 32) ≡ 8 ∷ 32 ∷ 0 ∷ 0 ∷ []
   -- a sender at its script's end waits under another frame, and pops in the step in which it becomes the top
   waits : standing (manager chain 0 2) ≡ 3 ∷ 2 ∷ 0 ∷ 0 ∷ []
@@ -237,24 +237,24 @@ pub record Examples : Type 0 where
   two_over_one : standing (alone late_write 256) ≡ 1 ∷ 256 ∷ 16 ∷ 2 ∷ []
   not_written : effect_after (program_with [] (late_write ∷ [])) 0 255 ≡ effect.Nothing
   -- "Replies of ended stacks with frames are NIL", though a frame was about to reply a number, or a frame above it did
-  late_reply_lem : (alone (replicate 255 (Set 0 9) ++ Quit 0 ∷ []) 256).reply ≡ Number 9
-  one_step_late : (alone (replicate 256 (Set 0 9) ++ Quit 0 ∷ []) 256).reply ≡ Nil
-  reply_above : registers (manager late_reply 0 256) ≡ Number 8 ∷ Number 0 ∷ Nil ∷ Nil ∷ []
+  late_reply_lem : (alone (replicate 255 (Set 0 9) ++ Quit 0 ∷ []) 256).reply ≡ Some 9
+  one_step_late : (alone (replicate 256 (Set 0 9) ++ Quit 0 ∷ []) 256).reply ≡ None
+  reply_above : registers (manager late_reply 0 256) ≡ Some 8 ∷ Some 0 ∷ None ∷ None ∷ []
   reply_above_stands : standing (manager late_reply 0 256) ≡ 1 ∷ 256 ∷ 0 ∷ 1 ∷ []
-  reply_above_nil : (manager late_reply 0 256).reply ≡ Nil
-  out_of_writes_nil : (alone (replicate 17 (Write 0 0) ++ Quit 0 ∷ []) 17).reply ≡ Nil
+  reply_above_nil : (manager late_reply 0 256).reply ≡ None
+  out_of_writes_nil : (alone (replicate 17 (Write 0 0) ++ Quit 0 ∷ []) 17).reply ≡ None
   -- a fork replies NIL, and carries the register's number
-  fork : effect_after (asking 0 1 0 eight) 0 3 ≡ effect.Fork 1 (record { object = 1; name = 0; parameter = Number 6 })
-  fork_nil : registers (manager (asking 0 1 0 eight) 0 4) ≡ Number 4 ∷ Number 5 ∷ Nil ∷ Number 7 ∷ []
+  fork : effect_after (asking 0 1 0 eight) 0 3 ≡ effect.Fork 1 (record { object = 1; name = 0; parameter = Some 6 })
+  fork_nil : registers (manager (asking 0 1 0 eight) 0 4) ≡ Some 4 ∷ Some 5 ∷ None ∷ Some 7 ∷ []
   fork_stands : standing (manager (asking 0 1 0 eight) 0 4) ≡ 1 ∷ 4 ∷ 0 ∷ 0 ∷ []
   -- at the bound of the manager's level and the receiver's
-  fork_beside : effect_after (asking 0 2 1 []) 1 3 ≡ effect.Fork 3 (record { object = 1; name = 1; parameter = Number 6 })
+  fork_beside : effect_after (asking 0 2 1 []) 1 3 ≡ effect.Fork 3 (record { object = 1; name = 1; parameter = Some 6 })
   -- 15 forks and no sixteenth, which replies NIL and changes no stamp
   fifteen : stamps (manager forking 0 18) ≡ 15 ∷ 1 ∷ 16 ∷ []
-  fifteenth_leaves : registers (manager forking 0 18) ≡ Nil ∷ Number 5 ∷ Number 6 ∷ Number 7 ∷ []
+  fifteenth_leaves : registers (manager forking 0 18) ≡ None ∷ Some 5 ∷ Some 6 ∷ Some 7 ∷ []
   no_sixteenth : effect_after forking 0 18 ≡ effect.Nothing
   sixteenth_stamps : stamps (manager forking 0 19) ≡ 15 ∷ 1 ∷ 16 ∷ []
-  sixteenth_nil : registers (manager forking 0 19) ≡ Nil ∷ Number 5 ∷ Nil ∷ Number 7 ∷ []
+  sixteenth_nil : registers (manager forking 0 19) ≡ None ∷ Some 5 ∷ None ∷ Some 7 ∷ []
   sixteenth_stands : standing (manager forking 0 19) ≡ 1 ∷ 19 ∷ 0 ∷ 0 ∷ []
 
 pub examples : Examples

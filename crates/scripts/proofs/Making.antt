@@ -9,8 +9,8 @@ use Rattle.lists.specs.Range.{all, first}
 use Rattle.dominance.specs.Join.{is_least, join}
 use Rattle.dominance.specs.Table.{dominates}
 use Rattle.session.specs.Program.{Program}
-use Rattle.session.specs.declared.Value.{Value}
-use Rattle.session.specs.declared.Value.TheVariants.{Nil, Number}
+use Rattle.session.specs.Value.{Value}
+use Rattle.std.specs.Prelude.{None, Some}
 use Rattle.session.specs.declared.Step.{Step}
 use Rattle.session.specs.declared.Step.TheVariants.{Set, Read, Write, Send, Quit, Create, Withdraw}
 use Rattle.fates.specs.Filter.{fate_of}
@@ -29,12 +29,12 @@ made level method = program_with (level ∷ []) (method ∷ [] ∷ method ∷ []
 
 -- what a READ sees: object 0 has this existence, so many numbers of each level are used, and other fields are 5
 abbrev seen : ℕ → Value → ℕ → ℕ → Value
-seen used v o k = cond (eqb k existence) (cond (eqb o 0) v (cond (ltb ((o - 32) % 4) used) (Number 0) Nil)) (Number 5)
+seen used v o k = cond (eqb k existence) (cond (eqb o 0) v (cond (ltb ((o - 32) % 4) used) (Some 0) None)) (Some 5)
 
 -- the manager of a message to object 0 of a level, at a level, after so many script steps
 unfoldable pub after_at : ℕ → ℕ → Value → ℕ → List Step → ℕ → Manager
 after_at own used v level method zero =
-    started (made own method) (seen used v) level 1 (record { object = 0; name = 0; parameter = Number 4 })
+    started (made own method) (seen used v) level 1 (record { object = 0; name = 0; parameter = Some 4 })
 after_at own used v level method (suc k) = (stepped (made own method) (seen used v) (after_at own used v level method k)).manager
 
 -- what the script step after them does outside
@@ -61,11 +61,11 @@ seen_there own v o k = cond (eqb o 0) own v
 abbrev sends_up : ℕ → Value → Value → Stepped
 sends_up level own v =
     let p = program_with (0 ∷ 1 ∷ []) ((Send 0 0 1 ∷ Quit 0 ∷ []) ∷ (Set 0 8 ∷ Quit 0 ∷ []) ∷ []) in
-    stepped p (seen_there own v) (started p (seen_there (Number 1) v) level 1 (record { object = 0; name = 0; parameter = Number 4 }))
+    stepped p (seen_there own v) (started p (seen_there (Some 1) v) level 1 (record { object = 0; name = 0; parameter = Some 4 }))
 
 -- the numbers from 36 on are used, those of level 0 are not
 abbrev used_above : ℕ → ℕ → Value
-used_above o k = cond (ltb o 36) Nil (Number 0)
+used_above o k = cond (ltb o 36) None (Some 0)
 
 -- a first step that sees the frame's object withdrawn, which was there when the frame was made
 record Gone : Type 0 where
@@ -76,70 +76,70 @@ record Gone : Type 0 where
 
 abbrev gone : List Step → Gone
 gone method =
-    let s = stepped (made 0 method) (seen 0 (Number 0)) (after 0 (Number 1) 0 method 0) in
+    let s = stepped (made 0 method) (seen 0 (Some 0)) (after 0 (Some 1) 0 method 0) in
     record { reading = registers s.manager; standing = standing s.manager; doing = s.effect; replying = s.manager.reply }
 
 pub record Making : Type 0 where
   -- "makes an object at the manager's level with registers 1, 2 and 3 as its fields and the methods of the frame's own object"
-  create : effect_of 0 (Number 1) 0 creating 3 ≡ effect.Write (making 32 (Number 5) (Number 6) (Number 7) 1)
-  create_versions : making 32 (Number 5) Nil (Number 7) 9 ≡ record { object = 32; field = 3; value = Number 9 } ∷ record { object = 32; field = 2; value = Number 7 } ∷ record { object = 32; field = 1; value = Nil } ∷ record { object = 32; field = 0; value = Number 5 } ∷ []
-  create_methods : effect_of 0 (Number 3) 0 creating 3 ≡ effect.Write (making 32 (Number 5) (Number 6) (Number 7) 3)
-  create_above : effect_at 1 0 (Number 1) 1 creating 3 ≡ effect.Write (making 36 (Number 5) (Number 6) (Number 7) 1)
+  create : effect_of 0 (Some 1) 0 creating 3 ≡ effect.Write (making 32 (Some 5) (Some 6) (Some 7) 1)
+  create_versions : making 32 (Some 5) None (Some 7) 9 ≡ record { object = 32; field = 3; value = Some 9 } ∷ record { object = 32; field = 2; value = Some 7 } ∷ record { object = 32; field = 1; value = None } ∷ record { object = 32; field = 0; value = Some 5 } ∷ []
+  create_methods : effect_of 0 (Some 3) 0 creating 3 ≡ effect.Write (making 32 (Some 5) (Some 6) (Some 7) 3)
+  create_above : effect_at 1 0 (Some 1) 1 creating 3 ≡ effect.Write (making 36 (Some 5) (Some 6) (Some 7) 1)
   -- "a gets its number", after the fields are taken; it counts as four writes, and changes no stamp
-  create_number : registers (after 0 (Number 1) 0 creating 4) ≡ Number 4 ∷ Number 5 ∷ Number 32 ∷ Number 7 ∷ []
-  create_first : effect_of 0 (Number 1) 0 (filling ++ Create 1 ∷ Quit 0 ∷ []) 3 ≡ effect.Write (making 32 (Number 5) (Number 6) (Number 7) 1)
-  create_first_number : registers (after 0 (Number 1) 0 (filling ++ Create 1 ∷ Quit 0 ∷ []) 4) ≡ Number 4 ∷ Number 32 ∷ Number 6 ∷ Number 7 ∷ []
-  create_stands : standing (after 0 (Number 1) 0 creating 4) ≡ 1 ∷ 4 ∷ 4 ∷ 0 ∷ []
+  create_number : registers (after 0 (Some 1) 0 creating 4) ≡ Some 4 ∷ Some 5 ∷ Some 32 ∷ Some 7 ∷ []
+  create_first : effect_of 0 (Some 1) 0 (filling ++ Create 1 ∷ Quit 0 ∷ []) 3 ≡ effect.Write (making 32 (Some 5) (Some 6) (Some 7) 1)
+  create_first_number : registers (after 0 (Some 1) 0 (filling ++ Create 1 ∷ Quit 0 ∷ []) 4) ≡ Some 4 ∷ Some 32 ∷ Some 6 ∷ Some 7 ∷ []
+  create_stands : standing (after 0 (Some 1) 0 creating 4) ≡ 1 ∷ 4 ∷ 4 ∷ 0 ∷ []
   -- "handed out upward; a CREATE once all four are used gives NIL", and is no ending 2
-  second : registers (after 1 (Number 1) 0 creating 4) ≡ Number 4 ∷ Number 5 ∷ Number 33 ∷ Number 7 ∷ []
-  fourth : registers (after 3 (Number 1) 0 creating 4) ≡ Number 4 ∷ Number 5 ∷ Number 35 ∷ Number 7 ∷ []
-  fifth : registers (after 4 (Number 1) 0 creating 4) ≡ Number 4 ∷ Number 5 ∷ Nil ∷ Number 7 ∷ []
-  fifth_nothing : effect_of 4 (Number 1) 0 creating 3 ≡ effect.Nothing
-  fifth_stands : standing (after 4 (Number 1) 0 (replicate 16 (Write 0 0) ++ creating) 20) ≡ 1 ∷ 20 ∷ 16 ∷ 0 ∷ []
+  second : registers (after 1 (Some 1) 0 creating 4) ≡ Some 4 ∷ Some 5 ∷ Some 33 ∷ Some 7 ∷ []
+  fourth : registers (after 3 (Some 1) 0 creating 4) ≡ Some 4 ∷ Some 5 ∷ Some 35 ∷ Some 7 ∷ []
+  fifth : registers (after 4 (Some 1) 0 creating 4) ≡ Some 4 ∷ Some 5 ∷ None ∷ Some 7 ∷ []
+  fifth_nothing : effect_of 4 (Some 1) 0 creating 3 ≡ effect.Nothing
+  fifth_stands : standing (after 4 (Some 1) 0 (replicate 16 (Write 0 0) ++ creating) 20) ≡ 1 ∷ 20 ∷ 16 ∷ 0 ∷ []
   -- a number is used once it was made, withdrawn or not
-  gap : used_of (λ o k. cond (eqb o 33) Nil (Number 0)) 0 ≡ 1
-  all-withdrawn : used_of (λ o k. Number 0) 0 ≡ 4
-  none_used : used_of (λ o k. Nil) 3 ≡ 0
+  gap : used_of (λ o k. cond (eqb o 33) None (Some 0)) 0 ≡ 1
+  all-withdrawn : used_of (λ o k. Some 0) 0 ≡ 4
+  none_used : used_of (λ o k. None) 3 ≡ 0
   -- each level counts its own
   used_above_lem : used_of used_above 1 ≡ 4
   unused_below : used_of used_above 0 ≡ 0
   -- "Passing 16 is ending 2, and nothing is made, removed or added to the count": at 12 writes there is room, at 13 there is none
-  at_12 : standing (after 0 (Number 1) 0 (replicate 12 (Write 0 0) ++ creating) 16) ≡ 1 ∷ 16 ∷ 16 ∷ 0 ∷ []
-  at_13 : standing (after 0 (Number 1) 0 (replicate 13 (Write 0 0) ++ creating) 17) ≡ 1 ∷ 17 ∷ 13 ∷ 2 ∷ []
-  at_13_nothing : effect_of 0 (Number 1) 0 (replicate 13 (Write 0 0) ++ creating) 16 ≡ effect.Nothing
-  at_13_leaves : registers (after 0 (Number 1) 0 (replicate 13 (Write 0 0) ++ creating) 17) ≡ Number 4 ∷ Number 5 ∷ Number 6 ∷ Number 7 ∷ []
-  withdraw_at_15 : standing (after 0 (Number 1) 0 (replicate 15 (Write 0 0) ++ Withdraw ∷ Quit 0 ∷ []) 16) ≡ 1 ∷ 16 ∷ 16 ∷ 0 ∷ []
-  withdraw_at_16 : standing (after 0 (Number 1) 0 (replicate 16 (Write 0 0) ++ Withdraw ∷ Quit 0 ∷ []) 17) ≡ 1 ∷ 17 ∷ 16 ∷ 2 ∷ []
+  at_12 : standing (after 0 (Some 1) 0 (replicate 12 (Write 0 0) ++ creating) 16) ≡ 1 ∷ 16 ∷ 16 ∷ 0 ∷ []
+  at_13 : standing (after 0 (Some 1) 0 (replicate 13 (Write 0 0) ++ creating) 17) ≡ 1 ∷ 17 ∷ 13 ∷ 2 ∷ []
+  at_13_nothing : effect_of 0 (Some 1) 0 (replicate 13 (Write 0 0) ++ creating) 16 ≡ effect.Nothing
+  at_13_leaves : registers (after 0 (Some 1) 0 (replicate 13 (Write 0 0) ++ creating) 17) ≡ Some 4 ∷ Some 5 ∷ Some 6 ∷ Some 7 ∷ []
+  withdraw_at_15 : standing (after 0 (Some 1) 0 (replicate 15 (Write 0 0) ++ Withdraw ∷ Quit 0 ∷ []) 16) ≡ 1 ∷ 16 ∷ 16 ∷ 0 ∷ []
+  withdraw_at_16 : standing (after 0 (Some 1) 0 (replicate 16 (Write 0 0) ++ Withdraw ∷ Quit 0 ∷ []) 17) ≡ 1 ∷ 17 ∷ 16 ∷ 2 ∷ []
   -- "WITHDRAW .. removes the frame's own object", and counts as one write
-  withdraw : effect_of 0 (Number 1) 0 (Withdraw ∷ Quit 0 ∷ []) 0 ≡ effect.Write (record { object = 0; field = existence; value = Number 0 } ∷ [])
-  withdraw_stands : standing (after 0 (Number 1) 0 (Withdraw ∷ Quit 0 ∷ []) 1) ≡ 1 ∷ 1 ∷ 1 ∷ 0 ∷ []
+  withdraw : effect_of 0 (Some 1) 0 (Withdraw ∷ Quit 0 ∷ []) 0 ≡ effect.Write (record { object = 0; field = existence; value = Some 0 } ∷ [])
+  withdraw_stands : standing (after 0 (Some 1) 0 (Withdraw ∷ Quit 0 ∷ []) 1) ≡ 1 ∷ 1 ∷ 1 ∷ 0 ∷ []
   -- "Both work only if that object's level is the manager's; otherwise CREATE gives NIL and WITHDRAW does nothing"
-  create_below : registers (after_at 0 0 (Number 1) 1 creating 4) ≡ Number 4 ∷ Number 5 ∷ Nil ∷ Number 7 ∷ []
-  create_below_nothing : effect_at 0 0 (Number 1) 1 creating 3 ≡ effect.Nothing
-  withdraw_below : effect_at 0 0 (Number 1) 1 (Withdraw ∷ Quit 0 ∷ []) 0 ≡ effect.Nothing
-  withdraw_below_stands : standing (after_at 0 0 (Number 1) 1 (Withdraw ∷ Quit 0 ∷ []) 1) ≡ 1 ∷ 1 ∷ 0 ∷ 0 ∷ []
+  create_below : registers (after_at 0 0 (Some 1) 1 creating 4) ≡ Some 4 ∷ Some 5 ∷ None ∷ Some 7 ∷ []
+  create_below_nothing : effect_at 0 0 (Some 1) 1 creating 3 ≡ effect.Nothing
+  withdraw_below : effect_at 0 0 (Some 1) 1 (Withdraw ∷ Quit 0 ∷ []) 0 ≡ effect.Nothing
+  withdraw_below_stands : standing (after_at 0 0 (Some 1) 1 (Withdraw ∷ Quit 0 ∷ []) 1) ≡ 1 ∷ 1 ∷ 0 ∷ 0 ∷ []
   -- "A message to an object that isn't there .. finds an empty method; the filter goes by the number's level": upward it is forked all the same,
   -- and where it runs within the manager its frame is popped in the same step
-  fork_there : (sends_up 0 (Number 1) (Number 2)).effect ≡ effect.Fork 1 (record { object = 1; name = 0; parameter = Number 4 })
-  fork_unmade : (sends_up 0 (Number 1) Nil).effect ≡ effect.Fork 1 (record { object = 1; name = 0; parameter = Number 4 })
-  fork_withdrawn : (sends_up 0 (Number 1) (Number 0)).effect ≡ effect.Fork 1 (record { object = 1; name = 0; parameter = Number 4 })
-  discard_there : standing (sends_up 1 (Number 1) (Number 2)).manager ≡ 2 ∷ 1 ∷ 0 ∷ 0 ∷ []
-  discard_unmade : standing (sends_up 1 (Number 1) Nil).manager ≡ 1 ∷ 1 ∷ 0 ∷ 0 ∷ []
-  discard_withdrawn : standing (sends_up 1 (Number 1) (Number 0)).manager ≡ 1 ∷ 1 ∷ 0 ∷ 0 ∷ []
+  fork_there : (sends_up 0 (Some 1) (Some 2)).effect ≡ effect.Fork 1 (record { object = 1; name = 0; parameter = Some 4 })
+  fork_unmade : (sends_up 0 (Some 1) None).effect ≡ effect.Fork 1 (record { object = 1; name = 0; parameter = Some 4 })
+  fork_withdrawn : (sends_up 0 (Some 1) (Some 0)).effect ≡ effect.Fork 1 (record { object = 1; name = 0; parameter = Some 4 })
+  discard_there : standing (sends_up 1 (Some 1) (Some 2)).manager ≡ 2 ∷ 1 ∷ 0 ∷ 0 ∷ []
+  discard_unmade : standing (sends_up 1 (Some 1) None).manager ≡ 1 ∷ 1 ∷ 0 ∷ 0 ∷ []
+  discard_withdrawn : standing (sends_up 1 (Some 1) (Some 0)).manager ≡ 1 ∷ 1 ∷ 0 ∷ 0 ∷ []
   -- "In a frame whose reads see its object withdrawn, READ gives NIL, WRITE and a second WITHDRAW do nothing. CREATE there gives NIL": none
   -- counts; SET, SEND and QUIT work on
-  gone_read : (gone (Read 0 1 ∷ Quit 1 ∷ [])).reading ≡ Nil ∷ Nil ∷ Nil ∷ Nil ∷ []
+  gone_read : (gone (Read 0 1 ∷ Quit 1 ∷ [])).reading ≡ None ∷ None ∷ None ∷ None ∷ []
   gone_write : (gone (Write 0 1 ∷ Quit 1 ∷ [])).doing ≡ effect.Nothing
   gone_write_stands : (gone (Write 0 1 ∷ Quit 1 ∷ [])).standing ≡ 1 ∷ 1 ∷ 0 ∷ 0 ∷ []
   gone_withdraw : (gone (Withdraw ∷ Quit 1 ∷ [])).doing ≡ effect.Nothing
   gone_withdraw_stands : (gone (Withdraw ∷ Quit 1 ∷ [])).standing ≡ 1 ∷ 1 ∷ 0 ∷ 0 ∷ []
-  gone_create : (gone (Create 0 ∷ Quit 1 ∷ [])).reading ≡ Nil ∷ Nil ∷ Nil ∷ Nil ∷ []
+  gone_create : (gone (Create 0 ∷ Quit 1 ∷ [])).reading ≡ None ∷ None ∷ None ∷ None ∷ []
   gone_create_nothing : (gone (Create 0 ∷ Quit 1 ∷ [])).doing ≡ effect.Nothing
   gone_create_stands : (gone (Create 0 ∷ Quit 1 ∷ [])).standing ≡ 1 ∷ 1 ∷ 0 ∷ 0 ∷ []
-  gone_quit : (gone (Quit 0 ∷ [])).replying ≡ Number 4
-  gone_send : (sends_up 0 (Number 0) (Number 2)).effect ≡ effect.Fork 1 (record { object = 1; name = 0; parameter = Number 4 })
-  gone_call : standing (sends_up 1 (Number 0) (Number 2)).manager ≡ 2 ∷ 1 ∷ 0 ∷ 0 ∷ []
-  gone_set : (gone (Set 0 9 ∷ Quit 1 ∷ [])).reading ≡ Number 9 ∷ Nil ∷ Nil ∷ Nil ∷ []
+  gone_quit : (gone (Quit 0 ∷ [])).replying ≡ Some 4
+  gone_send : (sends_up 0 (Some 0) (Some 2)).effect ≡ effect.Fork 1 (record { object = 1; name = 0; parameter = Some 4 })
+  gone_call : standing (sends_up 1 (Some 0) (Some 2)).manager ≡ 2 ∷ 1 ∷ 0 ∷ 0 ∷ []
+  gone_set : (gone (Set 0 9 ∷ Quit 1 ∷ [])).reading ≡ Some 9 ∷ None ∷ None ∷ None ∷ []
 
 pub making_cases : Making
 unfolding all first is_least join dominates fate_of sum is_nil_or0 used_of with_register popped settled concluded started charged written created called forked sent operated stepped after_at

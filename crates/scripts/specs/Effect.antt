@@ -1,6 +1,6 @@
 -- What a script step does outside its manager. Assumes nothing.
 use Rattle.std.specs.Prelude.{ℕ, List}
-use Rattle.session.specs.declared.Value.{Value}
+use Rattle.session.specs.Value.{Value}
 use Rattle.session.specs.declared.Message.{Message}
 
 -- a value that a field of an object gets, or its existence

@@ -5,8 +5,8 @@ use Rattle.lists.specs.Range.{first}
 use Rattle.session.specs.Limits.{fields, made_objects}
 use Rattle.session.specs.Meaning.{made_number}
 use Rattle.session.specs.Program.{Program}
-use Rattle.session.specs.declared.Value.{Value}
-use Rattle.session.specs.declared.Value.TheVariants.{Nil, Number}
+use Rattle.session.specs.Value.{Value}
+use Rattle.std.specs.Prelude.{None, Some}
 use Rattle.scripts.specs.Value.{number_in}
 use Rattle.scripts.specs.Effect.{Written}
 
@@ -21,7 +21,7 @@ own_script object = suc object
 
 -- at first the objects of the session are there, with their own methods
 abbrev pub there_at_first : Program → ℕ → Value
-there_at_first p o = cond (ltb o p.objects) (Number (own_script o)) Nil
+there_at_first p o = cond (ltb o p.objects) (Some (own_script o)) None
 
 -- "Initial fields are version 0", and so is existence
 unfoldable pub initially : Program → ℕ → ℕ → Value
@@ -33,17 +33,17 @@ script_seen read object = number_in (read object existence)
 
 -- an object of this existence is there
 abbrev pub is_there : Value → Bool
-is_there Nil = false
-is_there (Number n) = not (eqb n 0)
+is_there None = false
+is_there (Some n) = not (eqb n 0)
 
 -- was never made
 abbrev pub is_unmade : Value → Bool
-is_unmade Nil = true
-is_unmade (Number n) = false
+is_unmade None = true
+is_unmade (Some n) = false
 
 -- what a READ of a field sees, and that of an object that is not there: "READ gives NIL"
 abbrev pub field_seen : (ℕ → ℕ → Value) → ℕ → ℕ → Value
-field_seen read object k = cond (is_there (read object existence)) (read object k) Nil
+field_seen read object k = cond (is_there (read object existence)) (read object k) None
 
 -- how many of a level's numbers are used: they are "handed out upward", and "a number is never used twice"
 unfoldable pub used_of : (ℕ → ℕ → Value) → ℕ → ℕ
@@ -52,7 +52,7 @@ used_of read level = first made_objects (λ i. is_unmade (read (made_number leve
 -- what makes an object: its fields, and its existence, with a script
 abbrev pub making : ℕ → Value → Value → Value → ℕ → List Written
 making object v0 v1 v2 script =
-    record { object = object; field = existence; value = Number script }
+    record { object = object; field = existence; value = Some script }
     ∷ record { object = object; field = 2; value = v2 }
     ∷ record { object = object; field = 1; value = v1 }
     ∷ record { object = object; field = 0; value = v0 }
@@ -60,4 +60,4 @@ making object v0 v1 v2 script =
 
 -- what withdraws it
 abbrev pub withdrawn : Value
-withdrawn = Number 0
+withdrawn = Some 0

@@ -1,7 +1,7 @@
 -- Frames and their registers. Assumes nothing.
 use Rattle.std.specs.Prelude.{ℕ, zero, suc, Bool, false, [], ◌∷◌, get_or}
-use Rattle.session.specs.declared.Value.{Value}
-use Rattle.session.specs.declared.Value.TheVariants.{Nil}
+use Rattle.session.specs.Value.{Value}
+use Rattle.std.specs.Prelude.{None}
 use Rattle.scripts.specs.State.{Frame}
 
 -- "A frame has registers 0 to 3 ..; register 0 starts as the parameter, the rest NIL": a frame for a message to an object, with a script,
@@ -16,14 +16,14 @@ frame_for object script name into returns parameter =
       into = into;
       returns = returns;
       r0 = parameter;
-      r1 = Nil;
-      r2 = Nil;
-      r3 = Nil;
+      r1 = None;
+      r2 = None;
+      r3 = None;
     }
 
 -- where no frame is
 abbrev pub no_frame : Frame
-no_frame = frame_for 0 0 0 0 false Nil
+no_frame = frame_for 0 0 0 0 false None
 
 -- what a register holds. Question 7 lets no step name one above 3
 abbrev pub register : Frame → ℕ → Value

@@ -9,8 +9,8 @@ use Rattle.std.specs.Prelude.{ℕ, zero, suc, ◌+◌, Bool, true, false, cond, 
 use Rattle.session.specs.Limits.{made_objects}
 use Rattle.session.specs.Meaning.{made_number}
 use Rattle.session.specs.Program.{Program}
-use Rattle.session.specs.declared.Value.{Value}
-use Rattle.session.specs.declared.Value.TheVariants.{Nil, Number}
+use Rattle.session.specs.Value.{Value}
+use Rattle.std.specs.Prelude.{None, Some}
 use Rattle.session.specs.declared.Message.{Message}
 use Rattle.session.specs.declared.Step.{Step}
 use Rattle.session.specs.declared.Step.TheVariants.{End, Set, Add, Jump, Read, Write, Send, Quit, Create, Withdraw}
@@ -95,7 +95,7 @@ pushed m f = with_frames m (f ∷ m.frames)
 -- frame f gone with a reply from above those below it: the next one's register gets it or NIL; the last one's is the manager's own
 abbrev pub popped_to : Manager → Frame → List Frame → Value → Manager
 popped_to m f [] v = replied m v
-popped_to m f (g ∷ gs) v = with_frames m (with_register g f.into (cond f.returns v Nil) ∷ gs)
+popped_to m f (g ∷ gs) v = with_frames m (with_register g f.into (cond f.returns v None) ∷ gs)
 
 -- the top frame gone with a reply
 unfoldable pub popped : Manager → Value → Manager
@@ -126,9 +126,9 @@ next_step p f = script_step p f.script f.name f.next
 -- "A top frame at its script's end pops inside the same step, replying NIL; a sender waiting under another frame does not until, still
 -- inside that step, it becomes the top": frame f on top of those below it
 unfoldable pub settled : Program → Manager → Frame → List Frame → Manager
-settled p m f [] = cond (is_end (next_step p f)) (replied m Nil) (with_frames m (f ∷ []))
+settled p m f [] = cond (is_end (next_step p f)) (replied m None) (with_frames m (f ∷ []))
 settled p m f (g ∷ gs) =
-    let rest = settled p m (with_register g f.into Nil) gs in
+    let rest = settled p m (with_register g f.into None) gs in
     cond (is_end (next_step p f)) rest (with_frames m (f ∷ g ∷ gs))
 
 abbrev pub settled_from : Program → Manager → List Frame → Manager
@@ -158,7 +158,7 @@ started p read level stamp message =
       writes = 0;
       forks = 0;
       ending = Running;
-      reply = Nil;
+      reply = None;
       frames = frame_for message.object (script_seen read message.object) message.name 0 true message.parameter ∷ [];
     })
 
@@ -195,21 +195,21 @@ created p read m f a =
     let used = used_of read m.level in
     let number = made_number m.level used in
     cond (owns p read m f && ltb used made_objects)
-    (charged m f (with_register f a (Number number)) (making number f.r1 f.r2 f.r3 (script_seen read f.object)))
-    (record { manager = with_top m (with_register f a Nil); effect = effect.Nothing })
+    (charged m f (with_register f a (Some number)) (making number f.r1 f.r2 f.r3 (script_seen read f.object)))
+    (record { manager = with_top m (with_register f a None); effect = effect.Nothing })
 
 -- "o2's method runs as a new frame"; "A ninth frame isn't made; reply NIL"
 unfoldable pub called : Manager → Frame → ℕ → Frame → Stepped
 called m f a callee =
     record {
-      manager = cond (ltb (length m.frames) max_frames) (pushed (with_top m f) callee) (with_top m (with_register f a Nil));
+      manager = cond (ltb (length m.frames) max_frames) (pushed (with_top m f) callee) (with_top m (with_register f a None));
       effect = effect.Nothing;
     }
 
 -- "a manager is forked at u"; "A sixteenth fork isn't made and changes no stamp"; "a made fork carries it too, then it grows by 1"
 unfoldable pub forked : Manager → Frame → ℕ → ℕ → Message → Stepped
 forked m f a u message =
-    let n = with_top m (with_register f a Nil) in
+    let n = with_top m (with_register f a None) in
     cond (ltb m.forks max_forks)
     (record {
       manager = with_counts n n.steps n.writes (n.forks + 1) (n.stamp + 1) n.ending;
@@ -222,13 +222,13 @@ forked m f a u message =
 unfoldable pub sent : (ℕ → ℕ → Value) → Manager → Frame → ℕ → ℕ → ℕ → Fate → Stepped
 sent read m f a b c fate.Call = called m f a (frame_for c (script_seen read c) b a true (register f a))
 sent read m f a b c fate.Discard = called m f a (frame_for c (script_seen read c) b a false (register f a))
-sent read m f a b c fate.Block = record { manager = with_top m (with_register f a Nil); effect = effect.Nothing }
+sent read m f a b c fate.Block = record { manager = with_top m (with_register f a None); effect = effect.Nothing }
 sent read m f a b c (fate.Fork u) = forked m f a u (record { object = c; name = b; parameter = register f a })
 
 -- one operation, by a top frame that has passed it. `read` is what a READ of a field of an object sees
 unfoldable pub operated : Program → (ℕ → ℕ → Value) → Manager → Frame → Step → Stepped
 operated p read m f End = record { manager = m; effect = effect.Nothing }
-operated p read m f (Set a n) = record { manager = with_top m (with_register f a (Number n)); effect = effect.Nothing }
+operated p read m f (Set a n) = record { manager = with_top m (with_register f a (Some n)); effect = effect.Nothing }
 operated p read m f (Add a b) =
     record { manager = with_top m (with_register f a (sum (register f a) (register f b))); effect = effect.Nothing }
 operated p read m f (Jump a b) =

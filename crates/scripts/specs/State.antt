@@ -1,6 +1,6 @@
 -- Frames, managers, and what a script step hands back. Assumes nothing.
 use Rattle.std.specs.Prelude.{ℕ, Bool, List}
-use Rattle.session.specs.declared.Value.{Value}
+use Rattle.session.specs.Value.{Value}
 use Rattle.scripts.specs.Effect.{Effect}
 use Rattle.scripts.specs.declared.Ending.{Ending}
 

@@ -14,9 +14,6 @@ pub const MAX_WRITES: u8 = 16;
 
 pub const MAX_FORKS: u8 = 15;
 
-// The greatest number that a sum may be.
-pub const GREATEST_NUMBER: u32 = 4_294_967_295;
-
 // How a manager stands.
 #[derive(Clone, Copy)]
 pub enum Ending {

@@ -16,7 +16,7 @@ use Rattle.session.specs.Questions.{question1, kinds_rise, question2, question3,
 use Rattle.session.specs.Meaning.{owner_of, level_of, field_of, method_of, root_parameter}
 use Rattle.session.specs.Emptied.{stays, blanked, emptied}
 use Rattle.session.specs.SessionW.{session_w}
-use Rattle.session.specs.declared.Value.TheVariants.{Nil, Number}
+use Rattle.std.specs.Prelude.{None, Some}
 use Rattle.session.specs.declared.Step.TheVariants.{Set, Read, Write, Send, Quit}
 
 -- the documents' number for a list of bytes
@@ -83,11 +83,11 @@ pub record Examples : Type 0 where
   made_above : level_of session_w 36 ≡ 1
   made_last_above : level_of session_w 39 ≡ 1
   made_nowhere : level_of session_w 40 ≡ 0
-  w_field : field_of session_w 0 0 ≡ Number 5
-  w_nil : field_of session_w 1 0 ≡ Nil
+  w_field : field_of session_w 0 0 ≡ Some 5
+  w_nil : field_of session_w 1 0 ≡ None
   w_method : method_of session_w 0 0 ≡ Read 0 0 ∷ Send 0 0 1 ∷ Set 1 9 ∷ Write 1 0 ∷ Quit 1 ∷ []
   w_no_method : method_of session_w 1 1 ≡ []
-  w_root : root_parameter session_w ≡ Nil
+  w_root : root_parameter session_w ≡ None
   m8 : number [] ≡ 1
   cut_short : number (take 239 session_w) ≡ 1
   root_missing : number (take 224 session_w) ≡ 2

@@ -8,3 +8,4 @@ pub mod Meaning
 pub mod Emptied
 pub mod SessionW
 pub mod Program
+pub mod Value

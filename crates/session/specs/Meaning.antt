@@ -10,7 +10,7 @@ use Rattle.session.specs.Record.{level_byte, field_in, object_of, name_of, step_
 use Rattle.session.specs.Parts.{object_records, step_records, level_count, object_count, root_record}
 use Rattle.session.specs.Questions.{is_number}
 use Rattle.session.specs.declared.Message.{Message}
-use Rattle.session.specs.declared.Value.{Value}
+use Rattle.session.specs.Value.{Value}
 use Rattle.session.specs.declared.Step.{Step}
 use Rattle.session.specs.declared.Step.TheVariants.{End}
 

@@ -6,8 +6,8 @@ use Rattle.dominance.specs.Order.{Dominance}
 use Rattle.dominance.specs.Table.{dominates}
 use Rattle.session.specs.Parts.{level_count, object_count, masks_of}
 use Rattle.session.specs.Meaning.{level_of, field_of, step_at}
-use Rattle.session.specs.declared.Value.{Value}
-use Rattle.session.specs.declared.Value.TheVariants.{Nil}
+use Rattle.session.specs.Value.{Value}
+use Rattle.std.specs.Prelude.{None}
 use Rattle.session.specs.declared.Step.{Step}
 use Rattle.session.specs.declared.Step.TheVariants.{End}
 
@@ -39,6 +39,6 @@ seen_by c p =
       dom = p.dom;
       objects = p.objects;
       level = p.level;
-      field = λ o k. cond (p.dom c (p.level o)) (p.field o k) Nil;
+      field = λ o k. cond (p.dom c (p.level o)) (p.field o k) None;
       step = λ o m j. cond (p.dom c (p.level o)) (p.step o m j) End;
     }

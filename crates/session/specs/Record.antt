@@ -4,8 +4,8 @@ use Rattle.lists.specs.Range.{implies, all}
 use Rattle.dominance.specs.Table.{bit}
 use Rattle.session.specs.Limits.{record_bytes}
 use Rattle.lists.specs.Lists.{tab}
-use Rattle.session.specs.declared.Value.{Value}
-use Rattle.session.specs.declared.Value.TheVariants.{Nil, Number}
+use Rattle.session.specs.Value.{Value}
+use Rattle.std.specs.Prelude.{None, Some}
 use Rattle.session.specs.declared.Step.{Step}
 use Rattle.session.specs.declared.Step.TheVariants.{End, Set, Add, Jump, Read, Write, Send, Quit, Create, Withdraw}
 
@@ -78,7 +78,7 @@ holds rec k = bit (field_mask rec) k
 
 -- kind 2: "bytes 4 to 15 three 32-bit fields"; "A field without its bit is NIL"
 abbrev pub field_in : Record → ℕ → Value
-field_in rec k = cond (holds rec k) (Number (word_of rec (4 + 4 * k))) Nil
+field_in rec k = cond (holds rec k) (Some (word_of rec (4 + 4 * k))) None
 
 -- kinds 3 and 4: "byte 2 message name"
 abbrev pub name_of : Record → ℕ
@@ -101,4 +101,4 @@ abbrev pub tag_of : Record → ℕ
 tag_of rec = byte_of rec 3
 
 abbrev pub parameter_of : Record → Value
-parameter_of rec = cond (eqb (tag_of rec) 1) (Number (word_of rec 4)) Nil
+parameter_of rec = cond (eqb (tag_of rec) 1) (Some (word_of rec 4)) None

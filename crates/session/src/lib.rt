@@ -4,12 +4,8 @@
 
 pub mod limits;
 
-// A field, a register, a parameter or a reply: NIL or a number.
-#[derive(Clone, Copy)]
-pub enum Value {
-    Nil,
-    Number(u32),
-}
+// A field, a register, a parameter or a reply: a number, or `None` for NIL.
+pub type Value = Option<u32>;
 
 // A message: the object that it is sent to, its name and its parameter.
 #[derive(Clone, Copy)]

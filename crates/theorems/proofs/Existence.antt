@@ -13,8 +13,8 @@ use Rattle.session.specs.Record.{byte_of}
 use Rattle.session.specs.Questions.{verdict_of, Accepted}
 use Rattle.session.specs.Meaning.{root_of}
 use Rattle.session.specs.Program.{Program, program_of}
-use Rattle.session.specs.declared.Value.{Value}
-use Rattle.session.specs.declared.Value.TheVariants.{Nil, Number}
+use Rattle.session.specs.Value.{Value}
+use Rattle.std.specs.Prelude.{None, Some}
 use Rattle.lists.proofs.Laws.Lists.{holds, fails, truth}
 use Rattle.session.proofs.Laws.Numbering.{few_levels, few_objects}
 use Rattle.session.proofs.Laws.Verdict.{accepted}
@@ -150,12 +150,12 @@ version o k v = record { stamp = 1; object = o; field = k; value = v }
 
 pub record Makings : Type 0 where
   -- a field's version makes nothing, nor does a withdrawal, nor NIL; existence with a script does
-  field : is_making (version 32 2 (Number 1)) ≡ false
-  withdrawal : is_making (version 32 3 (Number 0)) ≡ false
-  nil : is_making (version 32 3 Nil) ≡ false
-  there : is_making (version 32 3 (Number 1)) ≡ true
+  field : is_making (version 32 2 (Some 1)) ≡ false
+  withdrawal : is_making (version 32 3 (Some 0)) ≡ false
+  nil : is_making (version 32 3 None) ≡ false
+  there : is_making (version 32 3 (Some 1)) ≡ true
   -- two objects, the first withdrawn before the second is made: newest first among the versions, oldest first among the numbers
-  two : numbers_made (version 33 3 (Number 1) ∷ version 33 0 (Number 7) ∷ version 32 3 (Number 0) ∷ version 32 3 (Number 1) ∷ []) ≡ 32 ∷ 33 ∷ []
+  two : numbers_made (version 33 3 (Some 1) ∷ version 33 0 (Some 7) ∷ version 32 3 (Some 0) ∷ version 32 3 (Some 1) ∷ []) ≡ 32 ∷ 33 ∷ []
 
 pub makings_computed : Makings
 unfolding numbers_made

@@ -9,8 +9,8 @@ use Rattle.std.specs.Prelude.{None}
 use Rattle.session.specs.Limits.{made_objects}
 use Rattle.session.specs.Meaning.{made_number, level_of}
 use Rattle.session.specs.Program.{program_of}
-use Rattle.session.specs.declared.Value.{Value}
-use Rattle.session.specs.declared.Value.TheVariants.{Nil, Number}
+use Rattle.session.specs.Value.{Value}
+use Rattle.std.specs.Prelude.{None, Some}
 use Rattle.session.specs.declared.Step.{Step}
 use Rattle.session.specs.declared.Step.TheVariants as op
 use Rattle.session.proofs.Laws.Numbers.{level_made, made_numbered}
@@ -113,22 +113,22 @@ module _ (s masks current : List ℕ) (c : Core) (ready : Changeable s masks cur
   own_used read own =
       used_reads read (field_at current) c.level (λ i h. own (made_number c.level i) (made_numbered s c.level i ready.sits.level h) (level_made s ready.leveled.accepted c.level i ready.sits.level h))
 
-  pub create_apart : (a : ℕ) (read : ℕ → ℕ → Value) (gs : List defined.Frame) → (level_of s c.top.object ≡ c.level → ⊥) → record { manager = with_top (standing c gs) (with_register (past_of c) a Nil); effect = effect.Nothing } ≡ operated (program_of s) read (standing c gs) (passed (standing c gs)) (op.Create a)
+  pub create_apart : (a : ℕ) (read : ℕ → ℕ → Value) (gs : List defined.Frame) → (level_of s c.top.object ≡ c.level → ⊥) → record { manager = with_top (standing c gs) (with_register (past_of c) a None); effect = effect.Nothing } ≡ operated (program_of s) read (standing c gs) (passed (standing c gs)) (op.Create a)
   unfolding operated created program_of
   create_apart a read gs e = rw (ne_eqb (level_of s c.top.object) c.level e) refl
 
-  pub create_gone : (a : ℕ) (read : ℕ → ℕ → Value) → OwnExistence s current c.level read → (gs : List defined.Frame) → level_of s c.top.object ≡ c.level → script_in current c.top.object ≡ 0 → record { manager = with_top (standing c gs) (with_register (past_of c) a Nil); effect = effect.Nothing } ≡ operated (program_of s) read (standing c gs) (passed (standing c gs)) (op.Create a)
+  pub create_gone : (a : ℕ) (read : ℕ → ℕ → Value) → OwnExistence s current c.level read → (gs : List defined.Frame) → level_of s c.top.object ≡ c.level → script_in current c.top.object ≡ 0 → record { manager = with_top (standing c gs) (with_register (past_of c) a None); effect = effect.Nothing } ≡ operated (program_of s) read (standing c gs) (passed (standing c gs)) (op.Create a)
   unfolding operated created program_of
   create_gone a read own gs e none =
       rw (eq-eqb (level_of s c.top.object) c.level e, own_script_lem read own e, ← there_script (field_at current c.top.object existence), none) refl
 
-  pub create_full : (a : ℕ) (read : ℕ → ℕ → Value) → OwnExistence s current c.level read → (gs : List defined.Frame) → level_of s c.top.object ≡ c.level → (script_in current c.top.object ≡ 0 → ⊥) → made_objects ≤ used_of (field_at current) c.level → record { manager = with_top (standing c gs) (with_register (past_of c) a Nil); effect = effect.Nothing } ≡ operated (program_of s) read (standing c gs) (passed (standing c gs)) (op.Create a)
+  pub create_full : (a : ℕ) (read : ℕ → ℕ → Value) → OwnExistence s current c.level read → (gs : List defined.Frame) → level_of s c.top.object ≡ c.level → (script_in current c.top.object ≡ 0 → ⊥) → made_objects ≤ used_of (field_at current) c.level → record { manager = with_top (standing c gs) (with_register (past_of c) a None); effect = effect.Nothing } ≡ operated (program_of s) read (standing c gs) (passed (standing c gs)) (op.Create a)
   unfolding operated created program_of
   create_full a read own gs e some full =
       rw (eq-eqb (level_of s c.top.object) c.level e, own_script_lem read own e, ← there_script (field_at current c.top.object existence), ne_eqb (script_in current c.top.object) 0 some, own_used read own, le-ltb (used_of (field_at current) c.level) made_objects full) refl
 
   pub create_made : (a : ℕ) (read : ℕ → ℕ → Value) → OwnExistence s current c.level read → (gs : List defined.Frame) → level_of s c.top.object ≡ c.level → (script_in current c.top.object ≡ 0 → ⊥) → used_of (field_at current) c.level < made_objects
-      → charged (standing c gs) (passed (standing c gs)) (with_register (past_of c) a (Number (made_number c.level (used_of (field_at current) c.level)))) (making (made_number c.level (used_of (field_at current) c.level)) c.top.r1 c.top.r2 c.top.r3 (script_in current c.top.object)) ≡ operated (program_of s) read (standing c gs) (passed (standing c gs)) (op.Create a)
+      → charged (standing c gs) (passed (standing c gs)) (with_register (past_of c) a (Some (made_number c.level (used_of (field_at current) c.level)))) (making (made_number c.level (used_of (field_at current) c.level)) c.top.r1 c.top.r2 c.top.r3 (script_in current c.top.object)) ≡ operated (program_of s) read (standing c gs) (passed (standing c gs)) (op.Create a)
   unfolding operated created program_of
   create_made a read own gs e some free =
       rw (eq-eqb (level_of s c.top.object) c.level e, own_script_lem read own e, ← there_script (field_at current c.top.object existence), ne_eqb (script_in current c.top.object) 0 some, own_used read own, lt-ltb (used_of (field_at current) c.level) made_objects free) refl

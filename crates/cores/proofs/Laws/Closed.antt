@@ -4,7 +4,7 @@ use mathlib.Core.Path.{◌≡◌, refl}
 use mathlib.Core.Bool.{true, false}
 use borrow.Author.Tests.{lt-ltb, le-ltb}
 use lib.Dec.{leb}
-use Rattle.session.specs.declared.Value.TheVariants.{Nil}
+use Rattle.std.specs.Prelude.{None}
 use Rattle.scripts.specs.Limits.{max_script_steps}
 use Rattle.scripts.specs.Ending.{is_running}
 use Rattle.scripts.specs.declared.Ending.TheVariants.{Finished, OutOfSteps}
@@ -17,7 +17,7 @@ module _ (c : Core) where
   closed_over e = rw e refl
 
   -- its last frame at the end
-  pub closed_last : is_running c.ending ≡ true → leb c.top.count c.top.next ≡ true → closed_as c ≡ stood_as c 0 Finished Nil
+  pub closed_last : is_running c.ending ≡ true → leb c.top.count c.top.next ≡ true → closed_as c ≡ stood_as c 0 Finished None
   closed_last e q = rw (e, q) refl
 
   -- its top going on, with steps left

@@ -12,8 +12,8 @@ use Rattle.session.specs.Limits.{names, fields, registers}
 use Rattle.session.specs.Parts.{level_count, object_count}
 use Rattle.session.specs.Meaning.{Numbered}
 use Rattle.session.specs.Program.{Program}
-use Rattle.session.specs.declared.Value.{Value}
-use Rattle.session.specs.declared.Value.TheVariants.{Nil}
+use Rattle.session.specs.Value.{Value}
+use Rattle.std.specs.Prelude.{None}
 use Rattle.session.specs.declared.Message.{Message}
 use Rattle.scripts.specs.Limits.{max_frames, max_writes, max_forks}
 use Rattle.scripts.specs.Value.{is_nil_or0}
@@ -195,15 +195,15 @@ makes_moved P c r f d able m e =
     ∙ rw (e gs tall, able.runs))
 
 -- a ninth frame, or a sixteenth fork, is not made: the sender gets NIL
-pub makes_full : (c r : Core) (o w b a : ℕ) (returns : Bool) → Able c → max_frames ≤ c.height → Moves c r (with_register (past_of c) a Nil) → Makes (λ s. Numbered s o × (w ≤ object_count s)) c r (λ m. called m (passed m) a (frame_for o w b a returns (register (passed m) a)))
+pub makes_full : (c r : Core) (o w b a : ℕ) (returns : Bool) → Able c → max_frames ≤ c.height → Moves c r (with_register (past_of c) a None) → Makes (λ s. Numbered s o × (w ≤ object_count s)) c r (λ m. called m (passed m) a (frame_for o w b a returns (register (passed m) a)))
 unfolding called
 makes_full c r o w b a returns able h m =
-    makes_moved (λ s. Numbered s o × (w ≤ object_count s)) c r (with_register (past_of c) a Nil) _ able m (λ gs tall. rw (le-ltb (suc (length gs)) max_frames (omega (arith, tall, h))))
+    makes_moved (λ s. Numbered s o × (w ≤ object_count s)) c r (with_register (past_of c) a None) _ able m (λ gs tall. rw (le-ltb (suc (length gs)) max_frames (omega (arith, tall, h))))
 
-pub makes_unforked : (P : List ℕ → Type 0) (c r : Core) (a u : ℕ) (message : defined.Manager → Message) → Able c → max_forks ≤ c.forks → Moves c r (with_register (past_of c) a Nil) → Makes P c r (λ m. forked m (passed m) a u (message m))
+pub makes_unforked : (P : List ℕ → Type 0) (c r : Core) (a u : ℕ) (message : defined.Manager → Message) → Able c → max_forks ≤ c.forks → Moves c r (with_register (past_of c) a None) → Makes P c r (λ m. forked m (passed m) a u (message m))
 unfolding forked
 makes_unforked P c r a u message able h m =
-    makes_moved P c r (with_register (past_of c) a Nil) _ able m (λ gs tall. rw (le-ltb c.forks max_forks h))
+    makes_moved P c r (with_register (past_of c) a None) _ able m (λ gs tall. rw (le-ltb c.forks max_forks h))
 
 -- a frame is to be made above the top, which has passed its step
 pub makes_call : (c n r : Core) (o w b a : ℕ) (returns : Bool) (slot answer way : ℕ) (v : Value) → Able c → Moves c n (past_of c) → c.height < max_frames → v ≡ register (frame_of c.top) a → a < registers → b < names → slot ≡ slot_of w b → answer ≡ answer_of a returns → way ≡ way_of slot answer → r ≡ causing n (Call o way v) → Makes (λ s. Numbered s o × (w ≤ object_count s)) c r (λ m. called m (passed m) a (frame_for o w b a returns (register (passed m) a)))
@@ -222,7 +222,7 @@ makes_call c n r o w b a returns slot answer way v able m low ev small named is 
     ∙ rw (ev, slot_on_lem, answer_on_lem, says, is, slot_script w b named, slot_name w b named, answer_into a returns small, answer_returns a returns small, lt-ltb (suc (length gs)) max_frames (omega (arith, tall, low)), able.runs))
 
 -- a manager is forked, and the sender gets NIL
-pub makes_fork : (c n r : Core) (o b a u : ℕ) (v : Value) → Able c → Moves c n (with_register (past_of c) a Nil) → c.forks < max_forks → v ≡ register (frame_of c.top) a → r ≡ effecting n n.writes (n.forks + 1) (Fork u o b v) → Makes (λ s. (u < level_count s) × Method o b s) c r (λ m. forked m (passed m) a u (record { object = o; name = b; parameter = register (passed m) a }))
+pub makes_fork : (c n r : Core) (o b a u : ℕ) (v : Value) → Able c → Moves c n (with_register (past_of c) a None) → c.forks < max_forks → v ≡ register (frame_of c.top) a → r ≡ effecting n n.writes (n.forks + 1) (Fork u o b v) → Makes (λ s. (u < level_count s) × Method o b s) c r (λ m. forked m (passed m) a u (record { object = o; name = b; parameter = register (passed m) a }))
 unfolding comes_to forked
 makes_fork c n r o b a u v able m few ev e =
     let f = n.top in

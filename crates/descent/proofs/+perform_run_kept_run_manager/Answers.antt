@@ -6,7 +6,7 @@ use native.Mathlib.Omega.{arith}
 use Rattle.scripts.specs.Limits.{max_script_steps}
 use Rattle.scripts.specs.Ending.{is_running}
 use Rattle.scripts.specs.Effect as effect
-use Rattle.session.specs.declared.Value.{Value}
+use Rattle.session.specs.Value.{Value}
 use Rattle.cores.specs.Core.{effect_of}
 use Rattle.cores.specs.declared.Effect.{Effect}
 use Rattle.cores.specs.declared.Effect.TheVariants.{Nothing, End, Write, Read, Change, Fork, Call, Pop}

@@ -4,7 +4,7 @@ use mathlib.Core.Path.{◌≡◌, refl, sym, ap, subst}
 use mathlib.Core.List.{List}
 use native.Mathlib.Omega.{arith}
 use Rattle.session.specs.Program.{Program, program_of}
-use Rattle.session.specs.declared.Value.{Value}
+use Rattle.session.specs.Value.{Value}
 use Rattle.session.specs.declared.Message.{Message}
 use Rattle.session.proofs.Laws.Numbering.{few_levels}
 use Rattle.session.proofs.Laws.Numbers.{number_few}

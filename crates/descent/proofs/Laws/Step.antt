@@ -8,7 +8,7 @@ use native.Mathlib.Omega.{arith}
 use Rattle.session.specs.Parts.{level_count}
 use Rattle.session.specs.Questions.{verdict_of, Accepted}
 use Rattle.session.specs.Program.{Program, program_of}
-use Rattle.session.specs.declared.Value.{Value}
+use Rattle.session.specs.Value.{Value}
 use Rattle.scripts.specs.Limits.{max_script_steps}
 use Rattle.scripts.specs.Ending.{is_running}
 use Rattle.scripts.specs.Effect as effect

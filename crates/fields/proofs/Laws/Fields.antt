@@ -9,8 +9,8 @@ use lib.ListN.{get_or, set, length-set}
 use lib.Seq.{get_or-set_same, get_or-set_other}
 use Rattle.session.specs.Parts.{object_count}
 use Rattle.session.specs.Program.{program_of}
-use Rattle.session.specs.declared.Value.{Value}
-use Rattle.session.specs.declared.Value.TheVariants.{Nil, Number}
+use Rattle.session.specs.Value.{Value}
+use Rattle.std.specs.Prelude.{None, Some}
 use Rattle.lists.proofs.Laws.Rising.{less, same, more, order}
 use Rattle.scripts.specs.Value.{tag, number_in}
 use Rattle.scripts.specs.Existence.{initially}
@@ -21,17 +21,17 @@ use Rattle.lists.proofs.Laws.Outside.{outside_none, outside_wider, outside_then,
 
 -- a value is read back from its two words
 pub value_back : (v : Value) → value_of (tag v) (number_in v) ≡ v
-value_back Nil = refl
-value_back (Number n) = refl
+value_back None = refl
+value_back (Some n) = refl
 
 -- so is one that was read
 known_back : (v : Value) → value_of (known_tag v) (number_in v) ≡ v
-known_back Nil = refl
-known_back (Number n) = refl
+known_back None = refl
+known_back (Some n) = refl
 
 known_tag_lem : (v : Value) → not (eqb (known_tag v) 0) ≡ true
-known_tag_lem Nil = refl
-known_tag_lem (Number n) = refl
+known_tag_lem None = refl
+known_tag_lem (Some n) = refl
 
 -- where only the words of one field may have changed, those of another are as they were
 field_apart : (ws ws' : List ℕ) (o k o' k' : ℕ) → k < object_values → k' < object_values → (o' ≡ o → k' ≡ k → ⊥) → Outside ws ws' (field_place o k) (field_place o k + value_words)

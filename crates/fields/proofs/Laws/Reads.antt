@@ -10,8 +10,8 @@ use Rattle.lists.proofs.Laws.Range.{not_both}
 use Rattle.session.specs.Limits.{fields, max_objects, max_numbers}
 use Rattle.session.specs.Parts.{object_count}
 use Rattle.session.specs.Meaning.{Numbered}
-use Rattle.session.specs.declared.Value.{Value}
-use Rattle.session.specs.declared.Value.TheVariants.{Nil}
+use Rattle.session.specs.Value.{Value}
+use Rattle.std.specs.Prelude.{None}
 use Rattle.lists.proofs.Laws.Lists.{holds, fails, truth}
 use Rattle.scripts.specs.Existence.{existence, script_seen, is_there, field_seen}
 use Rattle.scripts.proofs.Laws.Existence.{there_script}
@@ -101,7 +101,7 @@ unfolding found_of
 missing_low current cache own unchanged o b k h q = elim (truth (eqb (script_found current cache own unchanged o) unknown)) [
   | holds e ↦ omega (arith, same_missing existence k (rw e at q))
   | fails e ↦ elim (truth (eqb (script_found current cache own unchanged o) 0)) [
-    | holds z ↦ absurd (no_missing k Nil (rw (e, z) at q))
+    | holds z ↦ absurd (no_missing k None (rw (e, z) at q))
     | fails z ↦ elim (truth own) [
       | holds i ↦ absurd (no_missing k (field_at current o b) (rw i at (rw (e, z) at q)))
       | fails i ↦ elim (truth (known_at cache o b)) [
@@ -129,7 +129,7 @@ module _ (s current cache : List ℕ) (all unchanged : Bool) (level : ℕ) (read
   found_seen k v h q = elim (truth (eqb script unknown)) [
     | holds e ↦ absurd (no_value existence v (rw e at q))
     | fails e ↦ elim (truth (eqb script 0)) [
-      | holds z ↦ rw (seen_there_lem e, z) (sym (same_value Nil v (rw (e, z) at q)))
+      | holds z ↦ rw (seen_there_lem e, z) (sym (same_value None v (rw (e, z) at q)))
       | fails z ↦ elim (truth (is_own s all level o)) [
         | holds i ↦
             let shown : read o k ≡ field_at current o k = rw i at (a.shown o k n h (rw i refl)) in

@@ -12,7 +12,7 @@ use Rattle.session.specs.Limits.{max_numbers}
 use Rattle.session.specs.Meaning.{level_of}
 use Rattle.session.specs.Program.{program_of}
 use Rattle.session.specs.declared.Step.{Step}
-use Rattle.session.specs.declared.Value.{Value}
+use Rattle.session.specs.Value.{Value}
 use Rattle.lists.proofs.Laws.Lists.{holds, fails, truth}
 use Rattle.scripts.specs.Existence.{existence}
 use Rattle.scripts.specs.Limits.{max_script_steps}

@@ -9,7 +9,7 @@ use lib.ListN.{length}
 use Rattle.session.specs.Parts.{level_count}
 use Rattle.session.specs.Program.{program_of}
 use Rattle.session.specs.Questions.{verdict_of, Accepted}
-use Rattle.session.specs.declared.Value.TheVariants.{Nil}
+use Rattle.std.specs.Prelude.{None}
 use Rattle.scripts.specs.State.{Manager}
 use Rattle.scripts.specs.declared.Ending.TheVariants.{Finished}
 use Rattle.model.specs.Level.{idle, Level, has_manager}
@@ -40,7 +40,7 @@ any_manager =
       writes = 0;
       forks = 0;
       ending = Finished;
-      reply = Nil;
+      reply = None;
       frames = [];
     }
 

@@ -12,8 +12,8 @@ use Rattle.lists.proofs.Laws.Range.{not_both}
 use Rattle.session.specs.Limits.{max_levels, fields}
 use Rattle.session.specs.Parts.{level_count}
 use Rattle.session.specs.Program.{program_of}
-use Rattle.session.specs.declared.Value.{Value}
-use Rattle.session.specs.declared.Value.TheVariants.{Number}
+use Rattle.session.specs.Value.{Value}
+use Rattle.std.specs.Prelude.{Some}
 use Rattle.session.specs.Questions.{verdict_of, Accepted}
 use Rattle.session.proofs.Laws.Contents.{level_limit, object_limit}
 use Rattle.lists.proofs.Laws.Lists.{holds, fails, truth}
@@ -153,7 +153,7 @@ module _ {s masks index : List ℕ} (rd : Tables s masks index) {w₀ : Words} {
     level_is : m.core.level ≡ l
     unfolding manager_of
     level_is =
-        let read : ℕ → ℕ → Value = λ o k. Number d.script in
+        let read : ℕ → ℕ → Value = λ o k. Some d.script in
         ap (λ n. n.level) (d.manager read refl) ∙ ap (λ c. c.level) (started_counts (program_of s) read l _ _)
 
     nothing_known : KnownIsRead s begun_words l (replicate field_words 0)

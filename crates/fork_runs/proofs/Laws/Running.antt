@@ -13,7 +13,7 @@ use Rattle.session.specs.Parts.{level_count}
 use Rattle.session.specs.Meaning.{level_of}
 use Rattle.session.specs.Program.{Program, program_of}
 use Rattle.session.specs.Questions.{verdict_of, Accepted}
-use Rattle.session.specs.declared.Value.{Value}
+use Rattle.session.specs.Value.{Value}
 use Rattle.session.proofs.Laws.Contents.{level_limit, object_limit}
 use Rattle.session.proofs.Laws.Numbers.{number_few}
 use Rattle.lists.proofs.Laws.Lists.{holds, fails, truth}

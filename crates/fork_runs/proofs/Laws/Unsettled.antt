@@ -10,7 +10,7 @@ use Rattle.session.specs.Limits.{max_levels}
 use Rattle.session.specs.Parts.{level_count}
 use Rattle.session.specs.Program.{Program, program_of}
 use Rattle.session.specs.Questions.{verdict_of, Accepted}
-use Rattle.session.specs.declared.Value.{Value}
+use Rattle.session.specs.Value.{Value}
 use Rattle.session.proofs.Laws.Contents.{level_limit, object_limit}
 use Rattle.scripts.specs.Ending.{is_running}
 use Rattle.scripts.specs.Manager.{stepped}

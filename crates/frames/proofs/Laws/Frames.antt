@@ -12,7 +12,7 @@ use Rattle.session.specs.Limits.{names, registers}
 use Rattle.session.specs.Program.{program_of}
 use Rattle.contents.specs.Reading.{MethodAt}
 use Rattle.session.specs.Questions.{verdict_of, Accepted}
-use Rattle.session.specs.declared.Value.{Value}
+use Rattle.session.specs.Value.{Value}
 use Rattle.session.proofs.Laws.Contents.{object_limit}
 use Rattle.session.proofs.Laws.Numbers.{number_few}
 use Rattle.scripts.specs.State as defined

@@ -12,8 +12,8 @@ use Rattle.session.specs.Limits.{max_levels, max_numbers, fields}
 use Rattle.session.specs.Parts.{level_count, object_count}
 use Rattle.session.specs.Program.{Program, program_of}
 use Rattle.session.specs.Questions.{verdict_of, Accepted}
-use Rattle.session.specs.declared.Value.{Value}
-use Rattle.session.specs.declared.Value.TheVariants.{Number}
+use Rattle.session.specs.Value.{Value}
+use Rattle.std.specs.Prelude.{Some}
 use Rattle.session.specs.declared.Message.{Message}
 use Rattle.session.proofs.Laws.Contents.{level_limit, object_limit}
 use Rattle.session.proofs.Laws.Numbers.{number_few}
@@ -149,7 +149,7 @@ module _ {c0 c1 : List ℕ} (t0 : List ℕ) {t1 t2 w0 w1 : List ℕ} {l stamp o 
       (record { current = c0; tallies = t1; queue = queue; work = w0 }, (ap (λ t. record { current = c0; tallies = t; queue = queue; work = w0 }) note, (d, refl)))
 
   module _ {c2 c3 c4 t3 t4 t5 w2 w3 w4 : List ℕ} {v0 v1 v2 : Value} {script : ℕ} where
-    pub made_done : Wrote c0 c1 t1 t2 w0 w1 l stamp o 0 v0 → Wrote c1 c2 t2 t3 w1 w2 l stamp o 1 v1 → Wrote c2 c3 t3 t4 w2 w3 l stamp o 2 v2 → Wrote c3 c4 t4 t5 w3 w4 l stamp o existence (Number script) → ChangeDone c0 c4 t0 t5 w0 w4 l stamp (effect.Write (making o v0 v1 v2 script))
+    pub made_done : Wrote c0 c1 t1 t2 w0 w1 l stamp o 0 v0 → Wrote c1 c2 t2 t3 w1 w2 l stamp o 1 v1 → Wrote c2 c3 t3 t4 w2 w3 l stamp o 2 v2 → Wrote c3 c4 t4 t5 w3 w4 l stamp o existence (Some script) → ChangeDone c0 c4 t0 t5 w0 w4 l stamp (effect.Write (making o v0 v1 v2 script))
     made_done d0 d1 d2 d3 queue forks =
         let p0 : Parts = record { current = c0; tallies = t1; queue = queue; work = w0 } in
         let p1 : Parts = record { current = c1; tallies = t2; queue = queue; work = w1 } in

@@ -11,8 +11,8 @@ use Rattle.lists.proofs.Laws.Range.{not_both}
 use Rattle.session.specs.Limits.{max_numbers}
 use Rattle.session.specs.Parts.{level_count, masks_of}
 use Rattle.session.specs.Meaning.{level_of}
-use Rattle.session.specs.declared.Value.{Value}
-use Rattle.session.specs.declared.Value.TheVariants.{Nil}
+use Rattle.session.specs.Value.{Value}
+use Rattle.std.specs.Prelude.{None}
 use Rattle.session.specs.declared.Step.{Step}
 use Rattle.session.specs.declared.Step.TheVariants as op
 use Rattle.lists.proofs.Laws.Lists.{holds, fails, truth}
@@ -76,7 +76,7 @@ module _ (s current cache : List ℕ) (u : Bool) (level : ℕ) where
   found_reason a o b k q = elim (truth (eqb (script o) unknown)) [
     | holds e ↦ of_existence (sym (same_missing existence k (rw e at q))) e
     | fails e ↦ elim (truth (eqb (script o) 0)) [
-      | holds z ↦ absurd (no_missing k Nil (rw (e, z) at q))
+      | holds z ↦ absurd (no_missing k None (rw (e, z) at q))
       | fails z ↦ elim (truth (is_own s false level o)) [
         | holds i ↦ absurd (no_missing k (field_at current o b) (rw i at (rw (e, z) at q)))
         | fails i ↦ elim (truth (known_at cache o b)) [

@@ -13,7 +13,7 @@ use Rattle.session.specs.Limits.{max_levels, max_objects, max_numbers}
 use Rattle.session.specs.Parts.{level_count}
 use Rattle.session.specs.Meaning.{Numbered, level_of}
 use Rattle.session.specs.Program.{program_of}
-use Rattle.session.specs.declared.Value.{Value}
+use Rattle.session.specs.Value.{Value}
 use Rattle.scripts.specs.Existence.{existence, initially}
 use Rattle.scripts.proofs.Laws.Existence.{first_there, first_none}
 use Rattle.session.specs.Questions.{verdict_of, Accepted}

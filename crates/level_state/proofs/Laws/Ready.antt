@@ -12,7 +12,7 @@ use Rattle.session.specs.Parts.{level_count, object_count}
 use Rattle.session.specs.Meaning.{Numbered}
 use Rattle.session.specs.Program.{program_of}
 use Rattle.session.specs.Questions.{verdict_of, Accepted}
-use Rattle.session.specs.declared.Value.{Value}
+use Rattle.session.specs.Value.{Value}
 use Rattle.session.proofs.Laws.Numbers.{number_few}
 use Rattle.scripts.specs.Existence.{existence}
 use Rattle.scripts.specs.Manager.{stepped}

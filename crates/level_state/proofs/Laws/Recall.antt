@@ -11,7 +11,7 @@ use Rattle.session.specs.Limits.{max_levels}
 use Rattle.session.specs.Parts.{level_count}
 use Rattle.session.specs.Meaning.{level_of}
 use Rattle.session.specs.Program.{program_of}
-use Rattle.session.specs.declared.Value.{Value}
+use Rattle.session.specs.Value.{Value}
 use Rattle.session.specs.declared.Message.{Message}
 use Rattle.model.specs.Limits.{max_managers}
 use Rattle.model.specs.Fork.{Fork}

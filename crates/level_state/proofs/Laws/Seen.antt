@@ -13,7 +13,7 @@ use Rattle.session.specs.Limits.{max_objects, max_numbers, fields}
 use Rattle.session.specs.Parts.{level_count, object_count}
 use Rattle.session.specs.Meaning.{Numbered, level_of}
 use Rattle.session.specs.Program.{program_of}
-use Rattle.session.specs.declared.Value.{Value}
+use Rattle.session.specs.Value.{Value}
 use Rattle.lists.proofs.Laws.Lists.{holds, fails, truth}
 use Rattle.session.proofs.Laws.Accepted.{level_present}
 use Rattle.session.proofs.Laws.Numbers.{number_few}

@@ -11,7 +11,7 @@ use lib.Seq.{get_or-set_same, get_or-set_other}
 use Rattle.session.specs.Limits.{max_numbers, max_levels, fields}
 use Rattle.session.specs.Parts.{level_count}
 use Rattle.session.specs.Program.{program_of}
-use Rattle.session.specs.declared.Value.{Value}
+use Rattle.session.specs.Value.{Value}
 use Rattle.scripts.specs.Existence.{existence, initially}
 use Rattle.scripts.specs.State.{Manager}
 use Rattle.fields.specs.Fields.{field_at}

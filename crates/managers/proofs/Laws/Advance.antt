@@ -14,8 +14,8 @@ use Rattle.session.specs.Limits.{fields}
 use Rattle.session.specs.declared.Step.{Step}
 use Rattle.session.specs.declared.Step.TheVariants as op
 use Rattle.session.specs.Program.{Program, program_of}
-use Rattle.session.specs.declared.Value.{Value}
-use Rattle.session.specs.declared.Value.TheVariants.{Number}
+use Rattle.session.specs.Value.{Value}
+use Rattle.std.specs.Prelude.{Some}
 use Rattle.lists.proofs.Laws.Lists.{holds, fails, truth}
 use Rattle.scripts.specs.Limits.{max_frames, max_script_steps}
 use Rattle.scripts.specs.Ending.{is_running}
@@ -41,7 +41,7 @@ use Rattle.managers.proofs.Laws.Turns.{below_length, below-pushed, below-popped,
 -- a way to read: what the words at hand say of fields and scripts
 abbrev pub saying_of : List ℕ → List ℕ → List ℕ → Bool → Bool → ℕ → ℕ → ℕ → Value
 saying_of s current cache all unchanged level o k =
-    cond (ltb k fields) (shown_in s current cache all level o k) (Number (script_found current cache (is_own s all level o) unchanged o))
+    cond (ltb k fields) (shown_in s current cache all level o k) (Some (script_found current cache (is_own s all level o) unchanged o))
 
 pub saying_agrees : (s current cache : List ℕ) (all unchanged : Bool) (level : ℕ) → Agrees s current cache all unchanged level (saying_of s current cache all unchanged level)
 saying_agrees s current cache all unchanged level =

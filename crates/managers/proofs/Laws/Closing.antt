@@ -9,8 +9,8 @@ use lib.Dec.{ltb, leb}
 use lib.ListN.{get_or}
 use Rattle.lists.proofs.Laws.Range.{not_both, and_left, and_right}
 use Rattle.session.specs.Program.{Program, program_of}
-use Rattle.session.specs.declared.Value.{Value}
-use Rattle.session.specs.declared.Value.TheVariants.{Nil}
+use Rattle.session.specs.Value.{Value}
+use Rattle.std.specs.Prelude.{None}
 use Rattle.lists.proofs.Laws.Lists.{holds, fails, truth}
 use Rattle.scripts.specs.Limits.{max_script_steps}
 use Rattle.scripts.specs.Ending.{is_running}
@@ -89,7 +89,7 @@ asking-settled p c gs (Call object way parameter) a = absurd (not_both false a r
 asking-settled p c gs (Pop reply) a = absurd (not_both false a refl)
 
 -- the top, at its script's end, pops to the frame below it
-late_comes : (s : List ℕ) (c r : Core) (w : Waiting) (gs : List defined.Frame) → is_end (next_step (program_of s) (frame_of c.top)) ≡ true → is_done c.effect ≡ true → is_over c.effect ≡ false → is_asking c.effect ≡ false → Popped s c w Nil r → comes_to (program_of s) (causing r c.effect) gs ≡ comes_to (program_of s) c (aside_of w ∷ gs)
+late_comes : (s : List ℕ) (c r : Core) (w : Waiting) (gs : List defined.Frame) → is_end (next_step (program_of s) (frame_of c.top)) ≡ true → is_done c.effect ≡ true → is_over c.effect ≡ false → is_asking c.effect ≡ false → Popped s c w None r → comes_to (program_of s) (causing r c.effect) gs ≡ comes_to (program_of s) c (aside_of w ∷ gs)
 unfolding comes_to
 late_comes s c r w gs e d o a h =
     ap (λ m. record { manager = m; effect = effect_of c.effect })
@@ -102,7 +102,7 @@ late_comes s c r w gs e d o a h =
     p : Program
     p = program_of s
 
-    both : (b : Bool) → cond b Nil Nil ≡ Nil
+    both : (b : Bool) → cond b None None ≡ None
     both true = refl
     both false = refl
 
@@ -160,7 +160,7 @@ module _ (s index : List ℕ) (ws : List Waiting) (c₀ c : Core) (t : Lowering 
       | fails a ↦ a
     ]
 
-    pub lowering_on : (r : Core) → Popped s c (get_or ws (c.height - 2) no_waiting) Nil r → (r' : Core) → r' ≡ causing r c.effect → Lowering s index ws c₀ r'
+    pub lowering_on : (r : Core) → Popped s c (get_or ws (c.height - 2) no_waiting) None r → (r' : Core) → r' ≡ causing r c.effect → Lowering s index ws c₀ r'
     lowering_on r h r' is =
         let two = lowering_two in
         let e : r' ≡ causing (restacked c (c.height - 1) r.top) c.effect = is ∙ ap (λ z. causing z c.effect) h.core_is in
@@ -201,7 +201,7 @@ module _ (s index : List ℕ) (ws : List Waiting) (c₀ c : Core) (t : Lowering 
           unfinished = λ a. absurd (not_both (is_asking r'.effect) a asking');
         }
 
-    pub lowering_less : (r : Core) → Popped s c (get_or ws (c.height - 2) no_waiting) Nil r → (r' : Core) → r' ≡ causing r c.effect → r'.height < c.height
+    pub lowering_less : (r : Core) → Popped s c (get_or ws (c.height - 2) no_waiting) None r → (r' : Core) → r' ≡ causing r c.effect → r'.height < c.height
     lowering_less r h r' is =
         let two = lowering_two in
         let height : r'.height ≡ c.height - 1 = ap (λ z. z.height) (is ∙ ap (λ z. causing z c.effect) h.core_is) in
@@ -215,7 +215,7 @@ module _ (s index : List ℕ) (ws : List Waiting) (c₀ c : Core) (t : Lowering 
     -- how a core is closed: it had ended; its first frame pops; it runs on; its steps are used up
     pub data Close : Type 0 where
       was_over : is_running c.ending ≡ false → closed_as c ≡ c → Close
-      finishes : is_running c.ending ≡ true → c.height ≡ 1 → is_end (next_step p (frame_of c.top)) ≡ true → closed_as c ≡ stood_as c 0 Finished Nil → Close
+      finishes : is_running c.ending ≡ true → c.height ≡ 1 → is_end (next_step p (frame_of c.top)) ≡ true → closed_as c ≡ stood_as c 0 Finished None → Close
       runs_on : is_running c.ending ≡ true → c.top.next < c.top.count → c.steps < max_script_steps → closed_as c ≡ c → Close
       spent : is_running c.ending ≡ true → c.top.next < c.top.count → max_script_steps ≤ c.steps → closed_as c ≡ stood_as c c.height OutOfSteps c.reply → Close
 
@@ -309,7 +309,7 @@ module _ (s index : List ℕ) (ws : List Waiting) (c₀ c : Core) (t : Lowering 
     left_by r (was_over had e) is =
         left_as r c.height c.ending c.reply (sym is ∙ e) (omega arith) (λ y. absurd (not_both (is_running c.ending) y had)) (λ _. refl)
     left_by r (finishes run one h e) is =
-        left_as r 0 Finished Nil (sym is ∙ e) (omega arith) (λ y. absurd (not_both false y refl)) (λ y. absurd (not_both false y refl))
+        left_as r 0 Finished None (sym is ∙ e) (omega arith) (λ y. absurd (not_both false y refl)) (λ y. absurd (not_both false y refl))
     left_by r (runs_on run unfinished few e) is =
         left_as r c.height c.ending c.reply (sym is ∙ e) (omega arith) (λ _. (has_frame run, (unfinished, few))) (λ _. refl)
     left_by r (spent run unfinished most e) is =

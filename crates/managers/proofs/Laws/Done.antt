@@ -8,7 +8,7 @@ use borrow.Author.Tests.{ltb-false}
 use lib.Dec.{ltb, leb}
 use Rattle.lists.proofs.Laws.Range.{not_both}
 use Rattle.session.specs.Program.{Program, program_of}
-use Rattle.session.specs.declared.Value.{Value}
+use Rattle.session.specs.Value.{Value}
 use Rattle.lists.proofs.Laws.Lists.{holds, fails, truth}
 use Rattle.scripts.specs.Ending.{is_running}
 use Rattle.scripts.specs.Effect as effect

@@ -4,7 +4,7 @@ use mathlib.Core.Path.{◌≡◌, refl, sym, ◌∙◌, ap, ap₂, subst}
 use mathlib.Core.Bool.{true}
 use native.Mathlib.Omega.{arith}
 use Rattle.session.specs.Program.{Program}
-use Rattle.session.specs.declared.Value.{Value}
+use Rattle.session.specs.Value.{Value}
 use Rattle.scripts.specs.Ending.{is_running}
 use Rattle.scripts.specs.Effect as effect
 use Rattle.scripts.specs.State.{Manager, Stepped}

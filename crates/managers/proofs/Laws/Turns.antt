@@ -9,8 +9,8 @@ use lib.ListN.{length, get_or, set}
 use lib.Seq.{get_or-set_same, get_or-set_other}
 use Rattle.lists.proofs.Laws.Range.{not_both}
 use Rattle.session.specs.Program.{Program, program_of}
-use Rattle.session.specs.declared.Value.{Value}
-use Rattle.session.specs.declared.Value.TheVariants.{Nil}
+use Rattle.session.specs.Value.{Value}
+use Rattle.std.specs.Prelude.{None}
 use Rattle.lists.proofs.Laws.Lists.{holds, fails, truth}
 use Rattle.scripts.specs.Limits.{max_script_steps}
 use Rattle.scripts.specs.Ending.{is_running}
@@ -116,10 +116,10 @@ end_comes s c (g ∷ gs) h r e =
     let f = frame_of c.top in
     rw (ne_eqb c.height 1 more)
     (ap idle
-    (ap (concluded (program_of s)) (popped_to_lem (standing c (g ∷ gs)) f g gs Nil ∙ ap (λ v. bare c (with_register g (into_of c.top.answer) v ∷ gs)) (both (returns_of c.top.answer)))
+    (ap (concluded (program_of s)) (popped_to_lem (standing c (g ∷ gs)) f g gs None ∙ ap (λ v. bare c (with_register g (into_of c.top.answer) v ∷ gs)) (both (returns_of c.top.answer)))
     ∙ sym (concluded_pop (program_of s) (standing c (g ∷ gs)) f g gs e)))
   where
-    both : (b : Bool) → cond b Nil Nil ≡ Nil
+    both : (b : Bool) → cond b None None ≡ None
     both true = refl
     both false = refl
 

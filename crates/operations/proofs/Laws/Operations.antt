@@ -14,8 +14,8 @@ use Rattle.session.specs.Parts.{level_count, object_count, masks_of}
 use Rattle.session.specs.Questions.{operands_fit}
 use Rattle.session.specs.Meaning.{Numbered, level_of}
 use Rattle.session.specs.Program.{program_of}
-use Rattle.session.specs.declared.Value.{Value}
-use Rattle.session.specs.declared.Value.TheVariants.{Nil}
+use Rattle.session.specs.Value.{Value}
+use Rattle.std.specs.Prelude.{None}
 use Rattle.session.specs.declared.Step.{Step}
 use Rattle.session.specs.declared.Step.TheVariants as op
 use Rattle.lists.proofs.Laws.Lists.{holds, fails, truth}
@@ -140,11 +140,11 @@ module _ (s masks current cache : List ℕ) (all unchanged : Bool) (c r : Core) 
       operation_made s current cache all unchanged (op.Send a b o) c r P d m ready.sits h
       (λ read agrees gs. is read agrees gs ∙ sym (send_by s masks ready.leveled read (standing c gs) (passed (standing c gs)) a b o c.level x y t refl ex ey e))
 
-  pub send_blocked : fate_of (length masks) (dominates masks) c.level x y ≡ fate.Block → Able c → Moves c r (with_register (past_of c) a Nil) → OperationMade s current cache all unchanged (op.Send a b o) c r
+  pub send_blocked : fate_of (length masks) (dominates masks) c.level x y ≡ fate.Block → Able c → Moves c r (with_register (past_of c) a None) → OperationMade s current cache all unchanged (op.Send a b o) c r
   unfolding sent
   send_blocked e able m =
-      send_made fate.Block (λ _. Unit) (λ n. record { manager = with_top n (with_register (past_of c) a Nil); effect = effect.Nothing }) e
-      (makes_moved (λ _. Unit) c r (with_register (past_of c) a Nil) _ able m (λ gs tall. refl)) tt (λ read agrees gs. refl)
+      send_made fate.Block (λ _. Unit) (λ n. record { manager = with_top n (with_register (past_of c) a None); effect = effect.Nothing }) e
+      (makes_moved (λ _. Unit) c r (with_register (past_of c) a None) _ able m (λ gs tall. refl)) tt (λ read agrees gs. refl)
 
   fate_is : (t : Fate) → fate_of (length masks) (dominates masks) c.level x y ≡ t → fate_of (level_count s) (dominates (masks_of s)) c.level (level_of s c.top.object) (level_of s o) ≡ t
   fate_is t e = sym (lent_fate s masks ready.leveled c.level (level_of s c.top.object) (level_of s o)) ∙ rw (ex, ey) at e
@@ -236,7 +236,7 @@ sits_finished s c v sits =
     }
 
 module _ (s current cache : List ℕ) (all unchanged : Bool) (c r : Core) (sits : Sits s c) (internal : c.effect ≡ Nothing) (step : next_step (program_of s) (frame_of c.top) ≡ op.End) (is : r ≡ ending_as c) where
-  end_finished : r ≡ finished_as c Nil → Operated s current cache all unchanged c r
+  end_finished : r ≡ finished_as c None → Operated s current cache all unchanged c r
   end_finished e =
       record {
         steps = λ q. absurd (not_both _ (ap is_end step) q);
@@ -247,11 +247,11 @@ module _ (s current cache : List ℕ) (all unchanged : Bool) (c r : Core) (sits 
         tall = λ q. absurd (not_both (is_over r.effect) (ap (λ x. is_over x.effect) e) q);
         lower = omega (arith, ap (λ x. x.height) e);
         flat = λ some. absurd (some (ap (λ x. x.height) e));
-        sits = subst (Sits s) (sym e) (sits_finished s c Nil sits);
+        sits = subst (Sits s) (sym e) (sits_finished s c None sits);
         present = subst (λ x. Present s x.effect) (sym e) tt;
       }
 
-  end_popped : (c.height ≡ 1 → ⊥) → r ≡ causing c (Pop Nil) → Operated s current cache all unchanged c r
+  end_popped : (c.height ≡ 1 → ⊥) → r ≡ causing c (Pop None) → Operated s current cache all unchanged c r
   end_popped more e =
       let tall : r.height ≡ c.height = ap (λ x. x.height) e in
       let some : 0 < c.height = sits.some (rw internal) in
@@ -264,7 +264,7 @@ module _ (s current cache : List ℕ) (all unchanged : Bool) (c r : Core) (sits 
         tall = λ _. tall;
         lower = omega arith;
         flat = λ _. tall;
-        sits = subst (Sits s) (sym e) (sits_causing s c (Pop Nil) internal refl (omega (arith, more)) sits);
+        sits = subst (Sits s) (sym e) (sits_causing s c (Pop None) internal refl (omega (arith, more)) sits);
         present = subst (λ x. Present s x.effect) (sym e) tt;
       }
 

@@ -8,8 +8,8 @@ use Rattle.session.specs.Limits.{max_levels}
 use Rattle.session.specs.Parts.{object_count}
 use Rattle.session.specs.Meaning.{Numbered}
 use Rattle.session.specs.Program.{Program, program_of}
-use Rattle.session.specs.declared.Value.{Value}
-use Rattle.session.specs.declared.Value.TheVariants.{Number}
+use Rattle.session.specs.Value.{Value}
+use Rattle.std.specs.Prelude.{Some}
 use Rattle.session.specs.Questions.{verdict_of, Accepted}
 use Rattle.session.specs.declared.Step.{Step}
 use Rattle.session.specs.declared.Step.TheVariants as op
@@ -93,7 +93,7 @@ withdraw_there h is k j = record { room = h.fields_there; object = subst Numbers
 pub wrote_none : (l : ℕ) (f : Frame) (c t : List ℕ) {x : Change} → x ≡ Nothing → Written l f x c t c t
 wrote_none l f c t is = subst (λ x. Written l f x c t c t) (sym is) (refl, refl)
 
-pub wrote_create : (l : ℕ) (f : Frame) (t : List ℕ) {c c1 c2 c3 c' t' : List ℕ} {o w : ℕ} {x : Change} → x ≡ Create o w → FieldSet c c1 o 0 f.r1 → FieldSet c1 c2 o 1 f.r2 → FieldSet c2 c3 o 2 f.r3 → FieldSet c3 c' o existence (Number w) → t' ≡ changed l t → Written l f x c t c' t'
+pub wrote_create : (l : ℕ) (f : Frame) (t : List ℕ) {c c1 c2 c3 c' t' : List ℕ} {o w : ℕ} {x : Change} → x ≡ Create o w → FieldSet c c1 o 0 f.r1 → FieldSet c1 c2 o 1 f.r2 → FieldSet c2 c3 o 2 f.r3 → FieldSet c3 c' o existence (Some w) → t' ≡ changed l t → Written l f x c t c' t'
 wrote_create l f t {c} {c1} {c2} {c3} {c'} {t'} is set0 set1 set2 set3 counted =
     subst (λ x. Written l f x c t c' t') (sym is) ((c3, ((c2, ((c1, ((c, (refl, set0)), set1)), set2)), set3)), counted)
 
@@ -170,7 +170,7 @@ module _ {s masks index current : List ℕ} {m : Manager} (can : Changeable s ma
           let q1 = kept_write s g current c1 ended t o 0 f.r1 q (rw e at set0) (omega arith) few in
           let q2 = kept_write s _ c1 c2 ended t o 1 f.r2 q1 set1 (omega arith) few in
           let q3 = kept_write s _ c2 c3 ended t o 2 f.r3 q2 set2 (omega arith) few in
-          rw i (kept_change s _ c3 c' ended t o existence (Number w) q3 set3 m.core.level small refl h.1 few)
+          rw i (kept_change s _ c3 c' ended t o existence (Some w) q3 set3 m.core.level small refl h.1 few)
       does g run x q (Withdraw o) h ((c0, (e, set)), i) =
           rw i (kept_change s g current c' ended t o existence withdrawn q (rw e at set) m.core.level small refl (omega arith) (few_levels s (accepted s a).three))
 
@@ -182,7 +182,7 @@ module _ {s masks index current : List ℕ} {m : Manager} (can : Changeable s ma
           spared_then s (words current ended t) (words c1 ended t) (words c' ended (changed m.core.level t)) (spared_write s a (words current ended t) c1 o 0 f.r1 h.0 (omega arith) (rw e at set0))
           (spared_then s (words c1 ended t) (words c2 ended t) (words c' ended (changed m.core.level t)) (spared_write s a (words c1 ended t) c2 o 1 f.r2 h.0 (omega arith) set1)
           (spared_then s (words c2 ended t) (words c3 ended t) (words c' ended (changed m.core.level t)) (spared_write s a (words c2 ended t) c3 o 2 f.r3 h.0 (omega arith) set2)
-          (spared_then s (words c3 ended t) (words c' ended t) (words c' ended (changed m.core.level t)) (spared_write s a (words c3 ended t) c' o existence (Number w) h.0 (omega arith) set3)
+          (spared_then s (words c3 ended t) (words c' ended t) (words c' ended (changed m.core.level t)) (spared_write s a (words c3 ended t) c' o existence (Some w) h.0 (omega arith) set3)
           (spared_change s (words c' ended t) m.core.level small))))
           )
       spared (Withdraw o) h ((c0, (e, set)), i) =

@@ -14,7 +14,7 @@ use Rattle.session.specs.Parts.{level_count, masks_of}
 use Rattle.session.specs.Meaning.{Numbered, level_of}
 use Rattle.session.specs.Questions.{verdict_of, Accepted}
 use Rattle.session.specs.Program.{program_of}
-use Rattle.session.specs.declared.Value.{Value}
+use Rattle.session.specs.Value.{Value}
 use Rattle.session.specs.declared.Step.{Step}
 use Rattle.session.specs.declared.Step.TheVariants as op
 use Rattle.lists.proofs.Laws.Lists.{holds, fails, truth}

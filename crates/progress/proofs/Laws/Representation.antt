@@ -12,7 +12,7 @@ use Rattle.lists.proofs.Laws.Range.{not_both}
 use Rattle.session.specs.Limits.{max_levels, max_numbers, fields}
 use Rattle.session.specs.Parts.{level_count, object_count}
 use Rattle.session.specs.Program.{Program, program_of}
-use Rattle.session.specs.declared.Value.{Value}
+use Rattle.session.specs.Value.{Value}
 use Rattle.scripts.specs.Effect.{Written}
 use Rattle.scripts.specs.Existence.{existence, initially}
 use Rattle.scripts.specs.Limits.{max_forks}

@@ -9,7 +9,7 @@ use Rattle.session.specs.Limits.{max_levels, max_objects, made_objects}
 use Rattle.session.specs.Parts.{level_count}
 use Rattle.session.specs.Meaning.{Numbered}
 use Rattle.session.specs.Questions.{verdict_of, Accepted}
-use Rattle.session.specs.declared.Value.{Value}
+use Rattle.session.specs.Value.{Value}
 use Rattle.session.proofs.Laws.Numbers.{number_low, number_high}
 use Rattle.scripts.specs.declared.Ended.{Ended}
 use Rattle.fields.specs.Limits.{object_values}

@@ -5,7 +5,7 @@ use mathlib.Core.List.{List, [], ◌∷◌, ◌++◌}
 use native.Mathlib.Omega.{arith}
 use lib.ListN.{length, get_or}
 use Rattle.lists.specs.Lists.{tab}
-use Rattle.session.specs.declared.Value.{Value}
+use Rattle.session.specs.Value.{Value}
 use Rattle.scripts.specs.Ending.{number_of_ending}
 use Rattle.scripts.specs.Value.{tag, number_in}
 use Rattle.model.specs.Result.{bytes2, bytes4, object_record, history_record, reply_record}

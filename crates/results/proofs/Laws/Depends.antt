@@ -11,7 +11,7 @@ use Rattle.lists.specs.Lists.{joined}
 use Rattle.session.specs.Parts.{level_count, object_count, masks_of}
 use Rattle.session.specs.Meaning.{Numbered}
 use Rattle.session.specs.Program.{Program, program_of}
-use Rattle.session.specs.declared.Value.{Value}
+use Rattle.session.specs.Value.{Value}
 use Rattle.lists.proofs.Laws.Lists.{holds, fails, truth}
 use Rattle.lists.proofs.Laws.Fill.{tab_ext}
 use Rattle.session.proofs.Laws.Numbers.{number_own, number_made}

@@ -14,8 +14,8 @@ use Rattle.lists.specs.Lists.{tab, joined}
 use Rattle.session.specs.Parts.{masks_of}
 use Rattle.session.specs.Meaning.{level_of}
 use Rattle.session.specs.Program.{Program, program_of}
-use Rattle.session.specs.declared.Value.{Value}
-use Rattle.session.specs.declared.Value.TheVariants.{Nil}
+use Rattle.session.specs.Value.{Value}
+use Rattle.std.specs.Prelude.{None}
 use Rattle.lists.proofs.Laws.Lists.{holds, fails, truth}
 use Rattle.scripts.specs.Existence.{existence, is_there}
 use Rattle.fields.specs.Fields.{value_of}
@@ -79,7 +79,7 @@ pub histories_rows : (ws : List ℕ) (l n : ℕ) → map (history_record l) (his
 histories_rows ws l n = ap (map (history_record l)) (histories_tab ws l n) ∙ map-tab (history_record l) n (history_at ws l)
 
 -- the reply of a level's first history
-pub reply_none : (ws : List ℕ) (l n : ℕ) → n ≡ 0 → Nil ≡ reply_of (histories_at ws l n)
+pub reply_none : (ws : List ℕ) (l n : ℕ) → n ≡ 0 → None ≡ reply_of (histories_at ws l n)
 unfolding histories_at rows_at tab
 reply_none ws l n e = rw e refl
 

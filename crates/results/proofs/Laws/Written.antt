@@ -11,7 +11,7 @@ use Rattle.session.specs.Limits.{record_bytes, max_levels, max_objects, made_obj
 use Rattle.lists.specs.Lists.{tab, select, joined}
 use Rattle.session.specs.Parts.{level_count, masks_of}
 use Rattle.session.specs.Program.{Program, program_of}
-use Rattle.session.specs.declared.Value.{Value}
+use Rattle.session.specs.Value.{Value}
 use Rattle.lists.proofs.Laws.Lists.{holds, fails, truth}
 use Rattle.lists.proofs.Laws.Fill.{tab_ext}
 use Rattle.session.proofs.Laws.Contents.{masks_length, level_limit, object_limit}

@@ -14,7 +14,7 @@ use Rattle.session.specs.Parts.{level_count, object_count}
 use Rattle.session.specs.Questions.{operands_fit, verdict_of, Accepted}
 use Rattle.session.specs.Meaning.{Numbered, level_of, method_of, step_at}
 use Rattle.session.specs.Program.{Program, program_of}
-use Rattle.session.specs.declared.Value.{Value}
+use Rattle.session.specs.Value.{Value}
 use Rattle.session.specs.declared.Message.{Message}
 use Rattle.session.specs.declared.Step.{Step}
 use Rattle.session.specs.declared.Step.TheVariants.{End, Set, Add, Jump, Read, Write, Send, Quit, Create, Withdraw}

@@ -10,8 +10,8 @@ use Rattle.lists.proofs.Laws.Range.{and_left, and_right}
 use Rattle.session.specs.Limits.{made_objects}
 use Rattle.session.specs.Meaning.{made_number}
 use Rattle.session.specs.Program.{Program}
-use Rattle.session.specs.declared.Value.{Value}
-use Rattle.session.specs.declared.Value.TheVariants.{Nil, Number}
+use Rattle.session.specs.Value.{Value}
+use Rattle.std.specs.Prelude.{None, Some}
 use Rattle.lists.proofs.Laws.Lists.{holds, fails, truth}
 use Rattle.scripts.specs.Limits.{max_writes}
 use Rattle.scripts.specs.Existence.{existence, script_seen, is_there, used_of, making}
@@ -67,9 +67,9 @@ module _ (Q : Stepped → Type 0) where
 
     pub created_way : (a : ℕ)
         → (p.level f.object ≡ m.level → is_there (read f.object existence) ≡ true → used_of read m.level < made_objects → m.writes + 4 ≤ max_writes
-        → Q (takes_effect m (with_register f a (Number (made_number m.level (used_of read m.level))))
+        → Q (takes_effect m (with_register f a (Some (made_number m.level (used_of read m.level))))
         (making (made_number m.level (used_of read m.level)) f.r1 f.r2 f.r3 (script_seen read f.object))))
-        → Q (too_much m f) → Q (without m (with_register f a Nil)) → Q (created p read m f a)
+        → Q (too_much m f) → Q (without m (with_register f a None)) → Q (created p read m f a)
     unfolding created
     created_way a x y z = elim (truth (owns p read m f && ltb (used_of read m.level) made_objects)) [
       | holds e ↦

@@ -5,8 +5,8 @@ use mathlib.Core.List.{List, [], ◌∷◌}
 use lib.Dec.{ltb}
 use lib.ListN.{length}
 use Rattle.session.specs.Program.{Program}
-use Rattle.session.specs.declared.Value.{Value}
-use Rattle.session.specs.declared.Value.TheVariants.{Nil}
+use Rattle.session.specs.Value.{Value}
+use Rattle.std.specs.Prelude.{None}
 use Rattle.session.specs.declared.Message.{Message}
 use Rattle.session.specs.declared.Step.{Step}
 use Rattle.session.specs.declared.Step.TheVariants.{End, Set, Add, Jump, Read, Write, Send, Quit, Create, Withdraw}
@@ -59,7 +59,7 @@ settled_counts p m f [] = elim (truth (is_end (next_step p f))) [
   | fails q ↦ rw q refl
 ]
 settled_counts p m f (g ∷ gs) = elim (truth (is_end (next_step p f))) [
-  | holds q ↦ rw q (settled_counts p m (with_register g f.into Nil) gs)
+  | holds q ↦ rw q (settled_counts p m (with_register g f.into None) gs)
   | fails q ↦ rw q refl
 ]
 

@@ -13,8 +13,8 @@ use Rattle.session.specs.Meaning.{made_number, field_of}
 use Rattle.session.specs.Record.{byte_of}
 use Rattle.session.specs.Parts.{object_records, object_count}
 use Rattle.session.specs.Program.{Program, program_of}
-use Rattle.session.specs.declared.Value.{Value}
-use Rattle.session.specs.declared.Value.TheVariants.{Nil, Number}
+use Rattle.session.specs.Value.{Value}
+use Rattle.std.specs.Prelude.{None, Some}
 use Rattle.lists.proofs.Laws.Lists.{holds, fails, truth}
 use Rattle.session.proofs.Laws.Emptied.{nil_field}
 use Rattle.scripts.specs.Value.{number_in}
@@ -26,15 +26,15 @@ unfolding initially
 first_field p o k h = rw (lt-ltb k fields h) refl
 
 -- each object of the session is there, with its own methods
-pub first_there : (s : List ℕ) (o : ℕ) → o < object_count s → initially (program_of s) o existence ≡ Number (own_script o)
+pub first_there : (s : List ℕ) (o : ℕ) → o < object_count s → initially (program_of s) o existence ≡ Some (own_script o)
 unfolding initially program_of
 first_there s o h = rw (lt-ltb o (object_count s) h) refl
 
 -- no other object has a value
-pub first_none : (s : List ℕ) (o k : ℕ) → object_count s ≤ o → initially (program_of s) o k ≡ Nil
+pub first_none : (s : List ℕ) (o k : ℕ) → object_count s ≤ o → initially (program_of s) o k ≡ None
 unfolding initially program_of
 first_none s o k h =
-    let none : field_of s o k ≡ Nil =
+    let none : field_of s o k ≡ None =
     nil_field (get_or (object_records s) o []) k (ap (λ rec. byte_of rec 3) (get_or-eq_default (object_records s) [] h)) in
     rw (none, le-ltb o (object_count s) h) (elim (truth (ltb k fields)) [
       | holds e ↦ rw e refl
@@ -48,5 +48,5 @@ used_reads read read' l e = rw (e 0 (omega arith), e 1 (omega arith), e 2 (omega
 
 -- an object is there where its script is not 0
 pub there_script : (v : Value) → not (eqb (number_in v) 0) ≡ is_there v
-there_script Nil = refl
-there_script (Number n) = refl
+there_script None = refl
+there_script (Some n) = refl

@@ -9,7 +9,7 @@ use Rattle.dominance.specs.Table.{dominates, is_ordered}
 use Rattle.session.specs.Parts.{level_count, masks_of}
 use Rattle.session.specs.Meaning.{level_of}
 use Rattle.session.specs.Program.{program_of}
-use Rattle.session.specs.declared.Value.{Value}
+use Rattle.session.specs.Value.{Value}
 use Rattle.session.specs.declared.Step.TheVariants.{Send}
 use Rattle.session.proofs.Laws.Verdict.{accepted}
 use Rattle.session.proofs.Laws.Contents.{masks_length}

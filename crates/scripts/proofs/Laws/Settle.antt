@@ -7,8 +7,8 @@ use borrow.Author.Tests.{lt-ltb, le-ltb}
 use lib.Dec.{ltb}
 use Rattle.lists.proofs.Laws.Range.{not_both}
 use Rattle.session.specs.Program.{Program}
-use Rattle.session.specs.declared.Value.{Value}
-use Rattle.session.specs.declared.Value.TheVariants.{Nil}
+use Rattle.session.specs.Value.{Value}
+use Rattle.std.specs.Prelude.{None}
 use Rattle.lists.proofs.Laws.Lists.{holds, fails, truth}
 use Rattle.scripts.specs.Limits.{max_script_steps}
 use Rattle.scripts.specs.Frame.{with_register}
@@ -20,7 +20,7 @@ use Rattle.scripts.specs.declared.Ending.TheVariants.{Running, Finished, OutOfSt
 
 -- a frame above another answers it as it pops
 pub popped_to_lem : (m : Manager) (f g : Frame) (gs : List Frame) (v : Value) →
-    popped (with_frames m (f ∷ g ∷ gs)) v ≡ with_frames m (with_register g f.into (cond f.returns v Nil) ∷ gs)
+    popped (with_frames m (f ∷ g ∷ gs)) v ≡ with_frames m (with_register g f.into (cond f.returns v None) ∷ gs)
 unfolding popped
 popped_to_lem m f g gs v = refl
 
@@ -35,7 +35,7 @@ settled_any : (p : Program) (m : Manager) (fs : List Frame) (f : Frame) (gs : Li
 unfolding settled
 settled_any p m fs f [] = refl
 settled_any p m fs f (g ∷ gs) = elim (truth (is_end (next_step p f))) [
-  | holds q ↦ rw q (settled_any p m fs (with_register g f.into Nil) gs)
+  | holds q ↦ rw q (settled_any p m fs (with_register g f.into None) gs)
   | fails q ↦ rw q refl
 ]
 
@@ -44,14 +44,14 @@ abbrev ended : Manager → Manager
 ended n = with_counts n n.steps n.writes n.forks n.stamp (ending_of n.frames (ltb n.steps max_script_steps))
 
 -- a frame at its script's end pops
-pub concluded_pop : (p : Program) (m : Manager) (f g : Frame) (gs : List Frame) → is_end (next_step p f) ≡ true → concluded p (with_frames m (f ∷ g ∷ gs)) ≡ concluded p (with_frames m (with_register g f.into Nil ∷ gs))
+pub concluded_pop : (p : Program) (m : Manager) (f g : Frame) (gs : List Frame) → is_end (next_step p f) ≡ true → concluded p (with_frames m (f ∷ g ∷ gs)) ≡ concluded p (with_frames m (with_register g f.into None ∷ gs))
 unfolding concluded settled
 concluded_pop p m f g gs e =
-    let h = with_register g f.into Nil in
+    let h = with_register g f.into None in
     rw e (ap ended (settled_any p m (f ∷ g ∷ gs) h gs ∙ sym (settled_any p m (h ∷ gs) h gs)))
 
 -- the last one too, and the manager has finished
-pub concluded_last : (p : Program) (m : Manager) (f : Frame) → is_end (next_step p f) ≡ true → concluded p (with_frames m (f ∷ [])) ≡ with_counts (replied m Nil) m.steps m.writes m.forks m.stamp Finished
+pub concluded_last : (p : Program) (m : Manager) (f : Frame) → is_end (next_step p f) ≡ true → concluded p (with_frames m (f ∷ [])) ≡ with_counts (replied m None) m.steps m.writes m.forks m.stamp Finished
 unfolding concluded settled
 concluded_last p m f e = rw e
 

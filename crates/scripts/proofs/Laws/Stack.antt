@@ -8,8 +8,8 @@ use borrow.Author.Tests.{ltb-true}
 use lib.Dec.{ltb}
 use lib.ListN.{length}
 use Rattle.session.specs.Program.{Program}
-use Rattle.session.specs.declared.Value.{Value}
-use Rattle.session.specs.declared.Value.TheVariants.{Nil}
+use Rattle.session.specs.Value.{Value}
+use Rattle.std.specs.Prelude.{None}
 use Rattle.session.specs.declared.Message.{Message}
 use Rattle.session.specs.declared.Step.{Step}
 use Rattle.session.specs.declared.Step.TheVariants.{End, Set, Add, Jump, Read, Write, Send, Quit, Create, Withdraw}
@@ -103,7 +103,7 @@ module _ (P : Frame → Type 0) (kept : (f : Frame) (k : ℕ) (v : Value) → P 
     | fails q ↦ rw q s
   ]
   settled_stack p m f (g ∷ gs) s = elim (truth (is_end (next_step p f))) [
-    | holds q ↦ rw q (settled_stack p m (with_register g f.into Nil) gs (record { low = omega (arith, s.low); each = (kept g _ _ s.each.1.0, s.each.1.1) }))
+    | holds q ↦ rw q (settled_stack p m (with_register g f.into None) gs (record { low = omega (arith, s.low); each = (kept g _ _ s.each.1.0, s.each.1.1) }))
     | fails q ↦ rw q s
   ]
 
@@ -126,12 +126,12 @@ module _ (P : Frame → Type 0) (kept : (f : Frame) (k : ℕ) (v : Value) → P 
   created_stack p read m f a s b =
       created_way (λ d. Stacked P d.manager) p read m f a
       (λ l h u c. replaced_stack P m _ s (kept f a _ b))
-      (replaced_stack P m f s b) (replaced_stack P m _ s (kept f a Nil b))
+      (replaced_stack P m f s b) (replaced_stack P m _ s (kept f a None b))
 
   called_stack : (m : Manager) (f : Frame) (a : ℕ) (callee : Frame) → Stacked P m → P f → P callee → Stacked P (called m f a callee).manager
   unfolding called
   called_stack m f a callee s b c = elim (truth (ltb (length m.frames) max_frames)) [
-    | fails e ↦ rw e (replaced_stack P m (with_register f a Nil) s (kept f a Nil b))
+    | fails e ↦ rw e (replaced_stack P m (with_register f a None) s (kept f a None b))
     | holds e ↦ rw e (
         let h : length m.frames < max_frames = ltb-true (length m.frames) max_frames e in
         record { low = omega (arith, below_length m.frames); each = (c, (b, below_each P m.frames s.each)) })
@@ -140,7 +140,7 @@ module _ (P : Frame → Type 0) (kept : (f : Frame) (k : ℕ) (v : Value) → P 
   forked_stack : (m : Manager) (f : Frame) (a u : ℕ) (message : Message) → Stacked P m → P f → Stacked P (forked m f a u message).manager
   unfolding forked
   forked_stack m f a u message s b =
-      let t = replaced_stack P m (with_register f a Nil) s (kept f a Nil b) in
+      let t = replaced_stack P m (with_register f a None) s (kept f a None b) in
       elim (truth (ltb m.forks max_forks)) [
         | holds e ↦ rw e t
         | fails e ↦ rw e t
@@ -150,7 +150,7 @@ module _ (P : Frame → Type 0) (kept : (f : Frame) (k : ℕ) (v : Value) → P 
   unfolding sent
   sent_stack read m f a b c fate.Call s d x = called_stack m f a _ s d (x true _)
   sent_stack read m f a b c fate.Discard s d x = called_stack m f a _ s d (x false _)
-  sent_stack read m f a b c fate.Block s d x = replaced_stack P m (with_register f a Nil) s (kept f a Nil d)
+  sent_stack read m f a b c fate.Block s d x = replaced_stack P m (with_register f a None) s (kept f a None d)
   sent_stack read m f a b c (fate.Fork u) s d x = forked_stack m f a u _ s d
 
   pub operated_stack : (p : Program) (read : ℕ → ℕ → Value) (m : Manager) (f : Frame) (i : Step) → Stacked P m → (is_end i ≡ false → P f) → Preserves P p read m f i → Stacked P (operated p read m f i).manager

@@ -6,7 +6,7 @@ use mathlib.Core.List.{List}
 use native.Mathlib.Omega.{arith}
 use Rattle.session.specs.Questions.{verdict_of, Accepted}
 use Rattle.session.specs.Program.{Program, program_of}
-use Rattle.session.specs.declared.Value.{Value}
+use Rattle.session.specs.Value.{Value}
 use Rattle.session.specs.declared.Message.{Message}
 use Rattle.scripts.specs.Existence.{script_seen}
 use Rattle.scripts.specs.Limits.{max_writes, max_forks}

@@ -9,8 +9,8 @@ use lib.Dec.{ltb}
 use lib.ListN.{length}
 use Rattle.session.specs.Meaning.{made_number}
 use Rattle.session.specs.Program.{Program, seen_by}
-use Rattle.session.specs.declared.Value.{Value}
-use Rattle.session.specs.declared.Value.TheVariants.{Nil}
+use Rattle.session.specs.Value.{Value}
+use Rattle.std.specs.Prelude.{None}
 use Rattle.session.specs.declared.Message.{Message}
 use Rattle.session.specs.declared.Step.{Step}
 use Rattle.session.specs.declared.Step.TheVariants.{End, Set, Add, Jump, Read, Write, Send, Quit, Create, Withdraw}
@@ -124,7 +124,7 @@ settled_seen : (p : Program) (l : ℕ) (m : Manager) (f : Frame) (gs : List Fram
 unfolding settled
 settled_seen p l m f [] b e = rw (next_seen p l f b)
 settled_seen p l m f (g ∷ gs) b e = rw (next_seen p l f b) (elim (truth (is_end (next_step p f))) [
-  | holds q ↦ rw q (settled_seen p l m (with_register g f.into Nil) gs (register-below p l g f.into Nil e.0) e.1)
+  | holds q ↦ rw q (settled_seen p l m (with_register g f.into None) gs (register-below p l g f.into None e.0) e.1)
   | fails q ↦ rw q refl
 ])
 

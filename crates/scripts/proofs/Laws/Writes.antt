@@ -9,8 +9,8 @@ use Rattle.lists.proofs.Laws.Range.{not_both}
 use Rattle.session.specs.Limits.{fields, made_objects}
 use Rattle.session.specs.Meaning.{made_number}
 use Rattle.session.specs.Program.{Program}
-use Rattle.session.specs.declared.Value.{Value}
-use Rattle.session.specs.declared.Value.TheVariants.{Nil, Number}
+use Rattle.session.specs.Value.{Value}
+use Rattle.std.specs.Prelude.{None, Some}
 use Rattle.session.specs.declared.Step.{Step}
 use Rattle.session.specs.declared.Step.TheVariants.{End, Set, Add, Jump, Read, Write, Send, Quit, Create, Withdraw}
 use Rattle.lists.proofs.Laws.Lists.{holds, fails, truth}
@@ -41,9 +41,9 @@ Writing p read l (effect.Fork u message) = Unit
 
 -- the script of an object that is there is that of some object
 there_script : (v : Value) → is_there v ≡ true → (w : ℕ) × (number_in v ≡ suc w)
-there_script Nil e = absurd (not_both false e refl)
-there_script (Number zero) e = absurd (not_both false e refl)
-there_script (Number (suc w)) e = (w, refl)
+there_script None e = absurd (not_both false e refl)
+there_script (Some zero) e = absurd (not_both false e refl)
+there_script (Some (suc w)) e = (w, refl)
 
 module _ (p : Program) (read : ℕ → ℕ → Value) (m : Manager) (f : Frame) where
   field_writing : (k : ℕ) (v : Value) → k < fields → Writing p read m.level (written p read m f k v).effect

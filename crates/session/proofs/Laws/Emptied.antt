@@ -18,7 +18,7 @@ use Rattle.session.specs.Parts.{of_kind, object_records, step_records, level_cou
 use Rattle.session.specs.Questions.{step_valid, script_valid, methods_valid, scripts_valid}
 use Rattle.session.specs.Meaning.{owner_of, level_of, field_of, method_of, root_of}
 use Rattle.session.specs.Emptied.{hides, stays, blanked, emptied}
-use Rattle.session.specs.declared.Value.TheVariants.{Nil}
+use Rattle.std.specs.Prelude.{None}
 use Rattle.lists.proofs.Laws.Lists.{holds, fails, truth, every_each, every-select, select-all, select_none, select_passes}
 use Rattle.lists.proofs.Laws.Choice.{select_same, select-map, every_map, select_swap, every_then, every_both, map-kept}
 use Rattle.session.proofs.Laws.Whole.{whole, records_whole, length-joined, records_joined}
@@ -43,7 +43,7 @@ rest_zero (suc n) m (x ∷ xs) zero h = absurd (omega arith)
 rest_zero (suc n) m (x ∷ xs) (suc k) h = rest_zero n m xs k (omega arith)
 
 -- where byte 3 is 0 every field is NIL
-pub nil_field : (rec : Record) (k : ℕ) → byte_of rec 3 ≡ 0 → field_in rec k ≡ Nil
+pub nil_field : (rec : Record) (k : ℕ) → byte_of rec 3 ≡ 0 → field_in rec k ≡ None
 nil_field rec k e = rw (e, bit_beyond 0 k (pow_pos k))
 
 -- two names below 256 with equal keys belong to one object
@@ -241,7 +241,7 @@ module _ (s : List ℕ) (c : ℕ) where
       ∙ ap (λ b. cond (ltb o (object_count s)) b (owner_of (level_count s) o)) (ap level_byte (emptied_object o) ∙ blanked_byte 2 (omega arith) (get_or (object_records s) o []))
 
   -- the others have no fields
-  no_field : (o k : ℕ) → object_count s ≤ o → field_of (emptied c s) o k ≡ Nil
+  no_field : (o k : ℕ) → object_count s ≤ o → field_of (emptied c s) o k ≡ None
   no_field o k g =
       nil_field (get_or (object_records (emptied c s)) o []) k (ap (λ rec. byte_of rec 3) (get_or-eq_default (object_records (emptied c s)) [] (omega (arith, emptied_count, g))))
 
@@ -262,7 +262,7 @@ module _ (s : List ℕ) (c : ℕ) where
         ∙ sym (nil_field (get_or (object_records s) o []) k (ap (λ rec. byte_of rec 3) (get_or-eq_default (object_records s) [] (omega (arith, g)))))
   ]
 
-  pub emptied_field_hidden : (o k : ℕ) → dominates (masks_of s) c (level_of s o) ≡ false → field_of (emptied c s) o k ≡ Nil
+  pub emptied_field_hidden : (o k : ℕ) → dominates (masks_of s) c (level_of s o) ≡ false → field_of (emptied c s) o k ≡ None
   emptied_field_hidden o k e = elim (dec_lt o (object_count s)) [
     | yes l ↦ nil_field (get_or (object_records (emptied c s)) o []) k (
         ap (λ rec. byte_of rec 3) (emptied_object o)

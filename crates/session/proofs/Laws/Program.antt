@@ -10,17 +10,17 @@ use Rattle.session.specs.Questions.{verdict_of, Accepted}
 use Rattle.session.specs.Meaning.{level_of, field_of, step_at}
 use Rattle.session.specs.Emptied.{emptied}
 use Rattle.session.specs.Program.{program_of, seen_by}
-use Rattle.session.specs.declared.Value.TheVariants.{Nil}
+use Rattle.std.specs.Prelude.{None}
 use Rattle.session.specs.declared.Step.TheVariants.{End}
 use Rattle.lists.proofs.Laws.Lists.{holds, fails, truth}
 use Rattle.session.proofs.Laws.Emptied.{emptied_masks, emptied_level_count, emptied_count, emptied_level, emptied_field, emptied_field_hidden}
 use Rattle.session.proofs.Laws.EmptiedAccepted.{emptied_method, emptied_method_hidden}
 
 module _ (s : List ℕ) (c : ℕ) (a : verdict_of s ≡ Accepted) where
-  field_seen_lem : (o k : ℕ) → field_of (emptied c s) o k ≡ cond (dominates (masks_of s) c (level_of s o)) (field_of s o k) Nil
+  field_seen_lem : (o k : ℕ) → field_of (emptied c s) o k ≡ cond (dominates (masks_of s) c (level_of s o)) (field_of s o k) None
   field_seen_lem o k = elim (truth (dominates (masks_of s) c (level_of s o))) [
-    | holds e ↦ emptied_field s c o k e ∙ ap (λ b. cond b (field_of s o k) Nil) (sym e)
-    | fails e ↦ emptied_field_hidden s c o k e ∙ ap (λ b. cond b (field_of s o k) Nil) (sym e)
+    | holds e ↦ emptied_field s c o k e ∙ ap (λ b. cond b (field_of s o k) None) (sym e)
+    | fails e ↦ emptied_field_hidden s c o k e ∙ ap (λ b. cond b (field_of s o k) None) (sym e)
   ]
 
   step_seen : (o m j : ℕ) → step_at (emptied c s) o m j ≡ cond (dominates (masks_of s) c (level_of s o)) (step_at s o m j) End

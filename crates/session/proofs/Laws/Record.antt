@@ -10,7 +10,7 @@ use lib.ListN.{length, get_or, get_or-eq_default}
 use lib.Seq.{get_or-take, get_or-drop}
 use Rattle.session.specs.Limits.{record_bytes}
 use Rattle.session.specs.Record.{Record, record_at, record_count, records_of, byte_of, word_of, operations, step_of, holds as has, field_in, parameter_of, records_from}
-use Rattle.session.specs.declared.Value.TheVariants.{Nil, Number}
+use Rattle.std.specs.Prelude.{None, Some}
 use Rattle.lists.proofs.Laws.Lists.{length-tab, get_d_tab}
 use Rattle.session.specs.declared.Step.TheVariants.{End, Set, Add, Jump, Read, Write, Send, Quit, Create, Withdraw}
 
@@ -45,16 +45,16 @@ from_is s a e r h l =
 
 -- the values that are read off a record: a field's and the parameter's
 module _ (rec : Record) where
-  pub field_number : (k w : ℕ) → has rec k ≡ true → w ≡ word_of rec (4 + 4 * k) → Number w ≡ field_in rec k
+  pub field_number : (k w : ℕ) → has rec k ≡ true → w ≡ word_of rec (4 + 4 * k) → Some w ≡ field_in rec k
   field_number k w h e = rw (h, e)
 
-  pub field_nil : (k : ℕ) → has rec k ≡ false → Nil ≡ field_in rec k
+  pub field_nil : (k : ℕ) → has rec k ≡ false → None ≡ field_in rec k
   field_nil k h = rw h
 
-  pub parameter_number : (w : ℕ) → byte_of rec 3 ≡ 1 → w ≡ word_of rec 4 → Number w ≡ parameter_of rec
+  pub parameter_number : (w : ℕ) → byte_of rec 3 ≡ 1 → w ≡ word_of rec 4 → Some w ≡ parameter_of rec
   parameter_number w h e = rw (h, e)
 
-  pub parameter_nil : (byte_of rec 3 ≡ 1 → ⊥) → Nil ≡ parameter_of rec
+  pub parameter_nil : (byte_of rec 3 ≡ 1 → ⊥) → None ≡ parameter_of rec
   parameter_nil h = rw (ne_eqb (byte_of rec 3) 1 h)
 
 -- a number that is none of 1 to 9

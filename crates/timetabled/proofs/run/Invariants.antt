@@ -1,7 +1,7 @@
 use Prim.Native.Nat.{◌-◌}
 use mathlib.Core.List.{[]}
 use lib.ListN.{length}
-use Rattle.session.specs.declared.Value.TheVariants.{Nil}
+use Rattle.std.specs.Prelude.{None}
 use Rattle.scripts.specs.declared.Ending.TheVariants.{Running}
 use Rattle.cores.specs.declared.Effect.TheVariants.{Nothing}
 use Rattle.managers.specs.declared.Manager.{Manager}
@@ -21,8 +21,8 @@ none =
         forks = 0;
         height = 0;
         ending = Running;
-        reply = Nil;
-        top = record { object = 0; slot = 0; next = 0; start = 0; count = 0; answer = 0; r0 = Nil; r1 = Nil; r2 = Nil; r3 = Nil };
+        reply = None;
+        top = record { object = 0; slot = 0; next = 0; start = 0; count = 0; answer = 0; r0 = None; r1 = None; r2 = None; r3 = None };
         effect = Nothing;
       };
       waiting = [];

@@ -3,7 +3,7 @@
 use Rattle.std.proofs.Common.{◌≡◌, ℕ, zero, suc, ◌+◌, ◌*◌, ◌/◌, ◌%◌, ◌^◌, ◌<◌, ◌≤◌, Bool, true, false, ◌&&◌, ltb, List, get_or, sym, refl, ap, ◌∙◌, le_trans, arith, le-ltb, lt-ltb, le-leb}
 use native.Mathlib.Decide.{dec_lt}
 use borrow.Author.Tests.{lt-leb}
-use Rattle.session.specs.declared.Value.{Value}
+use Rattle.session.specs.Value.{Value}
 use Rattle.model.specs.Level.{is_of, newest, newest_to}
 use Rattle.lists.specs.Each.{Each, Pairwise}
 use Rattle.versions.specs.Log.{version_of, version_at, log_of}

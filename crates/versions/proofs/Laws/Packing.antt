@@ -1,7 +1,7 @@
 -- A version that is packed into two numbers is read back. Assumes nothing.
 use Rattle.std.proofs.Common.{◌≡◌, ℕ, ◌+◌, ◌*◌, ◌/◌, ◌%◌, ◌^◌, ◌<◌, refl, arith}
-use Rattle.session.specs.declared.Value.{Value}
-use Rattle.session.specs.declared.Value.TheVariants.{Nil, Number}
+use Rattle.session.specs.Value.{Value}
+use Rattle.std.specs.Prelude.{None, Some}
 use Rattle.scripts.specs.Value.{tag}
 use Rattle.fields.proofs.Laws.Fields.{value_back}
 use Rattle.model.specs.Level.{Version}
@@ -27,8 +27,8 @@ module _ (p t s o k : ℕ) (e : p ≡ key_of o k + 2 * s + t) (low : t < 2) (sta
 
 -- the value of a tag and a number
 tagged : (x : Value) → tag x < 2
-tagged Nil = omega arith
-tagged (Number n) = omega arith
+tagged None = omega arith
+tagged (Some n) = omega arith
 
 -- a version whose write stamp and field fit is read back from its two numbers
 pub version_back : (v : Version) → v.stamp < 2 ^ 16 → v.field < 2 ^ 2 → version_of (first_of v) (second_of v) ≡ v

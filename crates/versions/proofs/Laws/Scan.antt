@@ -2,7 +2,7 @@
 -- says whether it is one. Assumes nothing.
 use Rattle.std.proofs.Common.{◌≡◌, ℕ, suc, ◌+◌, ◌-◌, ◌*◌, ◌/◌, ◌%◌, ◌^◌, ◌<◌, ◌≤◌, true, false, eqb, List, refl, arith, eq-eqb, eqb-true}
 use Rattle.lists.proofs.Laws.Range.{refuted, and_left, and_right, and_both}
-use Rattle.session.specs.declared.Value.{Value}
+use Rattle.session.specs.Value.{Value}
 use Rattle.model.specs.Level.{is_of, newest}
 use Rattle.versions.specs.Log.{key_of, version_of, version_at, log_of}
 

@@ -1,6 +1,6 @@
 use mathlib.Core.Path.{refl, ◌∙◌, ap}
 use mathlib.Core.Bool.{cond}
-use Rattle.session.specs.declared.Value.TheVariants.{Nil}
+use Rattle.std.specs.Prelude.{None}
 use Rattle.scripts.specs.Frame.{with_register}
 use Rattle.frames.proofs.Laws.Frames.{register-placed}
 use Rattle.frames.specs.Frames.{into_of, returns_of, frame_of}
@@ -11,7 +11,7 @@ returns c =
     let f = c.args.self.top in
     let a = c.answered-top in
     let w = c.woken-sender in
-    let v = cond (returns_of f.answer) c.args.reply Nil in
+    let v = cond (returns_of f.answer) c.args.reply None in
     record {
       core_is = refl;
       top_is = a.ensures.frame ∙ ap (λ g. with_register g (into_of f.answer) v) (ap frame_of w.ensures.0);

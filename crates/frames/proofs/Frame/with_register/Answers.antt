@@ -1,6 +1,6 @@
 use Prim.Native.Nat.{ℕ, zero, suc}
 use mathlib.Core.Path.{◌≡◌, refl, sym}
-use Rattle.session.specs.declared.Value.{Value}
+use Rattle.session.specs.Value.{Value}
 use Rattle.scripts.specs.State.{Frame}
 use Rattle.scripts.specs.Frame.{with_register}
 use Rattle.frames.proofs.Frame.with_register.Goals as goal

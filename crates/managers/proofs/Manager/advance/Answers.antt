@@ -4,7 +4,7 @@ use mathlib.Core.Bool.{Bool, true, ◌&&◌}
 use mathlib.Core.List.{List}
 use lib.Dec.{ltb}
 use native.Mathlib.Omega.{arith}
-use Rattle.session.specs.declared.Value.{Value}
+use Rattle.session.specs.Value.{Value}
 use Rattle.frames.proofs.Laws.Frames.{object_fits, place_fits}
 use Rattle.cores.specs.Core.{is_done, is_nothing}
 use Rattle.cores.specs.Moves.{causing}

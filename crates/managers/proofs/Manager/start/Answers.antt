@@ -11,8 +11,8 @@ use Rattle.session.specs.Program.{program_of}
 use Rattle.session.specs.Questions.{verdict_of, Accepted}
 use Rattle.session.specs.Limits.{names}
 use Rattle.session.specs.declared.Message.{Message}
-use Rattle.session.specs.declared.Value.{Value}
-use Rattle.session.specs.declared.Value.TheVariants.{Nil}
+use Rattle.session.specs.Value.{Value}
+use Rattle.std.specs.Prelude.{None}
 use Rattle.lists.proofs.Laws.Lists.{holds, fails, truth}
 use Rattle.scripts.specs.Ending.{is_running}
 use Rattle.scripts.specs.State as defined
@@ -45,7 +45,7 @@ begun level first f =
       forks = 0;
       height = 1;
       ending = Running;
-      reply = Nil;
+      reply = None;
       top = f;
       effect = Nothing;
     }
@@ -61,7 +61,7 @@ alone level first stamp f =
       writes = 0;
       forks = 0;
       ending = Running;
-      reply = Nil;
+      reply = None;
       frames = f ∷ [];
     }
 
@@ -75,14 +75,14 @@ module _ (s : List ℕ) (a : verdict_of s ≡ Accepted) (level stamp : ℕ) (m :
   alike = concluded (program_of s) (alone level stamp stamp (frame_for m.object script m.name 0 true m.parameter))
 
   -- an empty method ends at once
-  ends : leb f.count f.next ≡ true → manager_of (record { core = stood_as (begun level stamp f) 0 Finished Nil; waiting = ws }) ≡ alike
+  ends : leb f.count f.next ≡ true → manager_of (record { core = stood_as (begun level stamp f) 0 Finished None; waiting = ws }) ≡ alike
   unfolding manager_of
   ends q =
       let g = frame_for m.object script m.name 0 true m.parameter in
       rw none (sym (concluded_last (program_of s) (alone level stamp stamp g) g (ap (λ x. is_end (next_step (program_of s) x)) (sym is) ∙ at_end s a f p q)))
 
   -- it is within its limits, however it stands
-  stood_held : (n : ℕ) (e : Ending) → n ≤ 1 → (is_running e ≡ true → (0 < n) × (f.next < f.count)) → WellFormed s (record { core = stood_as (begun level stamp f) n e Nil; waiting = ws })
+  stood_held : (n : ℕ) (e : Ending) → n ≤ 1 → (is_running e ≡ true → (0 < n) × (f.next < f.count)) → WellFormed s (record { core = stood_as (begun level stamp f) n e None; waiting = ws })
   stood_held n e low live =
       record {
         level = h.placed;

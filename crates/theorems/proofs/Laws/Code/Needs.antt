@@ -10,7 +10,7 @@ use Rattle.session.specs.Parts.{level_count}
 use Rattle.session.specs.Questions.{verdict_of, Accepted}
 use Rattle.session.specs.Meaning.{Numbered}
 use Rattle.session.specs.Program.{program_of}
-use Rattle.session.specs.declared.Value.{Value}
+use Rattle.session.specs.Value.{Value}
 use Rattle.session.specs.declared.Message.{Message}
 use Rattle.scripts.specs.Limits.{max_writes, max_forks}
 use Rattle.scripts.specs.Existence.{existence}

@@ -11,7 +11,7 @@ use lib.Dec.{eqb}
 use lib.ListN.{length, get_or}
 use Rattle.lists.proofs.Laws.Range.{not_both}
 use Rattle.session.specs.Program.{Program}
-use Rattle.session.specs.declared.Value.{Value}
+use Rattle.session.specs.Value.{Value}
 use Rattle.scripts.specs.Existence.{initially}
 use Rattle.scripts.specs.Ending.{is_running}
 use Rattle.scripts.specs.Manager.{stepped}

@@ -9,7 +9,7 @@ use borrow.Author.Tests.{le-leb, lt-ltb, ltb-true, ltb-false}
 use lib.Dec.{eqb, leb, ltb}
 use lib.ListN.{length, take}
 use Rattle.lists.specs.Lists.{select}
-use Rattle.session.specs.declared.Value.{Value}
+use Rattle.session.specs.Value.{Value}
 use Rattle.model.specs.Limits.{max_managers}
 use Rattle.lists.specs.Changed.{inserted, last_or}
 use Rattle.model.specs.Fork.{Fork}

@@ -9,7 +9,7 @@ use borrow.Author.Tests.{eqb-true, ltb-true}
 use lib.Dec.{eqb, leb, ltb}
 use Rattle.lists.proofs.Laws.Range.{and_left, and_right}
 use Rattle.session.specs.Program.{Program, seen_by}
-use Rattle.session.specs.declared.Value.{Value}
+use Rattle.session.specs.Value.{Value}
 use Rattle.lists.proofs.Laws.Lists.{holds, fails, truth}
 use Rattle.scripts.specs.Existence.{existence, initially}
 use Rattle.scripts.specs.Value.{number_in}

@@ -13,8 +13,8 @@ use Rattle.session.specs.Limits.{max_objects, made_objects}
 use Rattle.lists.specs.Lists.{tab}
 use Rattle.session.specs.Meaning.{made_number}
 use Rattle.session.specs.Program.{Program}
-use Rattle.session.specs.declared.Value.{Value}
-use Rattle.session.specs.declared.Value.TheVariants.{Nil, Number}
+use Rattle.session.specs.Value.{Value}
+use Rattle.std.specs.Prelude.{None, Some}
 use Rattle.lists.proofs.Laws.Lists.{holds, fails, truth}
 use Rattle.lists.proofs.Laws.Fill.{tab_more}
 use Rattle.scripts.specs.Existence.{existence, initially, is_there, is_unmade, used_of, withdrawn}
@@ -47,7 +47,7 @@ existence_in p vs o = newest (initially p o existence) o existence vs
 -- a version at level l in front of older ones: it is of a field, or it makes the level's next object, or it withdraws one that is there
 pub data Fitting (p : Program) (l : ℕ) (w : Version) (vs : List Version) : Type 0 where
   other : (w.field ≡ existence → ⊥) → Fitting p l w vs
-  makes : (k : ℕ) → w.field ≡ existence → w.value ≡ Number (suc k) → w.object ≡ made_number l (makings vs) → makings vs < made_objects → Fitting p l w vs
+  makes : (k : ℕ) → w.field ≡ existence → w.value ≡ Some (suc k) → w.object ≡ made_number l (makings vs) → makings vs < made_objects → Fitting p l w vs
   withdraws : w.field ≡ existence → w.value ≡ withdrawn → is_there (existence_in p vs w.object) ≡ true → Fitting p l w vs
 
 unfoldable pub Handed : Program → ℕ → List Version → Type 0
@@ -58,7 +58,7 @@ Handed p l (w ∷ vs) = Fitting p l w vs × Handed p l vs
 field_makes_none : (w : Version) → (w.field ≡ existence → ⊥) → is_making w ≡ false
 field_makes_none w n = rw (ne_eqb w.field existence n) refl
 
-there_makes : (w : Version) (k : ℕ) → w.field ≡ existence → w.value ≡ Number (suc k) → is_making w ≡ true
+there_makes : (w : Version) (k : ℕ) → w.field ≡ existence → w.value ≡ Some (suc k) → is_making w ≡ true
 there_makes w k e v = rw (e, v) (ap not (ne_eqb (suc k) 0 (omega arith)))
 
 withdrawn_makes_none : (w : Version) → w.field ≡ existence → w.value ≡ withdrawn → is_making w ≡ false
@@ -101,8 +101,8 @@ found_field i o w vs n = elim (truth (eqb w.object o)) [
 
 -- an object that is there was made
 there_made : (v : Value) → is_there v ≡ true → is_unmade v ≡ false
-there_made Nil e = absurd (not_both false e refl)
-there_made (Number n) e = refl
+there_made None e = absurd (not_both false e refl)
+there_made (Some n) e = refl
 
 module _ (p : Program) (l : ℕ) (few : p.objects ≤ max_objects) where
   -- of the level's numbers those are unmade that are still to come

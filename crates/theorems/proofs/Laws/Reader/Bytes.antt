@@ -14,7 +14,7 @@ use Rattle.lists.specs.Lists.{every, select, tab, joined}
 use Rattle.session.specs.Record.{Record, records_of, byte_of, kind_of}
 use Rattle.session.specs.Parts.{of_kind}
 use Rattle.session.specs.Program.{Program}
-use Rattle.session.specs.declared.Value.{Value}
+use Rattle.session.specs.Value.{Value}
 use Rattle.lists.proofs.Laws.Lists.{holds, fails, truth, select-all, select_none}
 use Rattle.lists.proofs.Laws.Choice.{every_then, chosen_groups}
 use Rattle.session.proofs.Laws.Whole.{whole, records_joined}

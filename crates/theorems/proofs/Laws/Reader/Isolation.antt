@@ -14,7 +14,7 @@ use Rattle.session.specs.Questions.{verdict_of, Accepted}
 use Rattle.session.specs.Meaning.{root_of}
 use Rattle.session.specs.Emptied.{emptied}
 use Rattle.session.specs.Program.{Program, program_of, seen_by}
-use Rattle.session.specs.declared.Value.TheVariants.{Nil}
+use Rattle.std.specs.Prelude.{None}
 use Rattle.session.specs.declared.Step.TheVariants.{End}
 use Rattle.session.specs.declared.Message.{Message}
 use Rattle.lists.proofs.Laws.Lists.{holds, fails, truth}
@@ -62,7 +62,7 @@ seen_twice p c l so hc hl d =
       dom = p.dom;
       objects = p.objects;
       level = p.level;
-      field = λ o k. twice (p.dom l (p.level o)) (p.dom c (p.level o)) (p.field o k) Nil (through o) i;
+      field = λ o k. twice (p.dom l (p.level o)) (p.dom c (p.level o)) (p.field o k) None (through o) i;
       step = λ o m j. twice (p.dom l (p.level o)) (p.dom c (p.level o)) (p.step o m j) End (through o) i;
     }
   where

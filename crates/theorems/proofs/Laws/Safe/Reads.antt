@@ -11,7 +11,7 @@ use lib.Dec.{eqb, leb, ltb}
 use lib.ListN.{get_or}
 use Rattle.lists.specs.Lists.{select}
 use Rattle.session.specs.Program.{Program}
-use Rattle.session.specs.declared.Value.{Value}
+use Rattle.session.specs.Value.{Value}
 use Rattle.lists.proofs.Laws.Lists.{Truth, holds, fails, truth, select_no}
 use Rattle.lists.specs.Changed.{inserted, last_or}
 use Rattle.model.specs.Fork.{Fork}
