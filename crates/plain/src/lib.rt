@@ -13,12 +13,7 @@ use tallies::WAITING;
 
 // Makes the steps of a level that may step by the conservative rule until all its managers have ended. It may
 // until then: no level below it gets a manager, since a fork goes to one that strictly dominates this one.
-fn run_level(
-    session: &Session,
-    state: &mut RunState,
-    work: &mut [u32],
-    level: usize,
-)
+fn run_level(session: &Session, state: &mut RunState, work: &mut [u32], level: usize)
     requires { LevelReady session.now.bytes.now (words_of state.old work.old) level }
     ensures { LevelDone session.now.bytes.now (words_of state.old work.old) (words_of state.new work.new) level }
 {
@@ -28,11 +23,7 @@ fn run_level(
 }
 
 // Makes scheduler steps from the session as read in until all managers have ended.
-pub fn run(
-    session: &Session,
-    state: &mut RunState,
-    work: &mut [u32],
-)
+pub fn run(session: &Session, state: &mut RunState, work: &mut [u32])
     requires { Quiescent session.now.bytes.now (words_of state.old work.old) (initial_state session.now.bytes.now) }
     ensures { Done session.now.bytes.now (words_of state.new work.new) × SameRest work.old work.new }
 {
