@@ -13,12 +13,7 @@ use scripts::MAX_SCRIPT_STEPS;
 // Starts the fork of smallest stamp that waits at a level that may step, and makes the steps of its manager
 // until that has ended. Nobody else steps meanwhile, and the manager writes at its own level alone: what it has
 // read elsewhere it would read again, so that is kept in `cache`.
-pub fn run_next(
-    session: &Session,
-    state: &mut RunState,
-    work: &mut [u32],
-    level: usize,
-)
+pub fn run_next(session: &Session, state: &mut RunState, work: &mut [u32], level: usize)
     requires { NextReady session.now.bytes.now (words_of state.old work.old) level }
     ensures { NextDone session.now.bytes.now (words_of state.old work.old) (words_of state.new work.new) level }
 {
@@ -46,9 +41,7 @@ pub fn run_next(
                 level_reads::answer_existence(session, state, work, &mut cache, level, object);
                 continue;
             }
-            level_reads::answer_read(
-                session, state, work, &mut cache, level, object, field,
-            );
+            level_reads::answer_read(session, state, work, &mut cache, level, object, field);
             continue;
         }
         if let Effect::Change = effect {
