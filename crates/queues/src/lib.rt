@@ -39,11 +39,6 @@ pub const FORK_WORDS: usize = CARRIED + MAX_LEVELS;
 
 pub const QUEUE_WORDS: usize = FORK_WORDS * (MAX_MANAGERS * MAX_LEVELS);
 
-// How many numbers fit in 8 bits, and how many in 16.
-const BYTES: u32 = 256;
-
-const HALVES: u32 = 65536;
-
 // The digits of a fork stamp after the first, stampDigits, and the bits of a digit.
 const STAMP_DIGITS: u32 = 7;
 
@@ -85,7 +80,7 @@ pub fn depth_at(queue: &[u32], level: usize, i: usize) -> u8
     requires { There queue.now level i }
     ensures { (n : ℕ) → (fork_at n queue.now level i).depth ≡ result }
 {
-    (queue[place_of(level, i) + DEPTH] % BYTES) as u8
+    (queue[place_of(level, i) + DEPTH] & 0xff) as u8
 }
 
 // Its message.
@@ -96,8 +91,8 @@ pub fn message_at(queue: &[u32], level: usize, i: usize) -> Message
     let at = place_of(level, i);
     let parameter = values::value_of(queue[at + TAG], queue[at + NUMBER]);
     Message {
-        object: (queue[at + OBJECT] % BYTES) as u8,
-        name: (queue[at + NAME] % BYTES) as u8,
+        object: (queue[at + OBJECT] & 0xff) as u8,
+        name: (queue[at + NAME] & 0xff) as u8,
         parameter,
     }
 }
@@ -107,7 +102,7 @@ pub fn carried_at(queue: &[u32], level: usize, i: usize, j: usize) -> u16
     requires { There queue.now level i × (j < max_levels) }
     ensures { (n : ℕ) → j < n → get_or (fork_at n queue.now level i).carried j 0 ≡ result }
 {
-    (queue[place_of(level, i) + CARRIED + j] % HALVES) as u16
+    (queue[place_of(level, i) + CARRIED + j] & 0xffff) as u16
 }
 
 // The fork stamp of the next child of a manager that has made `forks`.
@@ -152,10 +147,8 @@ pub fn child_row(
     ensures { (result ≡ row_of_child queue.now level i stamp depth carried message) × ChildRow queue.now level i stamp depth carried message result }
 {
     let mut row = row_of(stamp, depth, message);
-    let at = place_of(level, i);
-    for j in 0..MAX_LEVELS {
-        row[CARRIED + j] = queue[at + CARRIED + j];
-    }
+    let from = place_of(level, i) + CARRIED;
+    row[CARRIED..].copy_from_slice(&queue[from..from + MAX_LEVELS]);
     row[CARRIED + level] = carried as u32;
     row
 }

@@ -1,16 +1,19 @@
 -- A fork's row, made: the root's, and a child's, which carries what its parent carries. Assumes nothing.
-use Prim.Native.Nat.{ℕ, zero, suc, ◌+◌, ◌%◌, ◌^◌, ◌<◌}
+use Prim.Native.Nat.{ℕ, zero, suc, ◌+◌, ◌%◌, ◌^◌, ◌<◌, ◌≤◌}
 use mathlib.Core.Path.{◌≡◌, refl, sym, ◌∙◌, ap, ap₂}
-use mathlib.Core.List.{List, ◌∷◌, ◌++◌}
+use mathlib.Core.List.{List, ◌∷◌}
 use native.Mathlib.Omega.{arith}
 use native.Mathlib.Nat.{mod-eq_of_lt}
-use lib.ListN.{length, get_or, set, drop, replicate, length-set, get_or-replicate}
-use lib.Seq.{get_or-set_same, get_or-set_other, get_or-drop}
+use lib.ListN.{length, get_or, set, take, drop, replicate, length-set, length-drop, get_or-replicate}
+use lib.Seq.{get_or-set_same, get_or-set_other, get_or-drop, ext_get_or, length-take-le}
+use Rattle.std.proofs.Common.{append-nil}
+use Rattle.std.proofs.lemmas.List.{get_or-take}
+use borrow.Rule.Slice.PartMut.{put_mid}
 use Rattle.session.specs.Limits.{max_levels}
 use Rattle.lists.specs.Lists.{tab}
 use Rattle.session.specs.declared.Message.{Message}
 use Rattle.lists.proofs.Laws.Lists.{length-tab, get_d_tab}
-use Rattle.lists.proofs.Laws.Fill.{tab_ext, tab_fill_none, tab_fill_more}
+use Rattle.lists.proofs.Laws.Fill.{tab_ext}
 use Rattle.fields.proofs.Laws.Fields.{value_back}
 use Rattle.rows.specs.Rows.{row_at, key_of}
 use Rattle.queues.specs.Queue.{carried_place, fork_words, fork_place, fork_of_row, row_with, row_of, carried_at, row_of_child, fork_at, RootRow, ChildRow}
@@ -62,26 +65,24 @@ root_row message fits n h =
     ∙ ap (λ seen. record { stamp = 0; depth = 0; carried = seen; message = message })
     (tab_same n 0 (λ j. get_or (replicate max_levels 0) j 0 % 2 ^ 16) (λ j l. ap (λ w. w % 2 ^ 16) (get_or-replicate max_levels j 0 0 (omega arith))))
 
--- the row of a fork of the manager of fork i of level l, whose words start at a place: with the first j of those that it carries
-module _ (ws : List ℕ) (l i stamp depth : ℕ) (message : Message) where
-  abbrev word : ℕ → ℕ
-  word j = get_or ws (fork_place l i + carried_place + j) 0
+-- the words from a place on, cut out of a list
+row_cut : (ws : List ℕ) (at n : ℕ) → at + n ≤ length ws → take n (drop at ws) ≡ row_at ws at n
+unfolding row_at
+row_cut ws at n h =
+    let word = λ (k : ℕ). get_or ws (at + k) 0 in
+    let l : length (take n (drop at ws)) ≡ n = length-take-le n (drop at ws) (omega (arith, length-drop at ws)) in
+    ext_get_or 0 (take n (drop at ws)) (tab n word) (l ∙ sym (length-tab n word))
+    (λ k m.
+    let k' : k < n = omega arith in
+    get_or-take n (drop at ws) k 0 k' ∙ get_or-drop at ws k 0 ∙ sym (get_d_tab 0 n word k k'))
 
-  abbrev pub part_row : ℕ → List ℕ
-  part_row j = row_with stamp depth message (tab j word ++ drop j (replicate max_levels 0))
-
-  -- none yet, one more, all
-  pub part_none : row_of stamp depth message ≡ part_row 0
-  part_none = ap (row_with stamp depth message) (tab_fill_none word (replicate max_levels 0))
-
-  pub part_more : (j : ℕ) → j < max_levels → set (part_row j) (carried_place + j) (word j) ≡ part_row (j + 1)
-  part_more j h =
-      set_carried stamp depth message (tab j word ++ drop j (replicate max_levels 0)) j (word j)
-      ∙ ap (row_with stamp depth message) (tab_fill_more j word (replicate max_levels 0) h)
-
-  pub part_all : part_row max_levels ≡ row_with stamp depth message (carried_at ws l i)
-  unfolding row_at tab
-  part_all = refl
+-- a row of a fork that carries nothing, with the words that the manager of fork i of level l carries copied into it
+pub carried_copied : (ws : List ℕ) (l i stamp depth : ℕ) (message : Message) (row part : List ℕ) (at n : ℕ) → fork_place l i + fork_words ≤ length ws
+    → row ≡ row_of stamp depth message → part ≡ take n (drop at ws) → at ≡ fork_place l i + carried_place → n ≡ max_levels
+    → put_mid carried_place max_levels row part ≡ row_with stamp depth message (carried_at ws l i)
+carried_copied ws l i stamp depth message row part at n h e f p q =
+    let cut : part ≡ carried_at ws l i = rw (p, q) at f ∙ row_cut ws (fork_place l i + carried_place) max_levels (omega arith) in
+    rw (e, cut) (ap (row_with stamp depth message) (append-nil (carried_at ws l i)))
 
 -- a child's row holds its fork
 pub child_row : (ws : List ℕ) (l i stamp depth carried : ℕ) (message : Message) → l < max_levels → Fits depth message → carried < 2 ^ 16
