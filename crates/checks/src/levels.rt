@@ -15,12 +15,7 @@ fn is_numbered(session: &[u8], first: usize, count: usize) -> bool
     requires { first + count ≤ record_count session.now }
     ensures { result ≡ all count (λ i. eqb (number_of (record_at session.now (first + i))) i) }
 {
-    for i in 0..count {
-        if record::byte_at(session, first + i, places::NUMBER) as usize != i {
-            return false;
-        }
-    }
-    true
+    (0..count).all(|i| record::byte_at(session, first + i, places::NUMBER) as usize == i)
 }
 
 // Whether the unnamed bytes of the first `count` records, which are levels, are 0.
@@ -28,36 +23,22 @@ fn is_padded(session: &[u8], count: usize) -> bool
     requires { count ≤ record_count session.now }
     ensures { result ≡ all count (λ i. zero_at (from 3) (record_at session.now i)) }
 {
-    for i in 0..count {
-        if !record::are_unused(session, i, masks::FROM_MASK_END, masks::ALL) {
-            return false;
-        }
-    }
-    true
+    (0..count).all(|i| record::are_unused(session, i, masks::FROM_MASK_END, masks::ALL))
 }
 
 // Question 3, of a session whose kinds never fall.
+#[tactic(auto, using(crate::proofs::Laws::Counted::question3_is))]
 pub fn are_numbered(session: &[u8], levels: usize, objects: usize, steps: usize) -> bool
     requires session_value { kinds_rise session.now ≡ true }
     requires counted { Counted session.now levels objects steps }
     ensures { result ≡ question3 session.now }
 {
-    if MAX_LEVELS < levels {
-        return false;
-    }
-    if MAX_OBJECTS < objects {
-        return false;
-    }
-    if MAX_STEPS < steps {
-        return false;
-    }
-    if !is_numbered(session, 0, levels) {
-        return false;
-    }
-    if !is_numbered(session, levels, objects) {
-        return false;
-    }
-    is_padded(session, levels)
+    levels <= MAX_LEVELS
+        && objects <= MAX_OBJECTS
+        && steps <= MAX_STEPS
+        && is_numbered(session, 0, levels)
+        && is_numbered(session, levels, objects)
+        && is_padded(session, levels)
 }
 
 // Writes the masks of the first `levels` records, which are levels, to the front of `masks`.

@@ -14,35 +14,24 @@ fn is_field_valid(session: &[u8], r: usize, k: usize) -> bool
     ensures { result ≡ field_valid (record_at session.now r) k }
 {
     let mask = record::byte_at(session, r, places::FIELD_MASK);
-    if (mask >> k) % 2 == 1 {
-        true
-    } else {
-        record::are_unused(
+    (mask >> k) % 2 == 1
+        || record::are_unused(
             session,
             r,
             masks::FIRST_OF_FIELD[k],
             masks::SECOND_OF_FIELD[k],
         )
-    }
 }
 
 // Whether the object in record `r` is valid among so many levels.
+#[tactic(auto, unfolding(session::specs::Questions::object_valid))]
 fn is_valid(session: &[u8], r: usize, levels: usize) -> bool
     requires { r < record_count session.now }
     ensures { result ≡ object_valid levels (record_at session.now r) }
 {
-    if levels <= record::byte_at(session, r, places::LEVEL) as usize {
-        return false;
-    }
-    if FIELD_MASKS <= record::byte_at(session, r, places::FIELD_MASK) {
-        return false;
-    }
-    for k in 0..FIELDS {
-        if !is_field_valid(session, r, k) {
-            return false;
-        }
-    }
-    true
+    (record::byte_at(session, r, places::LEVEL) as usize) < levels
+        && record::byte_at(session, r, places::FIELD_MASK) < FIELD_MASKS
+        && (0..FIELDS).all(|k| is_field_valid(session, r, k))
 }
 
 // Whether the `count` objects from record `first` on are valid among so many levels.
@@ -50,10 +39,5 @@ pub fn are_valid(session: &[u8], first: usize, count: usize, levels: usize) -> b
     requires { first + count ≤ record_count session.now }
     ensures { result ≡ all count (λ i. object_valid levels (record_at session.now (first + i))) }
 {
-    for i in 0..count {
-        if !is_valid(session, first + i, levels) {
-            return false;
-        }
-    }
-    true
+    (0..count).all(|i| is_valid(session, first + i, levels))
 }

@@ -11,29 +11,19 @@ fn is_parameter_valid(session: &[u8], r: usize) -> bool
     requires { r < record_count session.now }
     ensures { result ≡ (eqb (byte_of (record_at session.now r) 3) 1 || zero_at (between 4 8) (record_at session.now r)) }
 {
-    if record::byte_at(session, r, places::TAG) == places::NUMBER_TAG {
-        true
-    } else {
-        record::are_unused(session, r, masks::FROM_PARAMETER, masks::NONE)
-    }
+    record::byte_at(session, r, places::TAG) == places::NUMBER_TAG
+        || record::are_unused(session, r, masks::FROM_PARAMETER, masks::NONE)
 }
 
 // Whether the root message in record `r` is valid among so many objects.
+#[tactic(auto, unfolding(session::specs::Questions::root_valid, session_records::specs::Words::joined_from, session_records::specs::Words::kept, lists::specs::Lists::tab))]
 pub fn is_valid(session: &[u8], r: usize, objects: usize) -> bool
     requires { r < record_count session.now }
     ensures { result ≡ root_valid objects (record_at session.now r) }
 {
-    if objects <= record::byte_at(session, r, places::OBJECT) as usize {
-        return false;
-    }
-    if NAME_COUNT <= record::byte_at(session, r, places::NAME) {
-        return false;
-    }
-    if places::NUMBER_TAG < record::byte_at(session, r, places::TAG) {
-        return false;
-    }
-    if !is_parameter_valid(session, r) {
-        return false;
-    }
-    record::are_unused(session, r, masks::NONE, masks::ALL)
+    (record::byte_at(session, r, places::OBJECT) as usize) < objects
+        && record::byte_at(session, r, places::NAME) < NAME_COUNT
+        && record::byte_at(session, r, places::TAG) <= places::NUMBER_TAG
+        && is_parameter_valid(session, r)
+        && record::are_unused(session, r, masks::NONE, masks::ALL)
 }

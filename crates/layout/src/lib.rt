@@ -2,21 +2,23 @@
 // wrote.
 #![tactic(auto)]
 
-ghost use Rattle.std.specs.Prelude.{◌+◌, ◌^◌, ◌≤◌, ◌<◌, ◌≡◌, [], ◌∷◌, length, replicate};
+ghost use Rattle.std.specs.Prelude.{◌+◌, ◌^◌, ◌≤◌, ◌<◌, ◌≡◌, length, replicate};
 ghost use Rattle.session.specs.Limits.{record_bytes, max_levels};
 ghost use Rattle.lists.specs.Lists.{tab, joined};
-ghost use Rattle.session.specs.Record.{record_at, record_count, byte_of, word_of};
+ghost use Rattle.session.specs.Record.{record_at, record_count};
 ghost use Rattle.model.specs.Limits.{line_bytes, result_bytes};
 ghost use Rattle.model.specs.Result.{half_of};
 ghost use Rattle.lists.specs.Placed.{Placed, Written};
-ghost use Rattle.text.specs.Text.{blank, digit_of, hex_in, aligned_in, field_in, apart_in, front_of, line_of, word_columns, total_line, average_line, page_of, front_bytes};
+ghost use Rattle.text.specs.Text.{blank, hex_in, aligned_in, field_in, apart_in, front_of, line_of, total_line, average_line, page_of, front_bytes};
 ghost use Rattle.layout.specs.Shown.{shown_line, shown_steps, Tallied, shown_average, average_in};
 
+use ascii::{digit, put, put_all};
 use model::LINE_BYTES;
 use session::limits::{MAX_LEVELS, RECORD_BYTES};
+use session_records::record;
 
 // The kind of a history's record, and where its numbers stand in it.
-const HISTORY: u32 = 6;
+const HISTORY: u8 = 6;
 
 const KIND: usize = 0;
 
@@ -33,11 +35,6 @@ const FIRST: usize = 8;
 const LAST: usize = 10;
 
 const STEPS: usize = 12;
-
-// "Numbers are little-endian": what the second and the third byte of a number are worth.
-const SECOND: u32 = 1 << 8;
-
-const THIRD: u32 = 1 << 16;
 
 // How many columns each number has, and the word of a line that is not a history's.
 const STAMP_PLACES: usize = 8;
@@ -68,34 +65,17 @@ const QUOTIENT_GAP: usize = 17 - 8;
 
 const REMAINDER_GAP: usize = 25 - 20;
 
-// The digit of a number below 16, in upper case.
-fn digit(n: u32) -> u8
-    requires { n < 16 }
-    ensures { result ≡ digit_of n }
-{
-    let d = n as u8;
-    if d < 10 { b'0' + d } else { b'A' + (d - 10) }
-}
-
-// Writes one character.
-fn put(page: &mut [u8], at: usize, character: u8) -> usize
-    requires { at < length page.old }
-    ensures { Placed (character ∷ []) at page.old page.new result }
-{
-    page[at] = character;
-    at + 1
-}
+// The digit of ten: the digits are in upper case.
+const TEN: u8 = b'A';
 
 // Writes blanks.
 fn put_blanks(page: &mut [u8], at: usize, count: usize) -> usize
     requires { at + count ≤ length page.old }
     ensures { Placed (replicate count blank) at page.old page.new result }
 {
-    let mut next = at;
-    for _i in 0..count {
-        next = put(page, next, b' ');
-    }
-    next
+    let end = at + count;
+    page[at..end].fill(b' ');
+    end
 }
 
 // Writes the last hexadecimal digits of a number, as many as there are places.
@@ -107,7 +87,7 @@ fn put_hex(page: &mut [u8], at: usize, places: usize, n: u32) -> usize
         return at;
     }
     let next = put_hex(page, at, places - 1, n / 16);
-    put(page, next, digit(n % 16))
+    put(page, next, digit((n % 16) as u8, TEN))
 }
 
 // Writes a number in decimal, right-aligned in its columns.
@@ -120,10 +100,10 @@ fn put_aligned(page: &mut [u8], at: usize, columns: usize, n: u32) -> usize
     }
     if n < 10 {
         let next = put_blanks(page, at, columns - 1);
-        return put(page, next, digit(n));
+        return put(page, next, digit(n as u8, TEN));
     }
     let next = put_aligned(page, at, columns - 1, n / 10);
-    put(page, next, digit(n % 10))
+    put(page, next, digit((n % 10) as u8, TEN))
 }
 
 // Writes a number behind a blank.
@@ -144,50 +124,27 @@ fn put_apart(page: &mut [u8], at: usize, gap: usize, columns: usize, n: u32) -> 
     put_aligned(page, next, columns, n)
 }
 
-// A byte as a number of 32 bits.
-fn wide(byte: u8) -> u32
-    ensures { (result ≡ byte) × (result < 2 ^ 8) }
-{
-    byte as u32
-}
-
-// Byte `k` of a record of some bytes, by its number.
-fn byte_in(bytes: &[u8], number: usize, k: usize) -> u32
-    requires { (number < record_count bytes.now) × (k < record_bytes) }
-    ensures { (result ≡ byte_of (record_at bytes.now number) k) × (result < 2 ^ 8) }
-{
-    wide(bytes[RECORD_BYTES * number + k])
-}
-
-// The number of 16 bits in its bytes from `k` on.
+// The number of 16 bits in the bytes from `k` on of a record of some bytes, by its number. "Numbers are little-endian".
 fn half_in(bytes: &[u8], number: usize, k: usize) -> u32
     requires { (number < record_count bytes.now) × (k + 2 ≤ record_bytes) }
     ensures { (result ≡ half_of (record_at bytes.now number) k) × (result < 2 ^ 16) }
 {
-    let low = byte_in(bytes, number, k);
-    let high = byte_in(bytes, number, k + 1);
-    low + SECOND * high
-}
-
-// The number of 32 bits in its bytes from `k` on.
-fn word_in(bytes: &[u8], number: usize, k: usize) -> u32
-    requires { (number < record_count bytes.now) × (k + 4 ≤ record_bytes) }
-    ensures { result ≡ word_of (record_at bytes.now number) k }
-{
-    let low = half_in(bytes, number, k);
-    let high = half_in(bytes, number, k + 2);
-    low + THIRD * high
+    u16::from_le_bytes([
+        record::byte_at(bytes, number, k),
+        record::byte_at(bytes, number, k + 1),
+    ]) as u32
 }
 
 // Writes the fork stamp, the level, the ending and the writes of a history.
+#[tactic(auto, using(text::proofs::Laws::Lengths::hex_length, text::proofs::Laws::Lengths::aligned_length))]
 fn put_front(page: &mut [u8], at: usize, bytes: &[u8], number: usize) -> usize
     requires { (at + front_bytes ≤ length page.old) × (number < record_count bytes.now) }
     ensures { Placed (front_of (record_at bytes.now number)) at page.old page.new result }
 {
-    let stamp = word_in(bytes, number, STAMP);
-    let level = byte_in(bytes, number, LEVEL);
-    let ending = byte_in(bytes, number, ENDING);
-    let writes = byte_in(bytes, number, WRITES);
+    let stamp = record::word_at(bytes, number, STAMP);
+    let level = record::byte_at(bytes, number, LEVEL) as u32;
+    let ending = record::byte_at(bytes, number, ENDING) as u32;
+    let writes = record::byte_at(bytes, number, WRITES) as u32;
     let second = put_hex(page, at, STAMP_PLACES, stamp);
     let third = put_field(page, second, LEVEL_COLUMNS, level);
     let fourth = put_field(page, third, ENDING_COLUMNS, ending);
@@ -195,6 +152,7 @@ fn put_front(page: &mut [u8], at: usize, bytes: &[u8], number: usize) -> usize
 }
 
 // Writes the line of a history.
+#[tactic(auto, using(text::proofs::Laws::Lengths::aligned_length, text::proofs::Laws::Lengths::front_length))]
 fn put_line(page: &mut [u8], at: usize, bytes: &[u8], number: usize) -> usize
     requires { (at + line_bytes ≤ length page.old) × (number < record_count bytes.now) }
     ensures { Placed (line_of (record_at bytes.now number)) at page.old page.new result }
@@ -209,34 +167,23 @@ fn put_line(page: &mut [u8], at: usize, bytes: &[u8], number: usize) -> usize
     put(page, end, b'\n')
 }
 
-// Writes the word of a line.
-fn put_word(page: &mut [u8], at: usize, word: &[u8; WORD_COLUMNS]) -> usize
-    requires { (length word.now ≡ word_columns) × (at + word_columns ≤ length page.old) }
-    ensures { Placed word.now at page.old page.new result }
-{
-    let mut next = at;
-    for i in 0..WORD_COLUMNS {
-        next = put(page, next, word[i]);
-    }
-    next
-}
-
 // Writes the line of the total.
 fn put_total(page: &mut [u8], at: usize, total: u32) -> usize
     requires { at + line_bytes ≤ length page.old }
     ensures { Placed (total_line total) at page.old page.new result }
 {
-    let second = put_word(page, at, b"TOTAL");
+    let second = put_all(page, at, b"TOTAL");
     let end = put_apart(page, second, TOTAL_GAP, TOTAL_COLUMNS, total);
     put(page, end, b'\n')
 }
 
 // Writes the line of a level.
+#[tactic(auto, using(text::proofs::Laws::Lengths::aligned_length, text::proofs::Laws::Lengths::apart_length))]
 fn put_average(page: &mut [u8], at: usize, level: u32, quotient: u32, remainder: u32) -> usize
     requires { at + line_bytes ≤ length page.old }
     ensures { Placed (average_line level quotient remainder) at page.old page.new result }
 {
-    let second = put_word(page, at, b"LEVEL");
+    let second = put_all(page, at, b"LEVEL");
     let third = put_field(page, second, LEVEL_COLUMNS, level);
     let fourth = put_apart(page, third, QUOTIENT_GAP, QUOTIENT_COLUMNS, quotient);
     let end = put_apart(page, fourth, REMAINDER_GAP, REMAINDER_COLUMNS, remainder);
@@ -248,7 +195,7 @@ fn put_shown(page: &mut [u8], at: usize, bytes: &[u8], number: usize) -> usize
     requires { (at + length (shown_line (record_at bytes.now number)) ≤ length page.old) × (number < record_count bytes.now) }
     ensures { Placed (shown_line (record_at bytes.now number)) at page.old page.new result }
 {
-    if byte_in(bytes, number, KIND) != HISTORY {
+    if record::byte_at(bytes, number, KIND) != HISTORY {
         return at;
     }
     put_line(page, at, bytes, number)
@@ -259,7 +206,7 @@ fn steps_shown(bytes: &[u8], number: usize) -> u32
     requires { number < record_count bytes.now }
     ensures { (result ≡ shown_steps (record_at bytes.now number)) × (result < 2 ^ 16) }
 {
-    if byte_in(bytes, number, KIND) != HISTORY {
+    if record::byte_at(bytes, number, KIND) != HISTORY {
         return 0;
     }
     half_in(bytes, number, STEPS)
@@ -276,10 +223,10 @@ fn tally(
     requires { Tallied bytes.now number steps.old managers.old × (number < record_count bytes.now) × (length bytes.now ≤ result_bytes) }
     ensures { Tallied bytes.now (number + 1) steps.new managers.new }
 {
-    if byte_in(bytes, number, KIND) != HISTORY {
+    if record::byte_at(bytes, number, KIND) != HISTORY {
         return;
     }
-    let level = byte_in(bytes, number, LEVEL) as usize;
+    let level = record::byte_at(bytes, number, LEVEL) as usize;
     if level >= MAX_LEVELS {
         return;
     }

@@ -2,12 +2,12 @@
 // returns the place behind what it wrote.
 #![tactic(auto)]
 
-ghost use Rattle.std.specs.Prelude.{◌+◌, ◌*◌, ◌≤◌, ◌<◌, ◌≡◌, [], ◌∷◌, length};
-ghost use Rattle.io.specs.Digits.{hex_digit_ascii};
+ghost use Rattle.std.specs.Prelude.{◌+◌, ◌*◌, ◌≤◌, ◌<◌, ◌≡◌, length};
 ghost use Rattle.session.specs.Record.{record_at, record_count};
 ghost use Rattle.lists.specs.Placed.{Placed, Written};
 ghost use Rattle.text.specs.Lines.{hex_of, line_of, line_size, lines_of, decimal_of, decimal_size, refusal_line, refusal_size};
 
+use ascii::{digit, put, put_all};
 use session::limits::RECORD_BYTES;
 
 // The characters of a record's line: two for each byte, and a line feed.
@@ -16,30 +16,16 @@ pub const LINE_BYTES: usize = 2 * RECORD_BYTES + 1;
 // The most digits of a number of 64 bits, for which io::decimal asks room.
 const DIGITS: usize = 20;
 
-// The digit of a number below 16, in lower case.
-fn digit(n: u8) -> u8
-    requires { n < 16 }
-    ensures { result ≡ hex_digit_ascii n }
-{
-    if n < 10 { b'0' + n } else { b'a' + (n - 10) }
-}
-
-// Writes one character.
-fn put(text: &mut [u8], at: usize, character: u8) -> usize
-    requires { at < length text.old }
-    ensures { Placed (character ∷ []) at text.old text.new result }
-{
-    text[at] = character;
-    at + 1
-}
+// The digit of ten: the digits are in lower case.
+const TEN: u8 = b'a';
 
 // Writes the two hexadecimal digits of a byte.
 fn put_byte(text: &mut [u8], at: usize, byte: u8) -> usize
     requires { at + 2 ≤ length text.old }
     ensures { Placed (hex_of byte) at text.old text.new result }
 {
-    let next = put(text, at, digit(byte / 16));
-    put(text, next, digit(byte % 16))
+    let next = put(text, at, digit(byte / 16, TEN));
+    put(text, next, digit(byte % 16, TEN))
 }
 
 // Writes the line of a record of some bytes, by its number.
@@ -74,10 +60,7 @@ fn put_decimal(text: &mut [u8], at: usize, number: u32) -> usize
 {
     let mut digits = [0u8; DIGITS];
     let count = io::decimal(number as u64, &mut digits);
-    for i in 0..count {
-        text[at + i] = digits[i];
-    }
-    at + count
+    put_all(text, at, &digits[..count])
 }
 
 // Writes the line of a refusal, from the text's start on.

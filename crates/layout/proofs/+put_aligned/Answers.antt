@@ -1,6 +1,6 @@
 use native.Mathlib.Omega.{arith}
 use Rattle.text.proofs.Laws.Lengths.{aligned_length}
-use Rattle.layout.proofs.Laws.Placing.{aligned_none, aligned_few, aligned_more}
+use Rattle.layout.proofs.Laws.Placing.{upper_digit, aligned_none, aligned_few, aligned_more}
 use Prim.Native.Nat.{◌-◌, ◌/◌}
 use Rattle.layout.proofs.+put_aligned.Goals as goal
 
@@ -13,8 +13,8 @@ returns-then-n-lt10 t c =
     let g = c.args in
     let before = c.put_blanks-next in
     let put = c.put in
-    aligned_few g.at before.result put.result g.page.now before.new.page put.new.page g.columns g.n c.if-columns-eq0.false c.if-n-lt10.true before.ensures
-    (rw c.digit.ensures at put.ensures)
+    aligned_few g.at before.result put.result g.page.now before.new.page put.new.text g.columns g.n c.if-columns-eq0.false c.if-n-lt10.true before.ensures
+    (rw (c.digit.ensures, upper_digit) at put.ensures)
 
 pub put-requires-2 : goal.put-requires-2
 put-requires-2 t c =
@@ -26,5 +26,5 @@ returns t c =
     let g = c.args in
     let before = c.put_aligned-next in
     let put = c.put-2 in
-    aligned_more g.at before.result put.result g.page.now before.new.page put.new.page g.columns g.n c.if-columns-eq0.false c.if-n-lt10.false before.ensures
-    (rw c.digit-2.ensures at put.ensures)
+    aligned_more g.at before.result put.result g.page.now before.new.page put.new.text g.columns g.n c.if-columns-eq0.false c.if-n-lt10.false before.ensures
+    (rw (c.digit-2.ensures, upper_digit) at put.ensures)

@@ -1,6 +1,6 @@
 use native.Mathlib.Omega.{arith}
 use Rattle.text.proofs.Laws.Lengths.{hex_length}
-use Rattle.layout.proofs.Laws.Placing.{hex_none, hex_more}
+use Rattle.layout.proofs.Laws.Placing.{upper_digit, hex_none, hex_more}
 use Prim.Native.Nat.{◌-◌, ◌/◌}
 use Rattle.layout.proofs.+put_hex.Goals as goal
 
@@ -18,5 +18,5 @@ returns t c =
     let g = c.args in
     let before = c.put_hex-next in
     let put = c.put in
-    hex_more g.at before.result put.result g.page.now before.new.page put.new.page g.places g.n c.if-places-eq0.false before.ensures
-    (rw c.digit.ensures at put.ensures)
+    hex_more g.at before.result put.result g.page.now before.new.page put.new.text g.places g.n c.if-places-eq0.false before.ensures
+    (rw (c.digit.ensures, upper_digit) at put.ensures)

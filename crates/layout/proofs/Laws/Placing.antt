@@ -1,31 +1,29 @@
--- One character placed, and one more behind blanks, hexadecimal digits and decimals. Assumes nothing.
+-- More placed behind what was, and one character more behind hexadecimal digits and decimals. Assumes nothing.
 use Prim.Native.Nat.{ℕ, zero, suc, ◌+◌, ◌-◌, ◌/◌, ◌%◌, ◌≤◌, ◌<◌}
-use mathlib.Core.Path.{◌≡◌, refl, sym, ◌∙◌}
-use mathlib.Core.List.{List, [], ◌∷◌}
-use native.Mathlib.Numerals.{add-one}
+use mathlib.Core.Path.{◌≡◌, refl}
+use mathlib.Core.List.{List, [], ◌∷◌, ◌++◌}
 use native.Mathlib.Omega.{arith}
-use borrow.Author.Tests.{lt-ltb, le-ltb}
-use lib.ListN.{length, get_or, set, take, drop, replicate, replicate-append-replicate}
-use lib.Seq.{set_split, append_snoc, take-suc}
+use mathlib.Core.Bool.{cond}
+use borrow.Author.Tests.{lt-ltb, le-ltb, ltb-false}
+use lib.Dec.{ltb}
+use Rattle.lists.proofs.Laws.Lists.{holds, fails, truth}
+use lib.ListN.{length, replicate}
 use Rattle.lists.specs.Placed.{Placed}
 use Rattle.lists.proofs.Laws.Placed.{placed_none, placed_then}
 use Rattle.text.specs.Text.{blank, digit_of, hex_in, aligned_in}
 
--- one character stored
-pub placed_one : (character at : ℕ) (b : List ℕ) → at < length b → Placed (character ∷ []) at b (set b at character) (at + 1)
-placed_one character at b h =
-    record {
-      buffer = rw add-one (set_split b at character h ∙ sym (append_snoc (take at b) character (drop (suc at) b)));
-      ends = refl;
-      fits = omega arith;
-    }
+-- a digit, in upper case
+pub upper_digit : (n : ℕ) → cond (ltb n 10) (48 + n) (65 + (n - 10)) ≡ digit_of n
+upper_digit n = elim (truth (ltb n 10)) [
+  | holds e ↦ rw e
+  | fails e ↦ rw e (omega (arith, ltb-false n 10 e))
+]
+
+-- more placed behind what was
+pub placed_next : {b b' b'' bytes more : List ℕ} {at m n : ℕ} → Placed bytes at b b' m → Placed more m b' b'' n → Placed (bytes ++ more) at b b'' n
+placed_next {b} {b'} {b''} {bytes} {more} {at} {m} {n} p q = placed_then b b' bytes at m p b'' more n q
 
 module _ (at m n : ℕ) (b b' b'' : List ℕ) where
-  -- one blank more
-  pub blanks_more : (i : ℕ) → Placed (replicate i blank) at b b' m → Placed (blank ∷ []) m b' b'' n → Placed (replicate (i + 1) blank) at b b'' n
-  blanks_more i p q =
-      rw (sym (replicate-append-replicate i 1 blank)) (placed_then b b' (replicate i blank) at m p b'' (blank ∷ []) n q)
-
   -- one digit more
   pub hex_more : (places x : ℕ) → (places ≡ 0 → ⊥) → Placed (hex_in (places - 1) (x / 16)) at b b' m → Placed (digit_of (x % 16) ∷ []) m b' b'' n
       → Placed (hex_in places x) at b b'' n
@@ -62,7 +60,3 @@ pub aligned_none : (columns x at : ℕ) (b : List ℕ) → columns ≡ 0 → at 
 unfolding aligned_in
 aligned_none zero x at b e h = placed_none at b h
 aligned_none (suc columns) x at b e h = absurd (omega arith)
-
--- one more of some characters
-pub word_more : (word : List ℕ) (i at m n : ℕ) (b b' b'' : List ℕ) → i < length word → Placed (take i word) at b b' m → Placed (get_or word i 0 ∷ []) m b' b'' n → Placed (take (i + 1) word) at b b'' n
-word_more word i at m n b b' b'' h p q = rw (add-one, take-suc word i 0 h) (placed_then b b' (take i word) at m p b'' (get_or word i 0 ∷ []) n q)

@@ -1,13 +1,12 @@
--- Laws of the printed text: one character placed, the lines by number, and decimal digits. Assumes nothing.
+-- Laws of the printed text: the lines by number, and decimal digits. Assumes nothing.
 use Prim.Native.Nat.{ℕ, zero, suc, ◌+◌, ◌*◌, ◌-◌, ◌/◌, ◌%◌, ◌^◌, ◌≤◌, ◌<◌}
-use mathlib.Core.Path.{◌≡◌, refl, sym, ◌∙◌, ap}
+use mathlib.Core.Path.{◌≡◌, refl, ◌∙◌, ap}
 use mathlib.Core.List.{List, [], ◌∷◌, ◌++◌, map}
 use native.Mathlib.Nat.{pow-suc, div-lt_iff_lt-mul, le-div_iff_mul-le}
-use native.Mathlib.Numerals.{add-one}
 use native.Mathlib.Omega.{arith}
 use lib.Dec.{ltb, lit<}
-use lib.ListN.{length, get_or, set, take, drop, length-append, length-drop}
-use lib.Seq.{set_split, append_snoc, length-take-le, paste}
+use lib.ListN.{length, get_or, drop, length-append, length-drop}
+use lib.Seq.{length-take-le}
 use borrow.Author.Tests.{lt-ltb, le-ltb}
 use Rattle.io.specs.Digits.{hex_digit_ascii, last_digits, IsDigitCount}
 use Rattle.lists.specs.Lists.{tab, joined}
@@ -15,22 +14,7 @@ use Rattle.session.specs.Record.{record_at, record_count, records_of}
 use Rattle.lists.proofs.Laws.Lists.{holds, fails, truth}
 use Rattle.lists.proofs.Laws.Fill.{map_is, tab_ext}
 use Rattle.session.proofs.Laws.Record.{byte_is}
-use Rattle.lists.specs.Placed.{Placed}
 use Rattle.text.specs.Lines.{line_feed, hex_of, line_of, lines_of, decimal_in}
-
--- one character stored
-pub placed_one : (character at : ℕ) (b : List ℕ) → at < length b → Placed (character ∷ []) at b (set b at character) (at + 1)
-placed_one character at b h =
-    record {
-      buffer = rw add-one (set_split b at character h ∙ sym (append_snoc (take at b) character (drop (suc at) b)));
-      ends = refl;
-      fits = omega arith;
-    }
-
--- the first bytes of a list copied
-pub placed_front : (bytes : List ℕ) (at n : ℕ) (b b' : List ℕ) → n ≤ length bytes → at + n ≤ length b → b' ≡ paste b at bytes n → Placed (take n bytes) at b b' (at + n)
-placed_front bytes at n b b' h k p =
-    record { buffer = p; ends = ap (λ m. at + m) (sym (length-take-le n bytes h)); fits = k }
 
 -- the digits of byte i of record r of s
 abbrev pub hex_at : List ℕ → ℕ → ℕ → List ℕ

@@ -10,6 +10,7 @@ use Rattle.std.proofs.iter.Yields.{nat_range_steps}
 use Rattle.std.specs.Bool.{MatchBool}
 use Rattle.std.specs.List.{AllWithin, HoldsAt, FoldsTo, range_with_len}
 use Rattle.std.proofs.lemmas.Iterator.{YieldsList, cases_from_all, YieldsList-from_range}
+use Rattle.std.proofs.Math.Nat.{zero-add}
 use Rattle.std.proofs.lemmas.List.FromFn.{length-range_with_len, get_or-range_with_len}
 use mathlib.Core.Path.{◌≡◌, refl, sym}
 use mathlib.Core.Bool.{Bool, true, false}
@@ -30,14 +31,14 @@ every_cases p [] false h = absurd (omega arith)
 every_cases p (x ∷ xs) true h = sym (every-all p x (x ∷ xs) (λ i l. h i x (omega arith) l))
 every_cases p (x ∷ xs) false h = sym (refuted (every p (x ∷ xs)) λ t. not_both (p (get_or (x ∷ xs) h.0 x)) (every_each p x (x ∷ xs) t h.0 h.1) (h.2 x))
 
-all_cases : (p : ℕ → Bool) (a n : ℕ) (r : Bool)
-    → MatchBool r (AllWithin (λ y. p y ≡ true) (range_with_len a n) 0 (length (range_with_len a n))) ((k : ℕ) × (k < length (range_with_len a n)) × HoldsAt (λ y. p y ≡ false) (range_with_len a n) k)
-    → r ≡ all n (λ i. p (a + i))
-all_cases p a n true h =
-    sym (all-every n (λ i. p (a + i)) λ i l. rw (get_or-range_with_len a n i 0 l) at (h i 0 (omega arith) (rw (length-range_with_len a n) l)))
-all_cases p a n false h =
-    let l : h.0 < n = rw (length-range_with_len a n) at h.1 in
-    sym (all_fails n (λ i. p (a + i)) h.0 l (rw (get_or-range_with_len a n h.0 0 l) at (h.2 0)))
+all_cases : (p : ℕ → Bool) (n : ℕ) (r : Bool)
+    → MatchBool r (AllWithin (λ y. p y ≡ true) (range_with_len 0 n) 0 (length (range_with_len 0 n))) ((k : ℕ) × (k < length (range_with_len 0 n)) × HoldsAt (λ y. p y ≡ false) (range_with_len 0 n) k)
+    → r ≡ all n p
+all_cases p n true h =
+    sym (all-every n p λ i l. rw (get_or-range_with_len 0 n i 0 l, zero-add) at (h i 0 (omega arith) (rw (length-range_with_len 0 n) l)))
+all_cases p n false h =
+    let l : h.0 < n = rw (length-range_with_len 0 n) at h.1 in
+    sym (all_fails n p h.0 l (rw (get_or-range_with_len 0 n h.0 0 l, zero-add) at (h.2 0)))
 
 -- xs are the items of a chain's source, as v reads them; each call of the closure tests its item by p
 pub every_ran : {S A B F : Type 0} {steps : S → Option A → S → Type 0} {v : A → B} {g : Mut F (A × Unit {0}) Bool} {s : S} {xs : List B} (u : S) (f : F) (r : Bool) (p : B → Bool)
@@ -52,16 +53,15 @@ every_ran u f r p ran y tests =
     (λ x q k. let e = tests x true q k in (e.1, sym e.0))
     (λ x q k. sym (tests x false q k).0))
 
--- the same, where the source is the numbers from a up to b
-pub all_ran : {F : Type 0} {g : Mut F (ℕ × Unit {0}) Bool} {s : Range ℕ} (u : Range ℕ) (f : F) (r : Bool) (p : ℕ → Bool) (a b n : ℕ)
-    → s ≡ record { start = a; end = b }
-    → b - a ≡ n
+-- the same, where the source is the numbers below n
+pub all_ran : {F : Type 0} {g : Mut F (ℕ × Unit {0}) Bool} {s : Range ℕ} (u : Range ℕ) (f : F) (r : Bool) (n : ℕ) (p : ℕ → Bool)
+    → s ≡ record { start = 0; end = n }
     → (ys : List ℕ) × (o : Option ℕ) × (j : F) × YieldsThen nat_range_steps s ys o u × FoldsTo (λ q x q'. Called g q (x, tt) true q') f ys j
-    × MatchOption o (r ≡ true) (λ x. (r ≡ false) × ((h : F) × Called g j (x, tt) false h))
+      × MatchOption o (r ≡ true) (λ x. (r ≡ false) × ((h : F) × Called g j (x, tt) false h))
     → ((x : ℕ) (t : Bool) (q : F) → Called g f (x, tt) t q → (t ≡ p x) × (q ≡ f))
-    → r ≡ all n (λ i. p (a + i))
-all_ran u f r p a b n e m ran tests =
-    all_cases p a n r
-    (cases_from_all u f r (λ x. p x ≡ true) (λ x. p x ≡ false) ran (YieldsList-from_range a b n e m)
+    → r ≡ all n p
+all_ran u f r n p e ran tests =
+    all_cases p n r
+    (cases_from_all u f r (λ x. p x ≡ true) (λ x. p x ≡ false) ran (YieldsList-from_range 0 n n e (omega arith))
     (λ x q k. let t = tests x true q k in (t.1, sym t.0))
     (λ x q k. sym (tests x false q k).0))

@@ -1,14 +1,8 @@
-use Rattle.lists.proofs.Laws.Range.{tested_none, tested_more, tested_fails}
-use mathlib.Core.Path.{ap}
-use mathlib.Core.Bool.{not}
+use Rattle.std.proofs.Common.{rules, refl, ◌+◌}
+use Rattle.session.specs.Record.{record_at}
+use Rattle.session.specs.Questions.{object_valid}
+use Rattle.session_records.proofs.Laws.Chains.{all_ran}
 use Rattle.checks.proofs.objects.are_valid.Goals as goal
 
-pub loop-i-init : goal.loop-i-init
-loop-i-init c = tested_none _ _
-
-pub returns-then-not-is_valid : goal.returns-then-not-is_valid
-returns-then-not-is_valid c = tested_fails _ _ _ _ c.loop-i-test.true c.is_valid.ensures (ap not c.if-not-is_valid.true)
-
-pub loop-i-preserved : goal.loop-i-preserved
-loop-i-preserved c =
-    tested_more _ _ _ _ c.loop-i.invariant c.loop-i-test.true c.is_valid.ensures (ap not c.if-not-is_valid.false)
+pub returns : goal.returns
+returns c = all_ran _ _ _ c.args.count (λ i. object_valid c.args.levels (record_at c.args.session.now (c.args.first + i))) refl c.all.ensures.ran (λ x b q k. search rules)
