@@ -7,6 +7,7 @@ ghost use Rattle.fork_runs.specs.Running.{NextReady, NextDone};
 use contents::Session;
 use cores::Effect;
 use fields::FIELD_WORDS;
+use fields::reads::Sight;
 use level_state::RunState;
 use scripts::MAX_SCRIPT_STEPS;
 
@@ -22,17 +23,13 @@ pub fn run_next(session: &Session, state: &mut RunState, work: &mut [u32], level
     let core = m.core;
     let mut ending = core.ending;
     while cores::is_running(ending) {
-        let unchanged = tallies::is_unchanged(&state.tallies);
-        m = m.advance(
-            session.bytes,
-            session.masks,
-            session.index,
-            &state.current,
-            &cache,
-            false,
-            unchanged,
-            MAX_SCRIPT_STEPS,
-        );
+        let sight = Sight {
+            current: &state.current,
+            cache: &cache,
+            all: false,
+            unchanged: state.tallies.is_unchanged(),
+        };
+        m = m.advance(session, &sight, MAX_SCRIPT_STEPS);
         let core = m.core;
         ending = core.ending;
         let effect = core.effect;

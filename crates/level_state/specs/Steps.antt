@@ -37,7 +37,7 @@ use Rattle.histories.specs.Histories.{histories_at, InOrder, HistoryIs, Historie
 use Rattle.queues.specs.Queue.{fork_of_row, fork_at, There, Room, Arrived}
 use Rattle.versions.specs.Log.{max_versions, log_start, log_of, Within}
 use Rattle.versions.specs.Changes.{Appended}
-use Rattle.tallies.specs.Places.{next_place, waiting_place, versions_place, busy_place, tally_numbers, tallied, changed}
+use Rattle.tallies.specs.Places.{begun_tallies, next_place, waiting_place, versions_place, busy_place, tally_numbers, tallied, changed}
 use Rattle.level_state.specs.Representation.{Words, RunInvariant}
 use Rattle.level_state.specs.declared.RunState.{RunState}
 
@@ -283,10 +283,6 @@ pub record StartReady (s masks index : List ℕ) (w : Words) (l : ℕ) : Type 0 
   pub startable : Startable s l (get_or w.tallies (next_place l) 0) (running_fork 0 w.tallies w.queue l).message
   pub waits : 0 < get_or w.tallies (waiting_place l) 0
   pub settles : SettleReady w.ended w.tallies w.queue l
-
--- what is counted of level l once its first fork that waits has started
-abbrev pub begun_tallies : List ℕ → ℕ → List ℕ
-begun_tallies tallies l = set (set tallies (waiting_place l) (get_or tallies (waiting_place l) 0 - 1)) (busy_place l) 1
 
 -- the message that starts there
 abbrev pub first_message : Words → ℕ → Message

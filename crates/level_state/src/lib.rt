@@ -8,7 +8,7 @@
 use fields::FIELD_WORDS;
 use histories::limits::HISTORY_WORDS;
 use queues::QUEUE_WORDS;
-use tallies::TALLIES;
+use tallies::Tallies;
 
 // What a run with scheduler steps keeps beside the versions.
 #[derive(Drop)]
@@ -18,7 +18,7 @@ pub struct RunState {
     // The histories, as in `histories`.
     pub ended: [u32; HISTORY_WORDS],
     // The counts of each level, as in `tallies`.
-    pub tallies: [usize; TALLIES],
+    pub tallies: Tallies,
     // The forks, as in `queues`.
     pub queue: [u32; QUEUE_WORDS],
 }

@@ -14,7 +14,6 @@ use cores::{Core, Effect};
 use level_state::RunState;
 use managers::Manager;
 use session::Message;
-use tallies::{NEXT, RUNNING, WAITING};
 
 // The manager that runs at a level, with this write stamp and so many forks made, forks a message at
 // level `above`.
@@ -30,23 +29,18 @@ pub fn fork(
     ensures forked { Forked state.old.tallies state.new.tallies state.old.queue state.new.queue level stamp forks above message }
     ensures rest { (state.new.current ≡ state.old.current) × (state.new.ended ≡ state.old.ended) }
 {
-    let i = state.tallies[level];
+    let i = state.tallies.ended(level);
     let depth = queues::depth_at(&state.queue, level, i);
     let child = queues::child_stamp(queues::stamp_at(&state.queue, level, i), depth, forks);
-    let started = state.tallies[above] + state.tallies[RUNNING + above];
-    let waiting = state.tallies[WAITING + above];
+    let started = state.tallies.started(above);
+    let waiting = state.tallies.waiting(above);
     // A fork that is dropped changes nothing, and no row is made of it.
     if queues::drops(&state.queue, above, started, waiting, child) {
         return;
     }
     let row = queues::child_row(&state.queue, level, i, child, depth + 1, stamp, message);
-    state.tallies[WAITING + above] = queues::arrive(
-        &mut state.queue,
-        above,
-        started,
-        waiting,
-        &row,
-    );
+    let waiting = queues::arrive(&mut state.queue, above, started, waiting, &row);
+    state.tallies.set_waiting(above, waiting);
 }
 
 // What a script step of the manager that runs at a level did outside it. The manager started with write
@@ -103,10 +97,10 @@ pub fn settle(state: &mut RunState, level: usize, core: Core)
     if cores::is_running(ending) {
         return;
     }
-    let stamp = queues::stamp_at(&state.queue, level, state.tallies[level]);
+    let stamp = queues::stamp_at(&state.queue, level, state.tallies.ended(level));
     let history = core.ended(stamp);
-    tallies::close(&mut state.ended, &mut state.tallies, level, history);
-    state.tallies[RUNNING + level] = 0;
+    state.tallies.close(&mut state.ended, level, history);
+    state.tallies.stop(level);
 }
 
 // The manager that runs at a level has made a script step: what the step did outside it is done, and if it has
@@ -133,19 +127,11 @@ pub fn start(session: &Session, state: &mut RunState, work: &[u32], level: usize
     ensures started { Started session.now.bytes.now (words_of state.old work.now) state.new.ended state.new.tallies level (manager_of result) × WellFormed session.now.bytes.now result }
     ensures rest { (state.new.current ≡ state.old.current) × (state.new.queue ≡ state.old.queue) }
 {
-    let message = queues::message_at(&state.queue, level, state.tallies[level]);
-    let next = state.tallies[NEXT + level] as u16;
+    let message = queues::message_at(&state.queue, level, state.tallies.ended(level));
+    let next = state.tallies.next(level) as u16;
     let script = level_reads::script_of(session, state, work, level, message.object);
-    let m = Manager::start(
-        session.bytes,
-        session.index,
-        level as u8,
-        next,
-        message,
-        script,
-    );
-    state.tallies[WAITING + level] = state.tallies[WAITING + level] - 1;
-    state.tallies[RUNNING + level] = 1;
+    let m = Manager::start(session, level as u8, next, message, script);
+    state.tallies.start(level);
     let core = m.core;
     settle(state, level, core);
     m

@@ -14,7 +14,6 @@ use frames::Frame;
 use level_state::RunState;
 use managers::Manager;
 use session::Value;
-use tallies::VERSIONS;
 
 // A write takes effect.
 pub fn write(
@@ -30,10 +29,10 @@ pub fn write(
     ensures wrote { Wrote state.old.current state.new.current state.old.tallies state.new.tallies work.old work.new level stamp object field value }
     ensures rest { (state.new.ended ≡ state.old.ended) × (state.new.queue ≡ state.old.queue) }
 {
-    let count = state.tallies[VERSIONS + level];
+    let count = state.tallies.versions(level);
     fields::set(&mut state.current, object as usize, field as usize, value);
     versions::append(work, level, count, stamp, object, field, value);
-    state.tallies[VERSIONS + level] = count + 1;
+    state.tallies.set_versions(level, count + 1);
 }
 
 // The writes of a CREATE: the three fields of the made object, then that it is there, with the methods of a script.
@@ -53,7 +52,7 @@ fn write_made(
     ensures rest { (state.new.ended ≡ state.old.ended) × (state.new.queue ≡ state.old.queue) }
 {
     let existence = Some(script as u32);
-    tallies::change(&mut state.tallies, level);
+    state.tallies.change(level);
     write(state, work, level, stamp, object, 0, first);
     write(state, work, level, stamp, object, 1, second);
     write(state, work, level, stamp, object, 2, third);
@@ -75,7 +74,7 @@ fn write_withdrawn(state: &mut RunState, work: &mut [u32], level: usize, stamp: 
     ensures rest { (state.new.ended ≡ state.old.ended) × (state.new.queue ≡ state.old.queue) }
 {
     let existence = Some(0);
-    tallies::change(&mut state.tallies, level);
+    state.tallies.change(level);
     write(
         state,
         work,
@@ -94,14 +93,14 @@ fn write_change(
     level: usize,
     stamp: u16,
     top: Frame,
-    change: Change,
+    change: Option<Change>,
 )
     requires { ChangeReady state.old.current state.old.tallies work.old level (change_of (frame_of top) change) }
     ensures change_done { ChangeDone state.old.current state.new.current state.old.tallies state.new.tallies work.old work.new level stamp (change_of (frame_of top) change) }
     ensures rest { (state.new.ended ≡ state.old.ended) × (state.new.queue ≡ state.old.queue) }
 {
     match change {
-        Change::Create { object, script } => {
+        Some(Change::Create { object, script }) => {
             let first = top.r1;
             let second = top.r2;
             let third = top.r3;
@@ -109,10 +108,10 @@ fn write_change(
                 state, work, level, stamp, object, first, second, third, script,
             );
         }
-        Change::Withdraw { object } => {
+        Some(Change::Withdraw { object }) => {
             write_withdrawn(state, work, level, stamp, object);
         }
-        Change::Nothing => {}
+        None => {}
     }
 }
 
@@ -131,7 +130,7 @@ pub fn change(
     let core = m.core;
     let top = core.top;
     let stamp = core.first + core.forks as u16;
-    let made = m.change(session.bytes, session.masks, session.index, &state.current);
+    let made = m.change(session, &state.current);
     let change = made.change;
     write_change(state, work, level, stamp, top, change);
     made.manager

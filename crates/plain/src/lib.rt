@@ -9,7 +9,6 @@ ghost use Rattle.fork_runs.specs.Levels.{LevelReady, LevelDone, Done};
 
 use contents::Session;
 use level_state::RunState;
-use tallies::WAITING;
 
 // Makes the steps of a level that may step by the conservative rule until all its managers have ended. It may
 // until then: no level below it gets a manager, since a fork goes to one that strictly dominates this one.
@@ -17,7 +16,7 @@ fn run_level(session: &Session, state: &mut RunState, work: &mut [u32], level: u
     requires { LevelReady session.now.bytes.now (words_of state.old work.old) level }
     ensures { LevelDone session.now.bytes.now (words_of state.old work.old) (words_of state.new work.new) level }
 {
-    while state.tallies[WAITING + level] > 0 {
+    while state.tallies.waiting(level) > 0 {
         fork_runs::run_next(session, state, work, level);
     }
 }

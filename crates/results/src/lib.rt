@@ -8,6 +8,7 @@ ghost use Rattle.lists.specs.Placed.{Written};
 
 use contents::Session;
 use shown::Outcome;
+use tallies::Tallies;
 
 // Writes the records of a run that a clearance is shown to the buffer's start, the level groups by rising
 // number, and returns how many bytes they are.
@@ -15,7 +16,7 @@ pub fn write(
     session: &Session,
     fields: &[u32],
     histories: &[u32],
-    counts: &[usize],
+    counts: &Tallies,
     clearance: usize,
     root_level: usize,
     res: &mut [u8],

@@ -18,6 +18,7 @@ use fields::values;
 use histories::places;
 use session::Value;
 use session::limits::{FIRST_MADE, MADE_OBJECTS, RECORD_BYTES};
+use tallies::Tallies;
 
 // What a run leaves, and the clearance that it is shown to.
 #[derive(Clone, Copy)]
@@ -25,8 +26,8 @@ pub struct Outcome<'a> {
     pub session: Session<'a>,
     pub fields: &'a [u32],
     pub histories: &'a [u32],
-    // How many histories each level has.
-    pub counts: &'a [usize],
+    // How many histories each level has, and what else is counted of it.
+    pub counts: &'a Tallies,
     pub clearance: usize,
     ghost fields_ready: { FieldsReady session.bytes.now session.masks.now fields.now },
     ghost histories_ready: { HistoriesReady histories.now counts.now },
@@ -101,7 +102,7 @@ impl Outcome<'_> {
         ensures { Placed (shown_level (dominates self.now.session.masks.now) (ended_in self.now.histories.now self.now.counts.now) self.now.clearance level) 0 res.old res.new result }
     {
         if lattice::dominates(self.session.masks, self.clearance, level) {
-            self.write_histories(level, self.counts[level], res)
+            self.write_histories(level, self.counts.ended(level), res)
         } else {
             0
         }
@@ -140,7 +141,7 @@ impl Outcome<'_> {
         ensures { Placed (shown_reply (dominates self.now.session.masks.now) (ended_in self.now.histories.now self.now.counts.now) self.now.clearance root_level) 0 res.old res.new result }
     {
         if lattice::dominates(self.session.masks, self.clearance, root_level) {
-            let reply = self.first_reply(root_level, self.counts[root_level]);
+            let reply = self.first_reply(root_level, self.counts.ended(root_level));
             let made = result_records::reply_record(root_level, reply);
             put(&made, res)
         } else {

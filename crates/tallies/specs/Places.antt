@@ -45,8 +45,8 @@ numbers_of ts c =
     ++ number_of c ∷ [])))))
 
 -- the counts once a fork that waited at level l has started
-abbrev pub begun : ℕ → List ℕ → List ℕ
-begun l t = set (set t (waiting_place l) (get_or t (waiting_place l) 0 - 1)) (busy_place l) 1
+abbrev pub begun_tallies : List ℕ → ℕ → List ℕ
+begun_tallies t l = set (set t (waiting_place l) (get_or t (waiting_place l) 0 - 1)) (busy_place l) 1
 
 -- what is counted before any manager started: "A level's write stamp starts at 1"
 abbrev pub start_tallies : List ℕ

@@ -5,7 +5,7 @@ ghost use Rattle.std.specs.Prelude.{◌≡◌, ◌+◌, ◌-◌, ◌≤◌, ◌<
 ghost use Rattle.session.specs.Limits.{max_levels};
 ghost use Rattle.model.specs.Limits.{max_managers};
 ghost use Rattle.histories.specs.Histories.{HistoryRoom};
-ghost use Rattle.tallies.specs.Places.{numbers_of, next_place, waiting_place, versions_place, busy_place, changes_place, number_of, begun, start_tallies, changed, unchanged_at, unchanged, Closed, busy_in, managed};
+ghost use Rattle.tallies.specs.Places.{numbers_of, next_place, waiting_place, versions_place, busy_place, changes_place, number_of, begun_tallies, start_tallies, changed, unchanged_at, unchanged, Closed, busy_in, managed};
 
 use model::MAX_MANAGERS;
 use scripts::Ended;
@@ -156,7 +156,7 @@ impl Tallies {
     // The first fork that waits at a level starts.
     pub fn start(&mut self, level: usize)
         requires { (level < max_levels) × (0 < get_or self.old (waiting_place level) 0) }
-        ensures { self.new ≡ begun level self.old }
+        ensures { self.new ≡ begun_tallies self.old level }
     {
         let waiting = self.waiting(level) - 1;
         self.set_waiting(level, waiting);

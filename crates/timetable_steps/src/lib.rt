@@ -9,6 +9,7 @@ ghost use Rattle.timetable_steps.specs.Refusals.{RefusedAt, end_of};
 
 use contents::Session;
 use cores::Effect;
+use fields::reads::Sight;
 use level_state::{RunEnd, RunState};
 use managers::Manager;
 use permits::Permit;
@@ -63,26 +64,24 @@ pub fn step_seen(
     ensures { ScriptStep session.now.bytes.now (words_of state.now work.now) level cache.new m result }
 {
     level_reads::answer_existence(session, state, work, cache, level, object);
-    let n = m.step(
-        session.bytes,
-        session.masks,
-        session.index,
-        &state.current,
+    let sight = Sight {
+        current: &state.current,
         cache,
-        false,
-    );
+        all: false,
+        unchanged: false,
+    };
+    let n = m.step(session, &sight);
     let core = n.core;
     let effect = core.effect;
     if let Effect::Read { object: o, field } = effect {
         level_reads::answer_read(session, state, work, cache, level, o, field);
-        let r = n.step(
-            session.bytes,
-            session.masks,
-            session.index,
-            &state.current,
+        let sight = Sight {
+            current: &state.current,
             cache,
-            false,
-        );
+            all: false,
+            unchanged: false,
+        };
+        let r = n.step(session, &sight);
         fields::forget(cache, o as usize, field as usize);
         fields::forget(cache, object as usize, fields::EXISTENCE as usize);
         return r;

@@ -8,6 +8,7 @@ ghost use Rattle.level_state.specs.Ends.{Quiescent, Ends, SameRest};
 use contents::Session;
 use cores::Effect;
 use fields::FIELD_WORDS;
+use fields::reads::Sight;
 use level_state::{RunEnd, RunState};
 use managers::Manager;
 use permits::Permit;
@@ -29,20 +30,19 @@ pub fn run(session: &Session, timetable: &[u8], state: &mut RunState, work: &mut
         let Permit::Given = permit else {
             return timetable_steps::refused_at(permit, i as u32);
         };
-        if !tallies::is_busy(&state.tallies, level) {
+        if !state.tallies.is_busy(level) {
             managers[level] = level_steps::start(session, state, work, level);
             continue;
         }
-        let unchanged = tallies::is_unchanged(&state.tallies);
+        let unchanged = state.tallies.is_unchanged();
         let m = managers[level];
-        let n = m.step(
-            session.bytes,
-            session.masks,
-            session.index,
-            &state.current,
-            &cache,
+        let sight = Sight {
+            current: &state.current,
+            cache: &cache,
+            all: false,
             unchanged,
-        );
+        };
+        let n = m.step(session, &sight);
         let core = n.core;
         let effect = core.effect;
         if let Effect::Read { object, field } = effect {
@@ -56,14 +56,13 @@ pub fn run(session: &Session, timetable: &[u8], state: &mut RunState, work: &mut
                 continue;
             }
             level_reads::answer_read(session, state, work, &mut cache, level, object, field);
-            let r = n.step(
-                session.bytes,
-                session.masks,
-                session.index,
-                &state.current,
-                &cache,
+            let sight = Sight {
+                current: &state.current,
+                cache: &cache,
+                all: false,
                 unchanged,
-            );
+            };
+            let r = n.step(session, &sight);
             fields::forget(&mut cache, object as usize, field as usize);
             let after = r.core;
             managers[level] = r;

@@ -33,9 +33,9 @@ use Rattle.model.specs.Level.{idle, has_manager}
 use Rattle.model.specs.Step.{State, level_at}
 use Rattle.model.specs.Rules.{conservative}
 use Rattle.theorems.proofs.Laws.Code.Progress.{allowed}
-use Rattle.tallies.specs.Places.{next_place, waiting_place, busy_place, tally_numbers, unchanged, managed}
+use Rattle.tallies.specs.Places.{begun_tallies, next_place, waiting_place, busy_place, tally_numbers, unchanged, managed}
 use Rattle.level_state.specs.Representation.{Words, Roomy, Runs, placed}
-use Rattle.level_state.specs.Steps.{Tables, Readable, ReadReady, Answered, Parts, Changing, ChangedBy, PerformReady, Performed, SettleReady, Closed, Settled, CoreSettled, begun_tallies, StartReady, Started}
+use Rattle.level_state.specs.Steps.{Tables, Readable, ReadReady, Answered, Parts, Changing, ChangedBy, PerformReady, Performed, SettleReady, Closed, Settled, CoreSettled, StartReady, Started}
 use Rattle.level_state.specs.Ends.{SameRest}
 use Rattle.fork_runs.specs.Levels.{LevelReady, LevelDone}
 use Rattle.fork_runs.specs.Running.{Draining, KnownIsRead, NextReady, NextDone}

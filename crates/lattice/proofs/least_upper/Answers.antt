@@ -2,7 +2,7 @@ use Rattle.std.proofs.Common.{rules, tests, ◌≡◌, true, false, length, ◌�
 use Rattle.std.proofs.lemmas.Iterator.{first_from_Range}
 use Rattle.dominance.specs.Join.{join, is_least}
 use Rattle.dominance.specs.Table.{dominates}
-use Rattle.lattice.proofs.Laws.Ranges.{first_found_or}
+use Rattle.lists.proofs.Laws.Ranges.{first_found_or}
 use Rattle.lattice.proofs.least_upper.Goals as goal
 
 pub returns : goal.returns

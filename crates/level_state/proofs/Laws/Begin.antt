@@ -15,9 +15,8 @@ use Rattle.model.specs.Level.{idle, busy, Level, is_busy, started_count}
 use Rattle.model.specs.Step.{State, level_at}
 use Rattle.queues.specs.Queue.{fork_at, forks_at, ForksRise}
 use Rattle.queues.proofs.Laws.Queue.{forks_first, rises_behind}
-use Rattle.tallies.specs.Places.{next_place, waiting_place, versions_place, busy_place, tally_numbers, changes_place, all_changes_place}
+use Rattle.tallies.specs.Places.{begun_tallies, next_place, waiting_place, versions_place, busy_place, tally_numbers, changes_place, all_changes_place}
 use Rattle.level_state.specs.Representation.{Words, LevelRepresents, Represents, placed}
-use Rattle.level_state.specs.Steps.{begun_tallies}
 use Rattle.level_state.proofs.Laws.Representation.{Limited, SameAt, field_kept, represents_change}
 use Rattle.level_state.proofs.Laws.Settle.{placed_own, placed_other}
 

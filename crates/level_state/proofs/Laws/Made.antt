@@ -51,11 +51,11 @@ use Rattle.histories.specs.Histories.{HistoryIs, HistoryRoom}
 use Rattle.queues.specs.Queue.{forks_at, is_dropped, ChildRow, Arrived}
 use Rattle.queues.proofs.Laws.Queue.{dropped_arrives}
 use Rattle.queues.proofs.Laws.Row.{Fits, row_there}
-use Rattle.tallies.specs.Places.{next_place, waiting_place, versions_place, busy_place, all_changes_place, tally_numbers, changed}
+use Rattle.tallies.specs.Places.{begun_tallies, next_place, waiting_place, versions_place, busy_place, all_changes_place, tally_numbers, changed}
 use Rattle.tallies.proofs.Laws.Changed.{changed-length, changed_other}
 use Rattle.tallies.specs.Places as counted
 use Rattle.level_state.specs.Representation.{Words, RunInvariant, placed}
-use Rattle.level_state.specs.Steps.{Tables, Busy, running_fork, ReadIs, ScriptIs, Readable, Named, WriteReady, Wrote, touches, WritesReady, withdrawing, ChangeReady, ChangeDone, Fielded, started_of, ForkReady, Forked, EffectReady, Parts, EffectDone, forks_after, PerformReady, Performed, SettleReady, Settled, CoreSettled, begun_tallies, StepDone, StartReady, Started}
+use Rattle.level_state.specs.Steps.{Tables, Busy, running_fork, ReadIs, ScriptIs, Readable, Named, WriteReady, Wrote, touches, WritesReady, withdrawing, ChangeReady, ChangeDone, Fielded, started_of, ForkReady, Forked, EffectReady, Parts, EffectDone, forks_after, PerformReady, Performed, SettleReady, Settled, CoreSettled, StepDone, StartReady, Started}
 use Rattle.level_state.specs.Script.{Blank, RunsAt, ScriptStep}
 use Rattle.level_state.proofs.Laws.Ready.{represents_quiescent, represents_runs, waits_some, start_ready, busy_settles, effect_ready, settle_after}
 use Rattle.level_state.proofs.Laws.Seen.{read_low, script_first}

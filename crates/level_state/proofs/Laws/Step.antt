@@ -28,8 +28,9 @@ use Rattle.theorems.proofs.Laws.Code.Reached.{ReachedState, present}
 use Rattle.theorems.proofs.Laws.Code.Progress.{leads_more, leads_live}
 use Rattle.queues.specs.Queue.{fork_at}
 use Rattle.queues.proofs.Laws.Queue.{message_any}
+use Rattle.tallies.specs.Places.{begun_tallies}
 use Rattle.level_state.specs.Representation.{Words, Represents, RunInvariant, placed}
-use Rattle.level_state.specs.Steps.{Parts, WroteAll, noted, EffectDone, Settled, running_fork, begun_tallies, first_message, Started}
+use Rattle.level_state.specs.Steps.{Parts, WroteAll, noted, EffectDone, Settled, running_fork, first_message, Started}
 use Rattle.level_state.proofs.Laws.Representation.{Limited, at_own, at_other}
 use Rattle.level_state.proofs.Laws.Settle.{placed_own, placed_other, represents_settle}
 use Rattle.level_state.proofs.Laws.Begin.{begun_level, first_fork, represents_begin}
