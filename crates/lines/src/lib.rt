@@ -3,12 +3,13 @@
 #![tactic(auto)]
 
 ghost use Rattle.std.specs.Prelude.{◌+◌, ◌*◌, ◌≤◌, ◌<◌, ◌≡◌, length};
-ghost use Rattle.session.specs.Record.{record_at, record_count};
+ghost use Rattle.session.specs.Record.{record_count};
 ghost use Rattle.lists.specs.Placed.{Placed, Written};
 ghost use Rattle.text.specs.Lines.{hex_of, line_of, line_size, lines_of, decimal_of, decimal_size, refusal_line, refusal_size};
 
 use ascii::{digit, put, put_all};
 use session::limits::RECORD_BYTES;
+use session_records::record;
 
 // The characters of a record's line: two for each byte, and a line feed.
 pub const LINE_BYTES: usize = 2 * RECORD_BYTES + 1;
@@ -28,15 +29,14 @@ fn put_byte(text: &mut [u8], at: usize, byte: u8) -> usize
     put(text, next, digit(byte % 16, TEN))
 }
 
-// Writes the line of a record of some bytes, by its number.
-fn put_record(text: &mut [u8], at: usize, bytes: &[u8], number: usize) -> usize
-    requires { (at + line_size ≤ length text.old) × (number < record_count bytes.now) }
-    ensures { Placed (line_of (record_at bytes.now number)) at text.old text.new result }
+// Writes the line of a record.
+fn put_record(text: &mut [u8], at: usize, record: &[u8; RECORD_BYTES]) -> usize
+    requires { at + line_size ≤ length text.old }
+    ensures { Placed (line_of record.now) at text.old text.new result }
 {
-    let start = RECORD_BYTES * number;
     let mut next = at;
-    for i in 0..RECORD_BYTES {
-        next = put_byte(text, next, bytes[start + i]);
+    for byte in record {
+        next = put_byte(text, next, *byte);
     }
     put(text, next, b'\n')
 }
@@ -47,8 +47,8 @@ pub fn put_records(text: &mut [u8], bytes: &[u8]) -> usize
     ensures { Written (lines_of bytes.now) text.old text.new result }
 {
     let mut at = 0;
-    for number in 0..bytes.len() / RECORD_BYTES {
-        at = put_record(text, at, bytes, number);
+    for record in record::records(bytes) {
+        at = put_record(text, at, record);
     }
     at
 }

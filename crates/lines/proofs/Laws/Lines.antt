@@ -1,5 +1,5 @@
 -- Laws of the printed text: the lines by number, and decimal digits. Assumes nothing.
-use Prim.Native.Nat.{ℕ, zero, suc, ◌+◌, ◌*◌, ◌-◌, ◌/◌, ◌%◌, ◌^◌, ◌≤◌, ◌<◌}
+use Prim.Native.Nat.{ℕ, zero, suc, ◌*◌, ◌-◌, ◌/◌, ◌%◌, ◌^◌, ◌≤◌, ◌<◌}
 use mathlib.Core.Path.{◌≡◌, refl, ◌∙◌, ap}
 use mathlib.Core.List.{List, [], ◌∷◌, ◌++◌, map}
 use native.Mathlib.Nat.{pow-suc, div-lt_iff_lt-mul, le-div_iff_mul-le}
@@ -10,32 +10,27 @@ use lib.Seq.{length-take-le}
 use borrow.Author.Tests.{lt-ltb, le-ltb}
 use Rattle.io.specs.Digits.{hex_digit_ascii, last_digits, IsDigitCount}
 use Rattle.lists.specs.Lists.{tab, joined}
-use Rattle.session.specs.Record.{record_at, record_count, records_of}
+use Rattle.session.specs.Record.{Record, record_at, record_count, records_of}
 use Rattle.lists.proofs.Laws.Lists.{holds, fails, truth}
-use Rattle.lists.proofs.Laws.Fill.{map_is, tab_ext}
-use Rattle.session.proofs.Laws.Record.{byte_is}
+use Rattle.lists.proofs.Laws.Fill.{map_is}
 use Rattle.text.specs.Lines.{line_feed, hex_of, line_of, lines_of, decimal_in}
 
--- the digits of byte i of record r of s
-abbrev pub hex_at : List ℕ → ℕ → ℕ → List ℕ
-hex_at s r i = hex_of (get_or s (16 * r + i) 0)
+-- the digits of byte i of a record
+abbrev pub hex_at : Record → ℕ → List ℕ
+hex_at rec i = hex_of (get_or rec i 0)
 
 -- the line of a record, from its bytes
+pub line_is : (rec : Record) → length rec ≡ 16 → line_of rec ≡ joined (tab 16 (hex_at rec)) ++ (line_feed ∷ [])
+unfolding line_of
+line_is rec h = ap (λ l. joined l ++ (line_feed ∷ [])) (map_is hex_of 0 rec ∙ ap (λ k. tab k (hex_at rec)) h)
+
 record_length : (s : List ℕ) (r : ℕ) → r < record_count s → length (record_at s r) ≡ 16
 unfolding record_at
 record_length s r h = length-take-le 16 (drop (16 * r) s) (rw length-drop (omega arith))
 
-pub line_is : (s : List ℕ) (r : ℕ) → r < record_count s → line_of (record_at s r) ≡ joined (tab 16 (hex_at s r)) ++ (line_feed ∷ [])
-unfolding line_of
-line_is s r h =
-    ap (λ l. joined l ++ (line_feed ∷ []))
-    (map_is hex_of 0 (record_at s r)
-    ∙ ap (λ k. tab k (λ i. hex_of (get_or (record_at s r) i 0))) (record_length s r h)
-    ∙ tab_ext 16 (λ i. hex_of (get_or (record_at s r) i 0)) (hex_at s r) (λ i l. ap hex_of (byte_is s r i l)))
-
 pub line_length : (s : List ℕ) (r : ℕ) → r < record_count s → length (line_of (record_at s r)) ≡ 33
 unfolding joined tab
-line_length s r h = ap length (line_is s r h)
+line_length s r h = ap length (line_is (record_at s r) (record_length s r h))
 
 -- the lines, by number
 map-tab : {A B : Type 0} (f : A → B) (n : ℕ) (g : ℕ → A) → map f (tab n g) ≡ tab n (λ i. f (g i))

@@ -1,4 +1,4 @@
-use Prim.Native.Nat.{◌*◌, ◌-◌, ◌≤◌}
+use Prim.Native.Nat.{◌*◌, ◌≤◌}
 use mathlib.Core.Path.{◌≡◌}
 use Rattle.lists.specs.Lists.{tab, joined}
 use Rattle.session.specs.Record.{record_count}
@@ -6,9 +6,6 @@ use Rattle.lists.specs.Placed.{Placed}
 use Rattle.lines.proofs.Laws.Lines.{line_at}
 use Rattle.lines.proofs.put_records.Given as goal
 
-abbrev pub invariant-loop-number : goal.invariant-loop-number
-invariant-loop-number l =
-    (l.number ≤ record_count l.bytes) × (l.at ≡ 33 * l.number) × Placed (joined (tab l.number (line_at l.bytes))) 0 l.initial.text l.text l.at
-
-abbrev pub decreases-loop-number : goal.decreases-loop-number
-decreases-loop-number l = record_count l.bytes - l.number
+abbrev pub invariant-loop-record : goal.invariant-loop-record
+invariant-loop-record l =
+    (l.record-index ≤ record_count l.bytes) × (l.at ≡ 33 * l.record-index) × Placed (joined (tab l.record-index (line_at l.bytes))) 0 l.initial.text l.text l.at

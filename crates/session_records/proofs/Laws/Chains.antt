@@ -1,5 +1,5 @@
 -- What a chain that ends in `all` answers: whether each element, or each number of a range, passes a test. Assumes nothing.
-use Prim.Native.Nat.{ℕ, ◌+◌, ◌-◌, ◌<◌}
+use Prim.Native.Nat.{ℕ, ◌<◌}
 use Rattle.std.proofs.Common.{Option}
 use denote.Param.Members.{Mut}
 use Rattle.std.specs.Option.{MatchOption}
@@ -57,7 +57,7 @@ every_ran u f r p ran y tests =
 pub all_ran : {F : Type 0} {g : Mut F (ℕ × Unit {0}) Bool} {s : Range ℕ} (u : Range ℕ) (f : F) (r : Bool) (n : ℕ) (p : ℕ → Bool)
     → s ≡ record { start = 0; end = n }
     → (ys : List ℕ) × (o : Option ℕ) × (j : F) × YieldsThen nat_range_steps s ys o u × FoldsTo (λ q x q'. Called g q (x, tt) true q') f ys j
-      × MatchOption o (r ≡ true) (λ x. (r ≡ false) × ((h : F) × Called g j (x, tt) false h))
+    × MatchOption o (r ≡ true) (λ x. (r ≡ false) × ((h : F) × Called g j (x, tt) false h))
     → ((x : ℕ) (t : Bool) (q : F) → Called g f (x, tt) t q → (t ≡ p x) × (q ≡ f))
     → r ≡ all n p
 all_ran u f r n p e ran tests =

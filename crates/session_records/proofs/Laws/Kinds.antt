@@ -1,6 +1,6 @@
 -- The records of a session as chunks of its bytes, and what their kinds say. Assumes nothing.
 use Prim.Native.Nat.{ℕ, zero, suc, ◌+◌, ◌*◌, ◌≤◌}
-use mathlib.Core.Path.{◌≡◌, refl, sym, ◌∙◌, ap, ap₂}
+use mathlib.Core.Path.{◌≡◌, refl, sym, ◌∙◌, ap}
 use mathlib.Core.List.{List, [], ◌∷◌}
 use mathlib.Core.Bool.{Bool, true, false}
 use native.Mathlib.Omega.{arith}
@@ -18,14 +18,10 @@ use Rattle.lists.specs.Lists.{rising_from, count_below}
 use Rattle.lists.proofs.Laws.Range.{refuted, not_both}
 use Rattle.lists.proofs.Laws.Rising.{order, less, same, more, rising_all, rising_next, first_below, rest_above}
 use Rattle.lists.proofs.Laws.Lists.{select-length}
+use Rattle.lists.proofs.Laws.Fill.{tab_ext}
 use Rattle.lists.specs.Lists.{tab}
 use Rattle.session.specs.Limits.{record_bytes}
 use Rattle.session.specs.Record.{Record, record_at, record_count, records_of, kind_of}
-
-tab_same : {A : Type 0} (n : ℕ) (f g : ℕ → A) → ((i : ℕ) → f i ≡ g i) → tab n f ≡ tab n g
-unfolding tab
-tab_same zero f g h = refl
-tab_same (suc n) f g h = ap₂ (λ x xs. x ∷ xs) (h zero) (tab_same n (λ i. f (suc i)) (λ i. g (suc i)) (λ i. h (suc i)))
 
 chunk_next : (s : List ℕ) (i : ℕ) → record_at (drop record_bytes s) i ≡ record_at s (suc i)
 unfolding record_at
@@ -35,7 +31,7 @@ chunks_at : (n : ℕ) (s : List ℕ) → first_chunks record_bytes n s ≡ tab n
 unfolding tab record_at
 chunks_at zero s = refl
 chunks_at (suc n) s =
-    ap (λ xs. take record_bytes s ∷ xs) (chunks_at n (drop record_bytes s) ∙ tab_same n (record_at (drop record_bytes s)) (λ i. record_at s (suc i)) (chunk_next s))
+    ap (λ xs. take record_bytes s ∷ xs) (chunks_at n (drop record_bytes s) ∙ tab_ext n (record_at (drop record_bytes s)) (λ i. record_at s (suc i)) (λ i l. chunk_next s i))
 
 pub chunks_are : (s : List ℕ) → first_chunks record_bytes (record_count s) s ≡ records_of s
 unfolding records_of
