@@ -25,6 +25,7 @@ fn has_bit(mask: u16, k: usize) -> bool
 }
 
 // Whether level `upper` dominates level `lower`. A level that is not in the table dominates none.
+#[tactic(auto, using(dominance::proofs::Laws::Table::absent), unfolding(dominance::specs::Table::dominates))]
 pub fn dominates(masks: &[u16], upper: usize, lower: usize) -> bool
     ensures { result ≡ dominates masks.now upper lower }
 {
@@ -183,6 +184,7 @@ fn has_meets(masks: &[u16]) -> bool
 }
 
 // What questions 4, 5 and 17, in this order, say of a table, of any length and content.
+#[tactic(auto, unfolding(dominance::specs::Table::verdict_of))]
 pub fn check(masks: &[u16]) -> Result<(), Fault>
     ensures { result ≡ verdict_of masks.now }
 {

@@ -64,6 +64,7 @@ pub fn append(
 }
 
 // The value of the version at a place.
+#[tactic(auto, unfolding(crate::specs::Log::version_of))]
 fn value_at(work: &[u32], at: usize) -> Value
     requires { at + number_place < length work.now }
     ensures { result ≡ (version_at work.now at).value }
@@ -75,6 +76,7 @@ fn value_at(work: &[u32], at: usize) -> Value
 //
 // Below its field and object, a version's first number holds the write stamp and the tag, which is at
 // most 1: so at most STAMP * bound + 1 exactly where the version is not above the bound.
+#[tactic(auto, using(crate::proofs::Laws::Order::stamp_test))]
 fn is_above(work: &[u32], level: usize, i: usize, bound: u16) -> bool
     requires { (level < max_levels) × (i < max_versions) × (work_numbers ≤ length work.now) }
     ensures { result ≡ nat_lt bound (stamp_at work.now (log_start level) i) }
