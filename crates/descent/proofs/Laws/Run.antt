@@ -263,19 +263,17 @@ module _ {s masks index : List ℕ} (a : Tables s masks index) {left : ℕ} {f :
         asks : (is_running n.core.ending ≡ true) × (pause_of s w.current w.current true (unchanged w.tallies) n.core ≡ change)
         asks = ((ad.asks (ap is_asking is)).0, (ad.asks (ap is_asking is)).1 ∙ ap asking is)
 
-        pub run_changeable : Changeable s masks index w.current n × (tally_numbers ≤ length w.tallies)
-        run_changeable = (
-          record {
-            indexed = record { accepted = a.accepted; index_is = a.index_is };
-            leveled = record { accepted = a.accepted; masks_are = a.masks_are };
-            fields_there = here.represents.fields_there;
-            scripted = here.represents.scripted;
-            held = ad.held;
-            running = asks.0;
-            next = pause_change s w.current w.current true (unchanged w.tallies) n.core.level n.core.top.object (next_step p (frame_of n.core.top)) asks.1;
-          },
-          here.represents.tallies_there,
-        )
+        pub run_changeable : Changeable s masks index w.current n
+        run_changeable =
+            record {
+              indexed = record { accepted = a.accepted; index_is = a.index_is };
+              leveled = record { accepted = a.accepted; masks_are = a.masks_are };
+              fields_there = here.represents.fields_there;
+              scripted = here.represents.scripted;
+              held = ad.held;
+              running = asks.0;
+              next = pause_change s w.current w.current true (unchanged w.tallies) n.core.level n.core.top.object (next_step p (frame_of n.core.top)) asks.1;
+            }
 
         -- so far nothing was done outside
         before : Looped s left f w₀ w n
