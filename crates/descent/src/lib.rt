@@ -25,7 +25,7 @@ fn perform(
     forks: u8,
     effect: Effect,
 )
-    requires represents_some { RepresentsSome session.now.bytes.now progress.old.current progress.old.ended progress.old.tallies }
+    requires represents_some { RepresentsSome session.now.bytes.now progress.old }
     requires performable { Performable session.now.bytes.now left fork forks effect }
     ensures { Performed session.now.bytes.now left fork forks effect progress.old progress.new }
 {
@@ -69,7 +69,7 @@ fn perform(
 // Runs a fork that is made, if its level keeps it.
 #[cycle(perform_run_kept_run_manager)]
 fn run_kept(session: &Session, progress: &mut Progress, left: usize, fork: Fork)
-    requires represents_some { RepresentsSome session.now.bytes.now progress.old.current progress.old.ended progress.old.tallies }
+    requires represents_some { RepresentsSome session.now.bytes.now progress.old }
     requires runnable { Runnable session.now.bytes.now left fork }
     ensures { ForkDone session.now.bytes.now left fork progress.old progress.new }
 {
@@ -82,7 +82,7 @@ fn run_kept(session: &Session, progress: &mut Progress, left: usize, fork: Fork)
 // script steps it made is there too: as many as the definition of the depth-first run makes.
 #[cycle(perform_run_kept_run_manager)]
 pub fn run_manager(session: &Session, progress: &mut Progress, left: usize, fork: Fork) -> Ended
-    requires represents_some { RepresentsSome session.now.bytes.now progress.old.current progress.old.ended progress.old.tallies }
+    requires represents_some { RepresentsSome session.now.bytes.now progress.old }
     requires runnable { Runnable session.now.bytes.now left fork × (get_or progress.old.tallies fork.level 0 < max_managers) }
     ensures { RunDone session.now.bytes.now left fork progress.old progress.new result }
 {

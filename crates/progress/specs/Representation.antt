@@ -49,16 +49,16 @@ pub record RepresentedBy (s : List ℕ) (g : Progress) (current ended tallies : 
   pub existing : unchanged tallies ≡ true → (o : ℕ) → field_now (program_of s) g o existence ≡ initially (program_of s) o existence
   pub counted : (l : ℕ) → l < level_count s → Counted g ended tallies l
 
--- some run's
-abbrev pub RepresentsSome : List ℕ → List ℕ → List ℕ → List ℕ → Type 0
-RepresentsSome s current ended tallies = (g : Progress) × RepresentedBy s g current ended tallies
-
 -- a run's words: its fields, its histories, its counts
 abbrev pub Words : Type 0
 Words = code.Progress
 
 abbrev pub Represents : List ℕ → Progress → Words → Type 0
 Represents s g w = RepresentedBy s g w.current w.ended w.tallies
+
+-- some run's
+abbrev pub RepresentsSome : List ℕ → Words → Type 0
+RepresentsSome s w = (g : Progress) × Represents s g w
 
 -- the words from a up to e are as they were
 abbrev pub Untouched : List ℕ → List ℕ → ℕ → ℕ → Type 0

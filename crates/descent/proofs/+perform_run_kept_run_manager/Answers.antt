@@ -103,7 +103,7 @@ run_manager-change-m-requires t c =
     let a = tables c.args.session.now in
     let l = c.loop-progress in
     let x = c.advance-m in
-    (run_changeable a z.runnable.0 c.if-left-eq0.false l.invariant.1 z.represents_some (told c.is_unchanged-same.ensures x.ensures) c.in-Change.is).0
+    run_changeable a z.runnable.0 c.if-left-eq0.false l.invariant.1 z.represents_some (told c.is_unchanged-same.ensures x.ensures) c.in-Change.is
 
 pub run_manager-loop-progress-smaller-in-Change : goal.run_manager-loop-progress-smaller-in-Change
 run_manager-loop-progress-smaller-in-Change t c =

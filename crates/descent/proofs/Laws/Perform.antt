@@ -45,7 +45,7 @@ module _ {s masks index : List ℕ} (a : Tables s masks index) {left : ℕ} {f :
     there : Present s (Write o i v)
     there = subst (Present s) is can.present
 
-    pub write_there : {c h t : List ℕ} → RepresentsSome s c h t → FieldThere c o i
+    pub write_there : {w : Words} → RepresentsSome s w → FieldThere w.current o i
     write_there q =
         record {
           room = q.1.fields_there;

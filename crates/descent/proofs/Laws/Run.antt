@@ -65,7 +65,7 @@ pub level_small : {s masks index : List ℕ} → Tables s masks index → (l : �
 level_small {s} a l h = omega (arith, few s a.accepted, h)
 
 -- a manager that a fork starts: its level's next write stamp fits 16 bits
-pub fork_starts : {s masks index : List ℕ} → Tables s masks index → {left : ℕ} {f : fork.Fork} → Runnable s left f → {c e t : List ℕ} → RepresentsSome s c e t → StartReady s index c t f
+pub fork_starts : {s masks index : List ℕ} → Tables s masks index → {left : ℕ} {f : fork.Fork} → Runnable s left f → {w : Words} → RepresentsSome s w → StartReady s index w.current w.tallies f
 fork_starts a {left} {f} r q =
     let k = q.1.counted f.level r.placed in
     record {
@@ -146,7 +146,7 @@ module _ {s masks index : List ℕ} (a : Tables s masks index) {left : ℕ} {f :
   seen g represents m start =
       start.0 (field_now p g) (script_seen_lem a.accepted g represents f.message.object r.present)
 
-  pub run_starts : (w : Words) (m : Manager) → RepresentsSome s w.current w.ended w.tallies → StartDone s w.current w.tallies f m → Looped s left f w w m
+  pub run_starts : (w : Words) (m : Manager) → RepresentsSome s w → StartDone s w.current w.tallies f m → Looped s left f w w m
   unfolding manager_of
   run_starts w m q start =
       let next = get_or w.tallies (next_place f.level) 0 in
@@ -167,12 +167,12 @@ module _ {s masks index : List ℕ} (a : Tables s masks index) {left : ℕ} {f :
         };
       }
 
-  module _ {w₀ w : Words} {m : Manager} (l : Looped s left f w₀ w m) (q : RepresentsSome s w₀.current w₀.ended w₀.tallies) where
+  module _ {w₀ w : Words} {m : Manager} (l : Looped s left f w₀ w m) (q : RepresentsSome s w₀) where
     -- the words of the manager on its way, and its level's counts, which are those at its start
     here : Ahead s left f (manager_of m) w q.0 (bare f)
     here = l.ahead q.0 (bare f) q.1 (bare_same f)
 
-    pub run_preserves : RepresentsSome s w.current w.ended w.tallies
+    pub run_preserves : RepresentsSome s w
     run_preserves = (here.now, here.represents)
 
     pub run_able : is_running m.core.ending ≡ true → Advanceable s masks index w.current w.current m × ((m.core.steps < max_script_steps) × (max_script_steps ≤ max_script_steps))
@@ -263,19 +263,17 @@ module _ {s masks index : List ℕ} (a : Tables s masks index) {left : ℕ} {f :
         asks : (is_running n.core.ending ≡ true) × (pause_of s w.current w.current true (unchanged w.tallies) n.core ≡ change)
         asks = ((ad.asks (ap is_asking is)).0, (ad.asks (ap is_asking is)).1 ∙ ap asking is)
 
-        pub run_changeable : Changeable s masks index w.current n × (tally_numbers ≤ length w.tallies)
-        run_changeable = (
-          record {
-            indexed = record { accepted = a.accepted; index_is = a.index_is };
-            leveled = record { accepted = a.accepted; masks_are = a.masks_are };
-            fields_there = here.represents.fields_there;
-            scripted = here.represents.scripted;
-            held = ad.held;
-            running = asks.0;
-            next = pause_change s w.current w.current true (unchanged w.tallies) n.core.level n.core.top.object (next_step p (frame_of n.core.top)) asks.1;
-          },
-          here.represents.tallies_there,
-        )
+        pub run_changeable : Changeable s masks index w.current n
+        run_changeable =
+            record {
+              indexed = record { accepted = a.accepted; index_is = a.index_is };
+              leveled = record { accepted = a.accepted; masks_are = a.masks_are };
+              fields_there = here.represents.fields_there;
+              scripted = here.represents.scripted;
+              held = ad.held;
+              running = asks.0;
+              next = pause_change s w.current w.current true (unchanged w.tallies) n.core.level n.core.top.object (next_step p (frame_of n.core.top)) asks.1;
+            }
 
         -- so far nothing was done outside
         before : Looped s left f w₀ w n
