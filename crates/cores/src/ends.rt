@@ -62,21 +62,17 @@ impl Core {
     pub fn pops(self) -> bool
         ensures { result ≡ (is_running self.ending && (leb self.top.count self.top.next && ltb 1 self.height)) }
     {
-        let ending = self.ending;
-        let f = self.top;
-        crate::is_running(ending) && f.is_at_end() && self.height > 1
+        crate::is_running(self.ending) && self.top.is_at_end() && self.height > 1
     }
 
     // How it stands once no frame above the first is at its script's end.
     pub fn closed(self) -> Core
         ensures { result ≡ closed_as self }
     {
-        let ending = self.ending;
-        if !crate::is_running(ending) {
+        if !crate::is_running(self.ending) {
             return self;
         }
-        let f = self.top;
-        if f.is_at_end() {
+        if self.top.is_at_end() {
             return Core {
                 height: 0,
                 ending: Ending::Finished,

@@ -105,16 +105,14 @@ impl Core {
         requires { self.first + self.forks < write_stamps }
         ensures { result ≡ kept_of self stamp }
     {
-        let ending = self.ending;
-        let reply = self.reply;
         Ended {
-            ending,
+            ending: self.ending,
             writes: self.writes,
             stamp,
             first: self.first,
             last: self.first + self.forks as u16,
             steps: self.steps,
-            reply,
+            reply: self.reply,
         }
     }
 }

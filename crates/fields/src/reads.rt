@@ -1,9 +1,11 @@
 // What the words answer to a READ, and to the question whether an object is there.
-ghost use Rattle.std.specs.Prelude.{◌≡◌, ◌<◌, ◌||◌, true};
+ghost use Rattle.std.specs.Prelude.{◌≡◌, ◌<◌, true};
 ghost use Rattle.session.specs.Limits.{fields as fieldCount, max_numbers};
-ghost use Rattle.fields.specs.Reads.{own_script_of, script_found, script_told, found_of, Findable};
+ghost use Rattle.session.specs.Meaning.{Numbered};
+ghost use Rattle.fields.specs.Reads.{own_script_of, script_found, script_told, found_of, is_own, Findable};
 
 use crate::EXISTENCE;
+use contents::Session;
 use session::Value;
 use session::limits::FIRST_MADE;
 
@@ -51,13 +53,21 @@ impl Sight<'_> {
         }
     }
 
-    // The script of an object, 0 where it is not there: from `current` if the object is of the level (`own`), or, of
-    // another object, as it was read.
+    // Whether an object is taken as one of the manager's own: where every object is, or by its level.
+    pub fn is_own(&self, session: &Session, level: usize, object: usize) -> bool
+        requires { Numbered session.now.bytes.now object }
+        ensures { result ≡ is_own session.now.bytes.now self.now.all level object }
+    {
+        self.all || session.level_of(object) == level
+    }
+
+    // The script of an object, 0 where it is not there: from `current` if it is taken as one of the manager's own
+    // (`own`), or else as it was read.
     pub fn script_of(&self, own: bool, object: usize) -> Result<u8, Missing>
         requires { Findable self.now.current.now self.now.cache.now object }
-        ensures { result ≡ script_told (script_found self.now.current.now self.now.cache.now (self.now.all || own) self.now.unchanged object) }
+        ensures { result ≡ script_told (script_found self.now.current.now self.now.cache.now own self.now.unchanged object) }
     {
-        if self.unchanged || self.all || own {
+        if self.unchanged || own {
             return Ok(self.script_here(object));
         }
         if !crate::is_known(self.cache, object, EXISTENCE as usize) {
@@ -66,16 +76,16 @@ impl Sight<'_> {
         Ok(crate::script_in(self.cache, object) as u8)
     }
 
-    // A field of an object: from `current` if the object is of the level (`own`), or, of another object, as it was
+    // A field of an object: from `current` if it is taken as one of the manager's own (`own`), or else as it was
     // read. Of an object that is not there it is NIL.
     pub fn find(&self, own: bool, object: usize, k: u8) -> Result<Value, Missing>
         requires { Findable self.now.current.now self.now.cache.now object × (k < fieldCount) }
-        ensures { result ≡ found_of self.now.current.now self.now.cache.now (self.now.all || own) self.now.unchanged object k }
+        ensures { result ≡ found_of self.now.current.now self.now.cache.now own self.now.unchanged object k }
     {
         if self.script_of(own, object)? == 0 {
             return Ok(None);
         }
-        if self.all || own {
+        if own {
             return Ok(crate::get(self.current, object, k as usize));
         }
         if !crate::is_known(self.cache, object, k as usize) {

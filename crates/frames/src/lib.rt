@@ -82,18 +82,6 @@ pub fn way_of(slot: u16, answer: u8) -> u16
     ANSWERS * slot + answer as u16
 }
 
-// The register of a number.
-fn pick(k: u8, r0: Value, r1: Value, r2: Value, r3: Value) -> Value
-    ensures { result ≡ get_or (r0 ∷ r1 ∷ r2 ∷ []) k r3 }
-{
-    match k {
-        0 => r0,
-        1 => r1,
-        2 => r2,
-        _ => r3,
-    }
-}
-
 // Where the steps of a method stand. Those of script 0 have none.
 fn method_in(session: &Session, slot: usize) -> Method
     requires { script_in slot ≤ object_count session.now.bytes.now }
@@ -146,11 +134,12 @@ impl Frame {
     pub fn register(self, k: u8) -> Value
         ensures { result ≡ register (frame_of self) k }
     {
-        let r0 = self.r0;
-        let r1 = self.r1;
-        let r2 = self.r2;
-        let r3 = self.r3;
-        pick(k, r0, r1, r2, r3)
+        match k {
+            0 => self.r0,
+            1 => self.r1,
+            2 => self.r2,
+            _ => self.r3,
+        }
     }
 
     // The frame with register `k` set.

@@ -33,7 +33,7 @@ fn read(core: Core, session: &Session, sight: &Sight, a: u8, b: u8) -> Core
 {
     let f = core.top;
     let object = f.object;
-    let own = session.level_of(object) == core.level as usize;
+    let own = sight.is_own(session, core.level as usize, object);
     let found = sight.find(own, object, b);
     match found {
         Ok(v) => core.put(a, v),
@@ -75,7 +75,7 @@ fn send(core: Core, session: &Session, sight: &Sight, a: u8, b: u8, c: u8) -> Co
     if let Fate::Block = fate {
         return core.put(a, None);
     }
-    let own = receiver == core.level as usize;
+    let own = sight.is_own(session, core.level as usize, c as usize);
     let found = sight.script_of(own, c as usize);
     match found {
         Ok(script) => core.call(a, b, c, script, returns(fate)),

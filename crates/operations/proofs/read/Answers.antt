@@ -14,10 +14,10 @@ overflow_cast-object c =
 
 pub returns-in-Err : goal.returns-in-Err
 returns-in-Err c =
-    let e = rw c.level_of.ensures at (sym c.find-found.ensures ∙ c.in-Err.is) in
+    let e = rw c.is_own-own.ensures at (sym c.find-found.ensures ∙ c.in-Err.is) in
     read_missing _ _ _ _ _ _ _ _ c.requires.1 _ _ c.requires.0 c.requires.2 _ e (missing_low _ _ _ _ _ _ _ c.requires.2 e) c.causing.ensures
 
 pub returns-in-Ok : goal.returns-in-Ok
 returns-in-Ok c =
-    let e = rw c.level_of.ensures at (sym c.find-found.ensures ∙ c.in-Ok.is) in
+    let e = rw c.is_own-own.ensures at (sym c.find-found.ensures ∙ c.in-Ok.is) in
     read_found _ _ _ _ _ _ _ _ c.requires.1 _ _ c.requires.0 c.requires.2 _ c.put.ensures e

@@ -50,8 +50,7 @@ script_of-found-requires c = findable _ _ _ _ _ _ c.requires.1 c.requires.3.0
 
 pub returns-in-Err : goal.returns-in-Err
 returns-in-Err c =
-    let own = rw c.level_of-receiver.ensures at c.script_of-found.ensures in
-    let t = told_missing _ _ (sym own ∙ c.in-Err.is) in
+    let t = told_missing _ _ (rw c.is_own-own.ensures at (sym c.script_of-found.ensures ∙ c.in-Err.is)) in
     elim (framed c.fate_of-fate.result c.in_default.not-Fork c.in_default-fate.not-Block) [
       | inl q ↦ send_asked _ _ _ _ _ _ _ _ c.requires.1 c.args.a c.args.b c.args.c _ _ c.level_of-sender.ensures c.level_of-receiver.ensures fate.Call (sym c.fate_of-fate.ensures ∙ q) (rw t.0 refl) c.requires.0 c.requires.3.0 (rw t.1 at c.causing.ensures)
       | inr q ↦ send_asked _ _ _ _ _ _ _ _ c.requires.1 c.args.a c.args.b c.args.c _ _ c.level_of-sender.ensures c.level_of-receiver.ensures fate.Discard (sym c.fate_of-fate.ensures ∙ q) (rw t.0 refl) c.requires.0 c.requires.3.0 (rw t.1 at c.causing.ensures)
@@ -60,8 +59,7 @@ returns-in-Err c =
 pub returns-in-Ok : goal.returns-in-Ok
 unfolding sent
 returns-in-Ok c =
-    let own = rw c.level_of-receiver.ensures at c.script_of-found.ensures in
-    let t = told_script _ _ (sym own ∙ c.in-Ok.is) in
+    let t = told_script _ _ (rw c.is_own-own.ensures at (sym c.script_of-found.ensures ∙ c.in-Ok.is)) in
     let known = rw (sym t.1) at t.0 in
     elim (framed c.fate_of-fate.result c.in_default.not-Fork c.in_default-fate.not-Block) [
       | inl q ↦ send_called _ _ _ _ _ _ _ _ c.requires.1 c.args.a c.args.b c.args.c _ _ c.level_of-sender.ensures c.level_of-receiver.ensures fate.Call true _ (rw (c.returns.ensures, q) at c.call.ensures) (sym c.fate_of-fate.ensures ∙ q) (λ read gs. refl) c.requires.3.0 t.1 known
