@@ -37,13 +37,13 @@ use Rattle.model.specs.Rules.{conservative}
 use Rattle.theorems.proofs.Laws.Code.Progress.{allowed}
 use Rattle.tallies.specs.Places.{next_place, waiting_place, busy_place, tally_numbers, unchanged, managed}
 use Rattle.level_state.specs.Representation.{Words, Roomy, Runs, placed}
-use Rattle.level_state.specs.Steps.{Tables, Readable, ReadReady, Answered, Parts, Changing, ChangedBy, PerformReady, Performed, SettleReady, Closed, Settled, CoreSettled, begun_tallies, StartReady, Started}
+use Rattle.level_state.specs.Steps.{Tables, Readable, ReadReady, Answered, Parts, parts_of, Changing, ChangedBy, PerformReady, Performed, SettleReady, Closed, Settled, CoreSettled, begun_tallies, StartReady, Started}
 use Rattle.level_state.specs.Ends.{SameRest}
 use Rattle.fork_runs.specs.Levels.{LevelReady, LevelDone}
 use Rattle.fork_runs.specs.Running.{Draining, KnownIsRead, NextReady, NextDone}
 use Rattle.level_state.proofs.Laws.Ready.{represents_quiescent, waits_some, start_ready}
 use Rattle.level_state.proofs.Laws.Step.{invariant_start}
-use Rattle.level_state.proofs.Laws.Made.{parts_of, core_on, settled_of_lem, held_fits}
+use Rattle.level_state.proofs.Laws.Made.{core_on, settled_of_lem, held_fits}
 use Rattle.level_state.proofs.Laws.Seen.{blank_zeros}
 use Rattle.fork_runs.proofs.Laws.Level.{any_manager, LevelLoop, drain_represents, drain_has, drain_live, drain_allowed, drain_on, level_start, level_done}
 use Rattle.fork_runs.proofs.Laws.Left.{steps_left}

@@ -89,20 +89,20 @@ perform-requires c =
 pub settle-requires-in-loop-cache : goal.settle-requires-in-loop-cache
 settle-requires-in-loop-cache c =
     let p = c.perform in
-    let q = done_settles (gone (goal.at.settle-requires-in-loop-cache c).After-advance-m) (asks_nothing c.advance-m.result.core.effect c.in_default.not-Read c.in_default-effect.not-Change) (parts_of p.new.state p.new.work) p.ensures.performed in
+    let q = done_settles (gone (goal.at.settle-requires-in-loop-cache c).After-advance-m) (asks_nothing c.advance-m.result.core.effect c.in_default.not-Read c.in_default-effect.not-Change) (parts_of (words_of p.new.state p.new.work)) p.ensures.performed in
     record { settle_ready = rw p.ensures.rest q.0; forks_bound = q.1 }
 
 pub loop-cache-smaller : goal.loop-cache-smaller
 loop-cache-smaller c =
     let p = c.perform in
     let d = c.settle-in-loop-cache in
-    done_less (gone (goal.at.loop-cache-smaller c).After-advance-m) (asks_nothing c.advance-m.result.core.effect c.in_default.not-Read c.in_default-effect.not-Change) (parts_of p.new.state p.new.work) p.ensures.performed (words_of d.new.state p.new.work)
+    done_less (gone (goal.at.loop-cache-smaller c).After-advance-m) (asks_nothing c.advance-m.result.core.effect c.in_default.not-Read c.in_default-effect.not-Change) (parts_of (words_of p.new.state p.new.work)) p.ensures.performed (words_of d.new.state p.new.work)
 
 pub loop-cache-preserved : goal.loop-cache-preserved
 loop-cache-preserved c =
     let p = c.perform in
     let d = c.settle-in-loop-cache in
-    (rw (d.ensures.rest.0, d.ensures.rest.1) (done_again (gone (goal.at.loop-cache-preserved c).After-advance-m) (asks_nothing c.advance-m.result.core.effect c.in_default.not-Read c.in_default-effect.not-Change) (parts_of p.new.state p.new.work) p.ensures.performed (rw p.ensures.rest at d.ensures.settled)), refl)
+    (rw (d.ensures.rest.0, d.ensures.rest.1) (done_again (gone (goal.at.loop-cache-preserved c).After-advance-m) (asks_nothing c.advance-m.result.core.effect c.in_default.not-Read c.in_default-effect.not-Change) (parts_of (words_of p.new.state p.new.work)) p.ensures.performed (rw p.ensures.rest at d.ensures.settled)), refl)
 
 pub returns : goal.returns
 returns c =

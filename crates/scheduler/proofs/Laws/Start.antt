@@ -179,9 +179,6 @@ module _ (s : List ℕ) (a : verdict_of s ≡ Accepted) where
     root_room =
         record { room = f.forks_room; level = level_small m level e i; kept = omega arith; rises = rises_none queue level 0 }
 
-    pub root_tally : waiting_place level < length tallies
-    root_tally = rw f.counts (omega (arith, level_small m level e i))
-
     -- the words of a session as read in
     pub read_in_lem : (current' queue' row : List ℕ) (count : ℕ) → Filled s current current' → RootRow m row → Arrived queue queue' level 0 0 row count
         → InitialWords s current' (set tallies (waiting_place level) count) queue' level
