@@ -39,7 +39,6 @@ use Rattle.versions.specs.Log.{max_versions, log_start, log_of, Within}
 use Rattle.versions.specs.Changes.{Appended}
 use Rattle.tallies.specs.Places.{begun_tallies, next_place, waiting_place, versions_place, busy_place, tally_numbers, tallied, changed}
 use Rattle.level_state.specs.Representation.{Words, RunInvariant}
-use Rattle.level_state.specs.declared.RunState.{RunState}
 
 -- an accepted session, its level table and its method index
 pub record Tables (s masks index : List ℕ) : Type 0 where
@@ -170,9 +169,9 @@ pub record Parts : Type 0 where
   pub queue : List ℕ
   pub work : List ℕ
 
--- those of a run's state, and of the work slice that it is lent
-abbrev pub parts_of : RunState → List ℕ → Parts
-parts_of x work = record { current = x.current; tallies = x.tallies; queue = x.queue; work = work }
+-- those of a run's words
+abbrev pub parts_of : Words → Parts
+parts_of w = record { current = w.current; tallies = w.tallies; queue = w.queue; work = w.work }
 
 -- it is written, the last one first
 abbrev pub WroteAll : Parts → Parts → ℕ → ℕ → List Written → Type 0

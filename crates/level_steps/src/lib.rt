@@ -54,7 +54,7 @@ pub fn perform(
     effect: Effect,
 )
     requires { PerformReady state.old.current state.old.tallies state.old.queue work.old level first forks (effect_of effect) }
-    ensures performed { Performed (parts_of state.old work.old) (parts_of state.new work.new) level first forks (effect_of effect) }
+    ensures performed { Performed (parts_of (words_of state.old work.old)) (parts_of (words_of state.new work.new)) level first forks (effect_of effect) }
     ensures rest { state.new.ended ≡ state.old.ended }
 {
     match effect {

@@ -1,11 +1,8 @@
 -- What the stages of a run promise each other. No meaning rests on these. Assumes nothing.
 -- Laws: the session as read in (`proofs/Laws/Start`); the answers (`Answers`).
-use Rattle.std.specs.Prelude.{ℕ, ◌+◌, ◌≤◌, ◌<◌, ◌≡◌, Bool, true, false, List, length, get_or}
-use Rattle.session.specs.Limits.{max_methods}
+use Rattle.std.specs.Prelude.{ℕ, ◌≤◌, ◌<◌, ◌≡◌, Option, Some, None, List, length, get_or}
 use Rattle.session.specs.Meaning.{level_of, root_object, root_of}
 use Rattle.session.specs.Program.{program_of}
-use Rattle.contents.specs.Reading.{index_of}
-use Rattle.scripts.specs.Valid.{Leveled}
 use Rattle.model.specs.Limits.{work_numbers, result_bytes}
 use Rattle.model.specs.Schedule.{initial_state, run_of, plain_order}
 use Rattle.calls.specs.Entries.{answer_of}
@@ -19,23 +16,21 @@ use Rattle.tallies.specs.Places.{start_tallies}
 use Rattle.level_state.specs.Ends.{Quiescent}
 
 -- words that no run has used: those of fields are all 0, so that no object but the session's is there
-pub record Fresh (index current tallies queue : List ℕ) : Type 0 where
-  pub methods : length index ≡ max_methods + 1
+pub record Fresh (current tallies queue : List ℕ) : Type 0 where
   pub fields_room : field_words ≤ length current
   pub fields_none : (i : ℕ) → i < field_words → get_or current i 0 ≡ 0
   pub counts : tallies ≡ start_tallies
   pub forks_room : queue_words ≤ length queue
 
--- they hold the method index and, with any words for histories and versions, represent the session as read in; the root's object is at a level
-pub record InitialWords (s index current tallies queue : List ℕ) (level : ℕ) : Type 0 where
-  pub index_is : index ≡ index_of s
+-- with any words for histories and versions they represent the session as read in; the root's object is at a level
+pub record InitialWords (s current tallies queue : List ℕ) (level : ℕ) : Type 0 where
   pub level_is : level ≡ level_of s (root_object s)
   pub quiescent : (ended work : List ℕ) → history_words ≤ length ended → work_numbers ≤ length work → Quiescent s (record { current = current; ended = ended; tallies = tallies; queue = queue; work = work }) (initial_state s)
 
--- the scheduler steps of a run: those of a timetable, if it is listed, or the plain ones
-abbrev pub list_of : List ℕ → List ℕ → Bool → List ℕ
-list_of s ls true = ls
-list_of s ls false = plain_order (program_of s) (root_of s)
+-- the scheduler steps of a run: those of a timetable, if there is one, or the plain ones
+abbrev pub list_of : List ℕ → Option (List ℕ) → List ℕ
+list_of s (Some ls) = ls
+list_of s None = plain_order (program_of s) (root_of s)
 
 -- the records of the words' result for a clearance are written
 pub record Shows (s current ended tallies : List ℕ) (clearance level : ℕ) (before after : List ℕ) (r : Answer) : Type 0 where
@@ -43,9 +38,8 @@ pub record Shows (s current ended tallies : List ℕ) (clearance level : ℕ) (b
   pub place : r.place ≡ 0
   pub written : Written (bytes_in s (result_in current ended tallies) clearance level) before after r.count
 
--- a run of an accepted session, with its level table, has the room that questions 10 and 11 ask for
-pub record RunReady (s masks work result : List ℕ) : Type 0 where
-  pub leveled : Leveled s masks
+-- a run has the room that questions 10 and 11 ask for
+pub record RunReady (work result : List ℕ) : Type 0 where
   pub work_room : work_numbers ≤ length work
   pub result_room : result_bytes ≤ length result
 

@@ -1,172 +1,143 @@
 // The timetabled run and the plain run.
 #![tactic(auto)]
 
+ghost use Rattle.std.specs.Prelude.{◌≡◌, option_copied};
 ghost use Rattle.session.specs.Meaning.{level_of, root_object};
 ghost use Rattle.scripts.specs.Valid.{Leveled};
 ghost use Rattle.calls.specs.Entries.{timetabled, plain as plainly, Answers};
 ghost use Rattle.model.specs.Schedule.{initial_state};
 ghost use Rattle.results.specs.Writing.{Ready};
-ghost use Rattle.level_state.specs.Steps.{Tables};
+ghost use Rattle.level_state.specs.Representation.{words_of};
 ghost use Rattle.level_state.specs.Ends.{Quiescent, Ends, SameRest};
 ghost use Rattle.scheduler.specs.Runs.{list_of, Fresh, InitialWords, Shows, RunReady, ListDone};
 
+use contents::Session;
 use fields::FIELD_WORDS;
 use histories::limits::HISTORY_WORDS;
-use level_state::RunEnd;
+use level_state::{RunEnd, RunState};
 use opening::Answer;
 use queues::QUEUE_WORDS;
 use session::limits::{MAX_LEVELS, MAX_METHODS};
 use tallies::WAITING;
 
-// Fills the words of a run with the session as read in: the method index, the first fields and existence of its
-// objects, and the root's fork, which waits. Returns the root's level.
-fn read_in(
-    session: &[u8],
-    masks: &[u16],
-    index: &mut [u16],
-    current: &mut [u32],
-    tallies: &mut [usize],
-    queue: &mut [u32],
-) -> usize
-    requires leveled { Leveled session.now masks.now }
-    requires fresh { Fresh index.old current.old tallies.old queue.old }
-    ensures { InitialWords session.now index.new current.new tallies.new queue.new result }
+// Fills the state of a run with the session as read in: the first fields and existence of its objects, and the
+// root's fork, which waits. Returns the root's level.
+fn read_in(session: &Session, state: &mut RunState) -> usize
+    requires { Fresh state.old.current state.old.tallies state.old.queue }
+    ensures initial { InitialWords session.now.bytes.now state.new.current state.new.tallies state.new.queue result }
+    ensures rest { state.new.ended ≡ state.old.ended }
 {
-    contents::index_methods(session, index);
-    fields::fill(session, masks, current);
-    let message = contents::root(session);
-    let level = contents::level_of(session, masks, message.object as usize);
+    fields::fill(session.bytes, session.masks, &mut state.current);
+    let message = session.root();
+    let level = session.level_of(message.object as usize);
     let row = queues::root_row(message);
-    tallies[WAITING + level] = queues::arrive(queue, level, 0, 0, &row);
+    state.tallies[WAITING + level] = queues::arrive(&mut state.queue, level, 0, 0, &row);
     level
 }
 
 // Writes the records of a run that a clearance is shown.
 fn show(
-    session: &[u8],
-    masks: &[u16],
-    current: &[u32],
-    ended: &[u32],
-    tallies: &[usize],
+    session: &Session,
+    state: &RunState,
     clearance: usize,
     level: usize,
     res: &mut [u8],
 ) -> Answer
-    requires { Ready session.now masks.now current.now ended.now tallies.now level res.old }
-    ensures { Shows session.now current.now ended.now tallies.now clearance level res.old res.new result }
+    requires { Ready session.now.bytes.now session.now.masks.now state.now.current state.now.ended state.now.tallies level res.old }
+    ensures { Shows session.now.bytes.now state.now.current state.now.ended state.now.tallies clearance level res.old res.new result }
 {
     let count = results::write(
-        session, masks, current, ended, tallies, clearance, level, res,
+        session.bytes,
+        session.masks,
+        &state.current,
+        &state.ended,
+        &state.tallies,
+        clearance,
+        level,
+        res,
     );
     opening::finished(count)
 }
 
-// Makes scheduler steps from the session as read in: those of a timetable, if it is listed, of which one can
-// be refused; else plainly, until all managers have ended.
+// Makes scheduler steps from the session as read in: those of a timetable, if there is one, of which one can be
+// refused; else plainly, until all managers have ended.
 fn make_steps(
-    session: &[u8],
-    timetable: &[u8],
-    listed: bool,
-    masks: &[u16],
-    index: &[u16],
-    current: &mut [u32],
-    ended: &mut [u32],
-    tallies: &mut [usize],
-    queue: &mut [u32],
+    session: &Session,
+    timetable: Option<&[u8]>,
+    state: &mut RunState,
     work: &mut [u32],
 ) -> RunEnd
-    requires tables { Tables session.now masks.now index.now }
-    requires quiescent { Quiescent session.now (record { current = current.now; ended = ended.old; tallies = tallies.old; queue = queue.old; work = work.old }) (initial_state session.now) }
-    ensures { Ends session.now (list_of session.now timetable.now listed) (record { current = current.exit.now; ended = ended.new; tallies = tallies.new; queue = queue.new; work = work.new }) result × SameRest work.old work.new }
+    requires { Quiescent session.now.bytes.now (words_of state.old work.old) (initial_state session.now.bytes.now) }
+    ensures { Ends session.now.bytes.now (list_of session.now.bytes.now (option_copied timetable.entry)) (words_of state.new work.new) result × SameRest work.old work.new }
 {
-    if listed {
-        return timetabled::run(
-            session, timetable, masks, index, current, ended, tallies, queue, work,
-        );
+    match timetable {
+        Some(steps) => timetabled::run(session, steps, state, work),
+        None => {
+            plain::run(session, state, work);
+            RunEnd::Finished
+        }
     }
-    plain::run(session, masks, index, current, ended, tallies, queue, work);
-    RunEnd::Finished
 }
 
 // Runs an accepted session, by a timetable or plainly, and writes the records that a clearance is shown.
 fn run_accepted(
-    session: &[u8],
-    timetable: &[u8],
-    listed: bool,
-    masks: &[u16],
+    session: &Session,
+    timetable: Option<&[u8]>,
     clearance: usize,
     work: &mut [u32],
     res: &mut [u8],
 ) -> Answer
-    requires { RunReady session.now masks.now work.old res.old }
-    ensures { ListDone session.now (list_of session.now timetable.now listed) clearance work.old work.new res.old res.new result }
+    requires { RunReady work.old res.old }
+    ensures { ListDone session.now.bytes.now (list_of session.now.bytes.now (option_copied timetable.entry)) clearance work.old work.new res.old res.new result }
 {
-    let mut index = [0u16; MAX_METHODS + 1];
-    let mut current = [0u32; FIELD_WORDS];
-    let mut ended = [0u32; HISTORY_WORDS];
-    let mut queue = [0u32; QUEUE_WORDS];
-    let mut tallies = tallies::first();
-    let level = read_in(
-        session,
-        masks,
-        &mut index,
-        &mut current,
-        &mut tallies,
-        &mut queue,
-    );
-    let end = make_steps(
-        session,
-        timetable,
-        listed,
-        masks,
-        &index,
-        &mut current,
-        &mut ended,
-        &mut tallies,
-        &mut queue,
-        work,
-    );
+    let tallies = tallies::first();
+    let mut state = RunState {
+        current: [0u32; FIELD_WORDS],
+        ended: [0u32; HISTORY_WORDS],
+        tallies,
+        queue: [0u32; QUEUE_WORDS],
+    };
+    let level = read_in(session, &mut state);
+    let end = make_steps(session, timetable, &mut state, work);
     versions::clear(work);
     if let RunEnd::Refused { number, place } = end {
         return opening::refused(number, place);
     }
-    show(
-        session, masks, &current, &ended, &tallies, clearance, level, res,
-    )
+    show(session, &state, clearance, level, res)
 }
 
 // Runs a session that is opened, with its level table: questions 9 to 15.
 fn run_opened(
     session: &[u8],
-    timetable: &[u8],
-    listed: bool,
+    timetable: Option<&[u8]>,
     masks: &[u16],
     clearance: usize,
     work: &mut [u32],
     res: &mut [u8],
 ) -> Answer
     requires { Leveled session.now masks.now }
-    ensures { Answers (timetabled (record { session = session.entry.now; clearance = clearance; work = work.old; buffer = res.old }) (list_of session.entry.now timetable.now listed)) result.number result.place result.count work.new res.new }
+    ensures { Answers (timetabled (record { session = session.entry.now; clearance = clearance; work = work.old; buffer = res.old }) (list_of session.entry.now (option_copied timetable.entry))) result.number result.place result.count work.new res.new }
 {
     let ten = opening::is_work(work.len());
     let number = opening::lent_refusal(masks.len(), clearance, ten, res.len());
     if number != 0 {
         return opening::refused(number, 0);
     }
-    run_accepted(session, timetable, listed, masks, clearance, work, res)
+    let mut index = [0u16; MAX_METHODS + 1];
+    let accepted = Session::new(session, masks, &mut index);
+    run_accepted(&accepted, timetable, clearance, work, res)
 }
 
 // Runs a session, by a timetable or plainly, and writes what a clearance is shown of it: Check's questions and
 // 9 to 15.
 fn run_session(
     session: &[u8],
-    timetable: &[u8],
-    listed: bool,
+    timetable: Option<&[u8]>,
     clearance: usize,
     work: &mut [u32],
     res: &mut [u8],
 ) -> Answer
-    ensures { Answers (timetabled (record { session = session.entry.now; clearance = clearance; work = work.old; buffer = res.old }) (list_of session.entry.now timetable.now listed)) result.number result.place result.count work.new res.new }
+    ensures { Answers (timetabled (record { session = session.entry.now; clearance = clearance; work = work.old; buffer = res.old }) (list_of session.entry.now (option_copied timetable.entry))) result.number result.place result.count work.new res.new }
 {
     let mut masks = [0u16; MAX_LEVELS];
     let opened = opening::open(session, &mut masks);
@@ -174,15 +145,7 @@ fn run_session(
         return opening::refused(opened.number, 0);
     }
     let levels = opened.levels;
-    run_opened(
-        session,
-        timetable,
-        listed,
-        &masks[..levels],
-        clearance,
-        work,
-        res,
-    )
+    run_opened(session, timetable, &masks[..levels], clearance, work, res)
 }
 
 // Runs a session by a timetable and writes what a clearance is shown of it: Check's questions and 9 to 15 of any
@@ -196,7 +159,7 @@ pub fn run_timetable(
 ) -> Answer
     ensures { Answers (timetabled (record { session = session.entry.now; clearance = clearance; work = work.old; buffer = res.old }) timetable.now) result.number result.place result.count work.new res.new }
 {
-    run_session(session, timetable, true, clearance, work, res)
+    run_session(session, Some(timetable), clearance, work, res)
 }
 
 // Runs a session plainly and writes what a clearance is shown of it: Check's questions and 9 to 11 of any bytes, of
@@ -204,8 +167,7 @@ pub fn run_timetable(
 pub fn run_plain(session: &[u8], clearance: usize, work: &mut [u32], res: &mut [u8]) -> Answer
     ensures { Answers (plainly (record { session = session.entry.now; clearance = clearance; work = work.old; buffer = res.old })) result.number result.place result.count work.new res.new }
 {
-    let no_timetable = [0u8; 0];
-    run_session(session, &no_timetable, false, clearance, work, res)
+    run_session(session, None, clearance, work, res)
 }
 
 // Runs a session plainly for a reader cleared to the level of its root's object.
@@ -220,14 +182,5 @@ pub fn run_for_root(session: &[u8], work: &mut [u32], res: &mut [u8]) -> Answer
     let levels = opened.levels;
     let message = contents::root(session);
     let level = contents::level_of(session, &masks[..levels], message.object as usize);
-    let no_timetable = [0u8; 0];
-    run_opened(
-        session,
-        &no_timetable,
-        false,
-        &masks[..levels],
-        level,
-        work,
-        res,
-    )
+    run_opened(session, None, &masks[..levels], level, work, res)
 }

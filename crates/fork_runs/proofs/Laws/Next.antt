@@ -21,6 +21,7 @@ use Rattle.scripts.specs.Existence.{existence}
 use Rattle.scripts.specs.Limits.{max_script_steps}
 use Rattle.scripts.specs.Ending.{is_running}
 use Rattle.scripts.specs.State.{Manager}
+use Rattle.scripts.specs.declared.Ending.{Ending}
 use Rattle.scripts.proofs.Laws.Counts.{started_counts}
 use Rattle.fields.specs.Limits.{field_words}
 use Rattle.cores.specs.Core.{effect_of, is_asking}
@@ -35,13 +36,13 @@ use Rattle.model.specs.Rules.{conservative}
 use Rattle.theorems.proofs.Laws.Code.Progress.{allowed}
 use Rattle.tallies.specs.Places.{begun_tallies, next_place, waiting_place, busy_place, tally_numbers, unchanged, managed}
 use Rattle.level_state.specs.Representation.{Words, Roomy, Runs, placed}
-use Rattle.level_state.specs.Steps.{Tables, Readable, ReadReady, Answered, Parts, Changing, ChangedBy, PerformReady, Performed, SettleReady, Closed, Settled, CoreSettled, StartReady, Started}
+use Rattle.level_state.specs.Steps.{Tables, Readable, ReadReady, Answered, Parts, parts_of, Changing, ChangedBy, PerformReady, Performed, SettleReady, Closed, Settled, CoreSettled, StartReady, Started}
 use Rattle.level_state.specs.Ends.{SameRest}
 use Rattle.fork_runs.specs.Levels.{LevelReady, LevelDone}
 use Rattle.fork_runs.specs.Running.{Draining, KnownIsRead, NextReady, NextDone}
 use Rattle.level_state.proofs.Laws.Ready.{represents_quiescent, waits_some, start_ready}
 use Rattle.level_state.proofs.Laws.Step.{invariant_start}
-use Rattle.level_state.proofs.Laws.Made.{parts_of, core_on, settled_of_lem, held_fits}
+use Rattle.level_state.proofs.Laws.Made.{core_on, settled_of_lem, held_fits}
 use Rattle.level_state.proofs.Laws.Seen.{blank_zeros}
 use Rattle.fork_runs.proofs.Laws.Level.{any_manager, LevelLoop, drain_represents, drain_has, drain_live, drain_allowed, drain_on, level_start, level_done}
 use Rattle.fork_runs.proofs.Laws.Left.{steps_left}
@@ -61,6 +62,11 @@ closed_counts ended ended' tallies tallies' queue l m small room d =
           ∙ get_or-set_other one (next_place l) l x 0 (λ q. omega (arith, q, small))
           ∙ get_or-set_same tallies l n 0 (omega (arith, small, room)),
     )
+
+-- the words once a manager has started
+abbrev pub started_words : Words → List ℕ → List ℕ → Words
+started_words w₀ ended' tallies' =
+    record { current = w₀.current; ended = ended'; tallies = tallies'; queue = w₀.queue; work = w₀.work }
 
 -- 1 while it runs
 abbrev bit : code.Manager → ℕ
@@ -147,8 +153,7 @@ module _ {s masks index : List ℕ} (rd : Tables s masks index) {w₀ : Words} {
 
   module _ {ended' tallies' : List ℕ} {m : code.Manager} (d : Started s w₀ ended' tallies' l (manager_of m)) (held : WellFormed s m) where
     abbrev begun_words : Words
-    begun_words =
-        record { current = w₀.current; ended = ended'; tallies = tallies'; queue = w₀.queue; work = w₀.work }
+    begun_words = started_words w₀ ended' tallies'
 
     level_is : m.core.level ≡ l
     unfolding manager_of
@@ -197,119 +202,149 @@ module _ {s masks index : List ℕ} (rd : Tables s masks index) {w₀ : Words} {
       pub next_drains : Draining s z.from w l (manager_of m')
       next_drains = i.drains z.from (began z.drains ended' tallies' (manager_of m) d)
 
-      -- it runs on
-      module _ (run : is_running m'.core.ending ≡ true) where
-        go : RunningManager s w l m' cache
-        go = i.runs_on run
+-- the manager that started at level l runs, and is m' by then
+pub record Going (s masks index : List ℕ) (w₀ w : Words) (l : ℕ) (ended' tallies' : List ℕ) (m m' : code.Manager) (cache : List ℕ) : Type 0 where
+  pub read : Tables s masks index
+  pub ready : NextReady s w₀ l
+  pub started : Started s w₀ ended' tallies' l (manager_of m)
+  pub held : WellFormed s m
+  pub loop : NextLoop s (started_words w₀ ended' tallies') w l m m' cache
+  pub runs : is_running m'.core.ending ≡ true
 
-        pub next_able : Advanceable s masks index w.current cache m' × ((m'.core.steps < max_script_steps) × (max_script_steps ≤ max_script_steps))
-        next_able = (able_now rd go next_drains, able_more rd go)
+-- so it is where the ending that is kept of it runs
+pub goes : {s masks index : List ℕ} {w₀ w : Words} {l : ℕ} {ended' tallies' : List ℕ} {m m' : code.Manager} {cache : List ℕ} {ending : Ending} {running : Bool} → Tables s masks index → NextReady s w₀ l → Started s w₀ ended' tallies' l (manager_of m) × WellFormed s m → NextLoop s (started_words w₀ ended' tallies') w l m m' cache × (ending ≡ m'.core.ending) → running ≡ is_running ending → running ≡ true → Going s masks index w₀ w l ended' tallies' m m' cache
+goes a z d i e q =
+    record { read = a; ready = z; started = d.0; held = d.1; loop = i.0; runs = ap is_running (sym i.1) ∙ sym e ∙ q }
 
-        pub next_flags : tally_numbers ≤ length w.tallies
-        next_flags = (next_drains.invariant (λ _. manager_of m')).represents.roomy.tallies
+module _ {s masks index : List ℕ} {w₀ w : Words} {l : ℕ} {ended' tallies' : List ℕ} {m m' : code.Manager} {cache : List ℕ} (g : Going s masks index w₀ w l ended' tallies' m m' cache) where
+  go : RunningManager s w l m' cache
+  go = g.loop.runs_on g.runs
 
-        -- a turn of it leads to r, and its history is kept where it has ended
-        module _ {r : code.Manager} (held' : WellFormed s r) (level' : r.core.level ≡ m'.core.level) {q : Parts} (t : Turn s w q l (manager_of m') (manager_of r)) (cache' : List ℕ) (known : KnownIsRead s w l cache') {ended'' tallies'' : List ℕ} (e : CoreSettled w.ended ended'' q.tallies tallies'' q.queue l r.core) where
-          abbrev then : Words
-          then =
-              record { current = q.current; ended = ended''; tallies = tallies''; queue = q.queue; work = q.work }
+  drains_now : Draining s g.ready.from w l (manager_of m')
+  drains_now = next_drains g.read g.ready g.started g.held g.loop
 
-          counts_then : (get_or tallies'' (busy_place l) 0 ≡ bit r) × (get_or tallies'' l 0 + bit r ≡ get_or q.tallies l 0 + 1)
-          counts_then = settled_counts r small t.settles.counted t.busy (settled_of_lem r e)
+  pub next_able : Advanceable s masks index w.current cache m' × ((m'.core.steps < max_script_steps) × (max_script_steps ≤ max_script_steps))
+  next_able = (able_now g.read go drains_now, able_more g.read go)
 
-          known_then : is_running r.core.ending ≡ true → KnownIsRead s then l cache'
-          known_then on =
-              let same = (e []).0 on in
-              rw (same.0, same.1) (turn_known cache' t known)
+  pub next_flags : tally_numbers ≤ length w.tallies
+  next_flags = (drains_now.invariant (λ _. manager_of m')).represents.roomy.tallies
 
-          next_again : length cache' ≡ length cache → NextLoop s begun_words then l m r cache'
-          next_again c0 =
-              let before : get_or w.tallies l 0 + 1 ≡ get_or tallies' l 0 + bit m = rw run at i.count in
-              record {
-                drains = λ from g. t.unsettled from (i.drains from g) ended'' tallies'' (settled_of_lem r e);
-                runs_on = λ on. record {
-                  held = held';
-                  running = on;
-                  level = level' ∙ go.level;
-                  busy_there = counts_then.0 ∙ rw on refl;
-                  known_read = known_then on;
-                  cache_there = rw c0 go.cache_there;
-                };
-                busy = counts_then.0;
-                count = counts_then.1 ∙ ap (λ n. n + 1) t.count ∙ before;
-                rest = t.rest ∙ i.rest;
-                cache_long = c0 ∙ i.cache_long;
-              }
+  -- a turn of it leads to r, and its history is kept where it has ended
+  module _ {r : code.Manager} (held' : WellFormed s r) (level' : r.core.level ≡ m'.core.level) {q : Parts} (t : Turn s w q l (manager_of m') (manager_of r)) (cache' : List ℕ) (known : KnownIsRead s w l cache') {ended'' tallies'' : List ℕ} (e : CoreSettled w.ended ended'' q.tallies tallies'' q.queue l r.core) where
+    abbrev then : Words
+    then =
+        record { current = q.current; ended = ended''; tallies = tallies''; queue = q.queue; work = q.work }
 
-        -- it has made its steps, with the flag of existence that is counted
-        module _ {r : code.Manager} {u : Bool} (flag : u ≡ unchanged w.tallies) (steps : Advanced s w.current cache false u max_script_steps m' r) where
-          ad : Advanced s w.current cache false (unchanged w.tallies) max_script_steps m' r
-          ad = subst (λ y. Advanced s w.current cache false y max_script_steps m' r) flag steps
+    counts_then : (get_or tallies'' (busy_place l) 0 ≡ bit r) × (get_or tallies'' l 0 + bit r ≡ get_or q.tallies l 0 + 1)
+    counts_then = settled_counts r (small g.read g.ready) t.settles.counted t.busy (settled_of_lem r e)
 
-          pub next_reads : {o k : ℕ} → r.core.effect ≡ outside.Read o k → Readable s w l × ReadReady s cache o k
-          next_reads is = turn_reads rd go ad next_drains is
+    known_then : is_running r.core.ending ≡ true → KnownIsRead s then l cache'
+    known_then on =
+        let same = (e []).0 on in
+        rw (same.0, same.1) (turn_known cache' t known)
 
-          -- existence is asked for, or a field
-          pub asks-existence : {o k : ℕ} → r.core.effect ≡ outside.Read o k → k ≡ existence → r.core.effect ≡ outside.Read o existence
-          asks-existence {o} is e = is ∙ ap (outside.Read o) e
+    next_again : length cache' ≡ length cache → NextLoop s (started_words w₀ ended' tallies') then l m r cache'
+    next_again c0 =
+        let before : get_or w.tallies l 0 + 1 ≡ get_or tallies' l 0 + bit m = rw g.runs at g.loop.count in
+        record {
+          drains = λ from drain. t.unsettled from (g.loop.drains from drain) ended'' tallies'' (settled_of_lem r e);
+          runs_on = λ on. record {
+            held = held';
+            running = on;
+            level = level' ∙ go.level;
+            busy_there = counts_then.0 ∙ rw on refl;
+            known_read = known_then on;
+            cache_there = rw c0 go.cache_there;
+          };
+          busy = counts_then.0;
+          count = counts_then.1 ∙ ap (λ n. n + 1) t.count ∙ before;
+          rest = t.rest ∙ g.loop.rest;
+          cache_long = c0 ∙ g.loop.cache_long;
+        }
 
-          pub asks_field : {o k : ℕ} → r.core.effect ≡ outside.Read o k → (k ≡ existence → ⊥) → k < fields
-          asks_field {o} {k} is no' = below k (next_reads is).1.named.field no'
-            where
-              below : (k : ℕ) → k ≤ existence → (k ≡ existence → ⊥) → k < fields
-              below k h d = elim (ℕ_discrete k existence) [
-                | yes e ↦ absurd (d e)
-                | no z ↦ omega (arith, h, z)
-              ]
+-- it has made its steps, and is r by then, with the flag of existence that is counted
+pub record Gone (s masks index : List ℕ) (w₀ w : Words) (l : ℕ) (ended' tallies' : List ℕ) (m m' : code.Manager) (cache : List ℕ) (u : Bool) (r : code.Manager) : Type 0 where
+  pub going : Going s masks index w₀ w l ended' tallies' m m' cache
+  pub flag : u ≡ unchanged w.tallies
+  pub steps : Advanced s w.current cache false u max_script_steps m' r
 
-          pub next_performs : PerformReady w.current w.tallies w.queue w.work l r.core.first r.core.forks (effect_of r.core.effect)
-          next_performs = turn_performs rd go ad next_drains
+module _ {s masks index : List ℕ} {w₀ w : Words} {l : ℕ} {ended' tallies' : List ℕ} {m m' : code.Manager} {cache : List ℕ} {u : Bool} {r : code.Manager} (b : Gone s masks index w₀ w l ended' tallies' m m' cache u r) where
+  abbrev read : Tables s masks index
+  read = b.going.read
 
-          -- what its next step asks for was read: the manager stands before that step, and runs
-          module _ {o k : ℕ} (is : r.core.effect ≡ outside.Read o k) {cache' : List ℕ} (q : Answered s w cache cache' l o k) where
-            pub told_less : steps_left s w cache' r < steps_left s w cache m'
-            told_less = turn_told rd go ad next_drains is q
+  abbrev now : RunningManager s w l m' cache
+  now = go b.going
 
-            pub told_again : length cache' ≡ length cache → NextLoop s begun_words w l m r cache'
-            told_again c0 =
-                next_again ad.held ad.level_is (turn_asked rd go ad next_drains is) cache' (turn_remembers rd go ad next_drains is q)
-                (core_on w.ended w.tallies w.queue l r.core (ad.asks (ap is_asking is)).0)
-                c0
+  abbrev draining : Draining s b.going.ready.from w l (manager_of m')
+  draining = drains_now b.going
 
-          -- what its last step did outside it is done
-          module _ (not_asks : is_asking r.core.effect ≡ false) (q : Parts) (x : Performed (parts_of w) q l r.core.first r.core.forks (effect_of r.core.effect)) where
-            abbrev turn : Turn s w q l (manager_of m') (manager_of r)
-            turn = turn_performed rd go ad next_drains x
+  ad : Advanced s w.current cache false (unchanged w.tallies) max_script_steps m' r
+  ad = subst (λ y. Advanced s w.current cache false y max_script_steps m' r) b.flag b.steps
 
-            pub done_settles : SettleReady w.ended q.tallies q.queue l × (r.core.first + r.core.forks < 2 ^ 16)
-            done_settles = (turn.settles, held_fits ad.held)
+  pub next_reads : {o k : ℕ} → r.core.effect ≡ outside.Read o k → Readable s w l × ReadReady s cache o k
+  next_reads is = turn_reads read now ad draining is
 
-            pub done_less : (w' : Words) → steps_left s w' cache r < steps_left s w cache m'
-            done_less w' = turn_made rd go ad not_asks w' cache
+  -- existence is asked for, or a field
+  pub asks-existence : {o k : ℕ} → r.core.effect ≡ outside.Read o k → k ≡ existence → r.core.effect ≡ outside.Read o existence
+  asks-existence {o} is e = is ∙ ap (outside.Read o) e
 
-            -- and its history is kept where it has ended
-            pub done_again : {ended'' tallies'' : List ℕ} → CoreSettled w.ended ended'' q.tallies tallies'' q.queue l r.core → NextLoop s begun_words (record { current = q.current; ended = ended''; tallies = tallies''; queue = q.queue; work = q.work }) l m r cache
-            done_again e = next_again ad.held ad.level_is turn cache go.known_read e refl
+  pub asks_field : {o k : ℕ} → r.core.effect ≡ outside.Read o k → (k ≡ existence → ⊥) → k < fields
+  asks_field {o} {k} is no' = below k (next_reads is).1.named.field no'
+    where
+      below : (k : ℕ) → k ≤ existence → (k ≡ existence → ⊥) → k < fields
+      below k h d = elim (ℕ_discrete k existence) [
+        | yes e ↦ absurd (d e)
+        | no z ↦ omega (arith, h, z)
+      ]
 
-          -- its next step is a CREATE or WITHDRAW
-          module _ (is : r.core.effect ≡ outside.Change) where
-            pub next_changing : Changing s masks index w.current w.tallies w.work l r
-            next_changing = turn_changing rd go ad next_drains is
+  pub next_performs : PerformReady w.current w.tallies w.queue w.work l r.core.first r.core.forks (effect_of r.core.effect)
+  next_performs = turn_performs read now ad draining
 
-            -- which is made
-            module _ {current' tallies₁ work' : List ℕ} {r' : code.Manager} (made : ChangedBy s w.current current' w.tallies tallies₁ w.work work' l r r') where
-              abbrev changed_turn : Turn s w (record { current = current'; tallies = tallies₁; queue = w.queue; work = work' }) l (manager_of m') (manager_of r')
-              changed_turn = turn_changed rd go ad next_drains is made
+  -- what its next step asks for was read: the manager stands before that step, and runs
+  module _ {o k : ℕ} (is : r.core.effect ≡ outside.Read o k) {cache' : List ℕ} (q : Answered s w cache cache' l o k) where
+    pub told_less : steps_left s w cache' r < steps_left s w cache m'
+    told_less = turn_told read now ad draining is q
 
-              pub changed_settles : SettleReady w.ended tallies₁ w.queue l × (r'.core.first + r'.core.forks < 2 ^ 16)
-              changed_settles = (changed_turn.settles, held_fits made.held)
+    pub told_again : length cache' ≡ length cache → NextLoop s (started_words w₀ ended' tallies') w l m r cache'
+    told_again c0 =
+        next_again b.going ad.held ad.level_is (turn_asked read now ad draining is) cache' (turn_remembers read now ad draining is q)
+        (core_on w.ended w.tallies w.queue l r.core (ad.asks (ap is_asking is)).0)
+        c0
 
-              pub changed_less : (w' : Words) → steps_left s w' cache r' < steps_left s w cache m'
-              changed_less w' = turn_counted rd go ad next_drains is made w' cache
+  -- what its last step did outside it is done
+  module _ (not_asks : is_asking r.core.effect ≡ false) (q : Parts) (x : Performed (parts_of w) q l r.core.first r.core.forks (effect_of r.core.effect)) where
+    abbrev turn : Turn s w q l (manager_of m') (manager_of r)
+    turn = turn_performed read now ad draining x
 
-              pub changed_again : {ended'' tallies'' : List ℕ} → CoreSettled w.ended ended'' tallies₁ tallies'' w.queue l r'.core → NextLoop s begun_words (record { current = current'; ended = ended''; tallies = tallies''; queue = w.queue; work = work' }) l m r' cache
-              changed_again e =
-                  next_again made.held (made.level_is ∙ ad.level_is) changed_turn cache go.known_read e refl
+    pub done_settles : SettleReady w.ended q.tallies q.queue l × (r.core.first + r.core.forks < 2 ^ 16)
+    done_settles = (turn.settles, held_fits ad.held)
+
+    pub done_less : (w' : Words) → steps_left s w' cache r < steps_left s w cache m'
+    done_less w' = turn_made read now ad not_asks w' cache
+
+    -- and its history is kept where it has ended
+    pub done_again : {ended'' tallies'' : List ℕ} → CoreSettled w.ended ended'' q.tallies tallies'' q.queue l r.core → NextLoop s (started_words w₀ ended' tallies') (record { current = q.current; ended = ended''; tallies = tallies''; queue = q.queue; work = q.work }) l m r cache
+    done_again e = next_again b.going ad.held ad.level_is turn cache now.known_read e refl
+
+  -- its next step is a CREATE or WITHDRAW
+  module _ (is : r.core.effect ≡ outside.Change) where
+    pub next_changing : Changing s masks index w.current w.tallies w.work l r
+    next_changing = turn_changing read now ad draining is
+
+    -- which is made
+    module _ {current' tallies₁ work' : List ℕ} {r' : code.Manager} (made : ChangedBy s w.current current' w.tallies tallies₁ w.work work' l r r') where
+      abbrev changed_turn : Turn s w (record { current = current'; tallies = tallies₁; queue = w.queue; work = work' }) l (manager_of m') (manager_of r')
+      changed_turn = turn_changed read now ad draining is made
+
+      pub changed_settles : SettleReady w.ended tallies₁ w.queue l × (r'.core.first + r'.core.forks < 2 ^ 16)
+      changed_settles = (changed_turn.settles, held_fits made.held)
+
+      pub changed_less : (w' : Words) → steps_left s w' cache r' < steps_left s w cache m'
+      changed_less w' = turn_counted read now ad draining is made w' cache
+
+      pub changed_again : {ended'' tallies'' : List ℕ} → CoreSettled w.ended ended'' tallies₁ tallies'' w.queue l r'.core → NextLoop s (started_words w₀ ended' tallies') (record { current = current'; ended = ended''; tallies = tallies''; queue = w.queue; work = work' }) l m r' cache
+      changed_again e =
+          next_again b.going made.held (made.level_is ∙ ad.level_is) changed_turn cache now.known_read e refl
 
 -- the managers in turn
 pub record Turns (s : List ℕ) (w₀ w : Words) (l : ℕ) : Type 0 where
@@ -335,9 +370,6 @@ module _ (s : List ℕ) (a : verdict_of s ≡ Accepted) (w₀ : Words) (l : ℕ)
   module _ (w : Words) (i : Turns s w₀ w l) where
     drains : Draining s q.0 w l i.held
     drains = i.loop.drains q.0 q.1.0 q.1.1
-
-    pub turns_counted : waiting_place l < length w.tallies
-    turns_counted = omega (arith, turns_small, (drains.invariant (λ _. any_manager)).represents.roomy.tallies)
 
     pub turns_next : 0 < get_or w.tallies (waiting_place l) 0 → NextReady s w l
     turns_next waits =

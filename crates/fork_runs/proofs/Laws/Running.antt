@@ -40,7 +40,7 @@ use Rattle.model.specs.Step.{State, read_at}
 use Rattle.theorems.proofs.Laws.Code.Needs.{live-runs, live-fork}
 use Rattle.tallies.specs.Places.{busy_place, unchanged}
 use Rattle.level_state.specs.Representation.{Words, placed}
-use Rattle.level_state.specs.Steps.{Tables, found_in, Readable, ReadReady, Answered, Parts, EffectReady, EffectDone, Changing, ChangedBy, PerformReady, Performed, SettleReady}
+use Rattle.level_state.specs.Steps.{Tables, found_in, Readable, ReadReady, Answered, Parts, parts_of, EffectReady, EffectDone, Changing, ChangedBy, PerformReady, Performed, SettleReady}
 use Rattle.level_state.specs.Script.{RunsAt}
 use Rattle.level_state.specs.Ends.{SameRest}
 use Rattle.fork_runs.specs.Running.{Draining, KnownIsRead}
@@ -50,7 +50,7 @@ use Rattle.level_state.proofs.Laws.Script.{able, readable, sees, small_current, 
 use Rattle.level_state.proofs.Laws.Changes.{change_ready, changed_done, changed_is}
 use Rattle.level_state.proofs.Laws.Ready.{busy_settles, settle_after}
 use Rattle.level_state.proofs.Laws.Step.{invariant_live, rest_effect}
-use Rattle.level_state.proofs.Laws.Made.{parts_of, performs, performed, fielded_of, held_fits}
+use Rattle.level_state.proofs.Laws.Made.{performs, performed, fielded_of, held_fits}
 use Rattle.fork_runs.proofs.Laws.Unsettled.{Unsettled, Running, running_busy, running_effect, running_step, running_internal, running_leads, runs_at, unsettled_internal, unsettled_none, running_start}
 use Rattle.fork_runs.proofs.Laws.Outside.{with_parts, effect_count, effect_busy, effect_found}
 use Rattle.fork_runs.proofs.Laws.Left.{questions_of, pause_apart, told_less, pause_same, steps_left, ended_less, later_less, asked_less}

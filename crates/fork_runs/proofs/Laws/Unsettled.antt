@@ -31,10 +31,10 @@ use Rattle.managers.specs.Steps.{InternalSteps, Leads, internal, last}
 use Rattle.managers.specs.declared.Manager as code
 use Rattle.tallies.specs.Places.{busy_place, managed}
 use Rattle.level_state.specs.Representation.{Words, Runs, LevelRepresents, RunInvariant, placed}
-use Rattle.level_state.specs.Steps.{Busy, Parts, EffectReady, EffectDone, Settled}
+use Rattle.level_state.specs.Steps.{Busy, Parts, parts_of, EffectReady, EffectDone, Settled}
 use Rattle.level_state.specs.Script.{RunsAt}
 use Rattle.fork_runs.specs.Running.{Draining}
-use Rattle.level_state.proofs.Laws.Made.{parts_of, settled_on}
+use Rattle.level_state.proofs.Laws.Made.{settled_on}
 use Rattle.level_state.proofs.Laws.Ready.{represents_runs, effect_ready}
 use Rattle.level_state.proofs.Laws.Settle.{placed_own}
 use Rattle.level_state.proofs.Laws.Step.{invariant_live, invariant_advance}

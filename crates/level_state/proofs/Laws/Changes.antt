@@ -19,7 +19,7 @@ use Rattle.managers.specs.declared.Manager as code
 use Rattle.model.specs.Fork.{Fork}
 use Rattle.model.specs.Step.{State, read_at}
 use Rattle.level_state.specs.Representation.{Words}
-use Rattle.level_state.specs.Steps.{Tables, Busy, Parts, EffectDone, SettleReady, CoreSettled, Changing, ChangedBy}
+use Rattle.level_state.specs.Steps.{Tables, Busy, Parts, parts_of, EffectDone, SettleReady, CoreSettled, Changing, ChangedBy}
 use Rattle.level_state.specs.Script.{Blank, RunsAt}
 use Rattle.level_state.proofs.Laws.Ready.{effect_ready, settle_after}
 use Rattle.level_state.proofs.Laws.Step.{invariant_live, invariant_advance, rest_effect}
@@ -27,7 +27,7 @@ use Rattle.level_state.proofs.Laws.Reads.{read_here}
 use Rattle.level_state.proofs.Laws.Seen.{current_scripted}
 use Rattle.level_state.proofs.Laws.Pauses.{pause_change}
 use Rattle.level_state.proofs.Laws.Script.{level_is, running}
-use Rattle.level_state.proofs.Laws.Made.{Advancing, StepRepresented, busy_here, runs_here, done_room, parts_of, settled_of_lem}
+use Rattle.level_state.proofs.Laws.Made.{Advancing, StepRepresented, busy_here, runs_here, done_room, settled_of_lem}
 
 -- n runs at level l
 module _ {s masks index : List ℕ} {w : Words} {l : ℕ} {n : code.Manager} (a : Tables s masks index) (b : RunsAt s w l n) where

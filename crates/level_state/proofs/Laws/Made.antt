@@ -55,7 +55,7 @@ use Rattle.tallies.specs.Places.{begun_tallies, next_place, waiting_place, versi
 use Rattle.tallies.proofs.Laws.Changed.{changed-length, changed_other}
 use Rattle.tallies.specs.Places as counted
 use Rattle.level_state.specs.Representation.{Words, RunInvariant, placed}
-use Rattle.level_state.specs.Steps.{Tables, Busy, running_fork, ReadIs, ScriptIs, Readable, Named, WriteReady, Wrote, touches, WritesReady, withdrawing, ChangeReady, ChangeDone, Fielded, started_of, ForkReady, Forked, EffectReady, Parts, EffectDone, forks_after, PerformReady, Performed, SettleReady, Settled, CoreSettled, StepDone, StartReady, Started}
+use Rattle.level_state.specs.Steps.{Tables, Busy, running_fork, ReadIs, ScriptIs, Readable, Named, WriteReady, Wrote, touches, WritesReady, withdrawing, ChangeReady, ChangeDone, Fielded, started_of, ForkReady, Forked, EffectReady, Parts, parts_of, EffectDone, forks_after, PerformReady, Performed, SettleReady, Settled, CoreSettled, StepDone, StartReady, Started}
 use Rattle.level_state.specs.Script.{Blank, RunsAt, ScriptStep}
 use Rattle.level_state.proofs.Laws.Ready.{represents_quiescent, represents_runs, waits_some, start_ready, busy_settles, effect_ready, settle_after}
 use Rattle.level_state.proofs.Laws.Seen.{read_low, script_first}
@@ -421,9 +421,6 @@ module _ {s masks index : List ℕ} {w : Words} {l : ℕ} {m : code.Manager} (a 
   pub done_room : SettleReady w.ended w.tallies w.queue l
   done_room =
       busy_settles s (accepted a.read) (level_limit s (accepted a.read)) (object_limit s (accepted a.read)) w ms₀ st₀ busy₀.invariant.represents live₀ l busy₀.present x₀ (manager_of m) busy₀.runs
-
-abbrev pub parts_of : Words → Parts
-parts_of w = record { current = w.current; tallies = w.tallies; queue = w.queue; work = w.work }
 
 -- the script step gave r: so its effect can be made, then its history kept; the words then represent the state after the step
 module _ {s masks index : List ℕ} {w : Words} {l : ℕ} {cache' : List ℕ} {m r : code.Manager} (v : Advancing s masks index w l m) (made : ScriptStep s w l cache' m r) where

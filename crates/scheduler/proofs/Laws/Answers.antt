@@ -112,10 +112,10 @@ module _ (s : List ℕ) (c : ℕ) (work buffer : List ℕ) where
 
   -- questions 1 to 11 say yes
   module _ (e : entry_refusal (question10 request) request ≡ 0) where
-    pub run-ready : (masks : List ℕ) → Leveled s masks → RunReady s masks work buffer
-    run-ready masks leveled =
+    pub run-ready : RunReady work buffer
+    run-ready =
         let p = passes (question10 request) request e in
-        record { leveled = leveled; work_room = leb-true work_numbers (length work) p.work; result_room = leb-true result_bytes (length buffer) p.room }
+        record { work_room = leb-true work_numbers (length work) p.work; result_room = leb-true result_bytes (length buffer) p.room }
 
     ran_is : (ls : List ℕ) → timetabled request ls ≡ answer_of request (run_of (program_of s) (root_of s) ls)
     unfolding timetabled

@@ -18,7 +18,6 @@ use Rattle.session.proofs.Laws.Numbers.{number_own}
 use Rattle.scripts.specs.Existence.{existence, initially}
 use Rattle.scripts.proofs.Laws.Existence.{first_none}
 use Rattle.session.proofs.Laws.Contents.{level_limit}
-use Rattle.contents.proofs.Laws.Methods.{index_made}
 use Rattle.scripts.specs.State.{Manager}
 use Rattle.lists.specs.Changed.{modify}
 use Rattle.model.specs.Level.{idle, new_level, arrived, newest}
@@ -173,21 +172,17 @@ module _ (s : List ℕ) (a : verdict_of s ≡ Accepted) where
             idle_all = λ k h. start_idle k;
           }
 
-  module _ (index current tallies queue : List ℕ) (f : Fresh index current tallies queue) (m : Message) (level : ℕ) (e : m ≡ root_of s) (i : level ≡ level_of s m.object) where
+  module _ (current tallies queue : List ℕ) (f : Fresh current tallies queue) (m : Message) (level : ℕ) (e : m ≡ root_of s) (i : level ≡ level_of s m.object) where
     -- there is room for the root's fork, and a number for how many wait
     pub root_room : Room queue level 0 0
     root_room =
         record { room = f.forks_room; level = level_small m level e i; kept = omega arith; rises = rises_none queue level 0 }
 
-    pub root_tally : waiting_place level < length tallies
-    root_tally = rw f.counts (omega (arith, level_small m level e i))
-
     -- the words of a session as read in
-    pub read_in_lem : (index' current' queue' row : List ℕ) (count : ℕ) → index' ≡ index_of s ++ drop (max_methods + 1) index → Filled s current current' → RootRow m row → Arrived queue queue' level 0 0 row count
-        → InitialWords s index' current' (set tallies (waiting_place level) count) queue' level
-    read_in_lem index' current' queue' row count made filled root came =
+    pub read_in_lem : (current' queue' row : List ℕ) (count : ℕ) → Filled s current current' → RootRow m row → Arrived queue queue' level 0 0 row count
+        → InitialWords s current' (set tallies (waiting_place level) count) queue' level
+    read_in_lem current' queue' row count filled root came =
         record {
-          index_is = index_made s index index' f.methods made;
           level_is = root_level m level e i;
           quiescent = λ ended work he hw. quiescent_start
               (record { current = current'; ended = ended; tallies = tallies; queue = queue; work = work })

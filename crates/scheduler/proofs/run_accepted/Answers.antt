@@ -1,26 +1,34 @@
 use mathlib.Core.Path.{refl}
 use Rattle.fields.specs.Limits.{field_words}
+use Rattle.histories.specs.Limits.{history_words}
 use Rattle.queues.specs.Queue.{queue_words}
+use Rattle.std.specs.Prelude.{option_copied}
+use Rattle.contents.proofs.Laws.Session.{leveled}
+use Rattle.level_state.specs.Representation.{words_of}
 use Rattle.scheduler.specs.Runs.{list_of}
 use Rattle.scheduler.proofs.Laws.Answers.{zeros-long, zeros-are, finished-by, show-ready, list_refused, list-finished}
 use Rattle.scheduler.proofs.run_accepted.Goals as goal
 
 pub read_in-level-requires : goal.read_in-level-requires
 read_in-level-requires c =
-    record { leveled = c.requires.leveled; fresh = record { methods = refl; fields_room = zeros-long field_words; fields_none = zeros-are field_words; counts = c.first-tallies.ensures; forks_room = zeros-long queue_words } }
+    record { fields_room = zeros-long field_words; fields_none = zeros-are field_words; counts = c.first-tallies.ensures; forks_room = zeros-long queue_words }
+
+pub make_steps-end-requires : goal.make_steps-end-requires
+make_steps-end-requires c =
+    c.read_in-level.ensures.initial.quiescent c.read_in-level.new.state.ended c.args.work.now (rw c.read_in-level.ensures.rest (zeros-long history_words)) c.requires.work_room
 
 pub returns-in-Refused : goal.returns-in-Refused
 returns-in-Refused c =
     let r = c.make_steps-end in
-    list_refused c.args.session.now c.requires.leveled.accepted (list_of c.args.session.now c.args.timetable.now c.args.listed) c.args.clearance c.args.work.now r.new.work c.clear.new.work c.args.res.now c.args.res.now r.ensures.1 c.clear.ensures (record { current = r.new.current; ended = r.new.ended; tallies = r.new.tallies; queue = r.new.queue; work = r.new.work }) r.result _ _ c.refused.result r.ensures.0 c.in-Refused.is c.refused.ensures refl
+    list_refused c.args.session.now.bytes.now c.args.session.now.accepted (list_of c.args.session.now.bytes.now (option_copied c.args.timetable)) c.args.clearance c.args.work.now r.new.work c.clear.new.work c.args.res.now c.args.res.now r.ensures.1 c.clear.ensures (words_of r.new.state r.new.work) r.result _ _ c.refused.result r.ensures.0 c.in-Refused.is c.refused.ensures refl
 
 pub show-requires : goal.show-requires
 show-requires c =
     let r = c.make_steps-end in
-    show-ready c.args.session.now c.args.masks.now (list_of c.args.session.now c.args.timetable.now c.args.listed) (record { current = r.new.current; ended = r.new.ended; tallies = r.new.tallies; queue = r.new.queue; work = r.new.work }) _ c.args.res.now c.requires.leveled (finished-by c.args.session.now (list_of c.args.session.now c.args.timetable.now c.args.listed) (record { current = r.new.current; ended = r.new.ended; tallies = r.new.tallies; queue = r.new.queue; work = r.new.work }) r.result c.in_default.is r.ensures.0) c.read_in-level.ensures.level_is c.requires.result_room
+    show-ready c.args.session.now.bytes.now c.args.session.now.masks.now (list_of c.args.session.now.bytes.now (option_copied c.args.timetable)) (words_of r.new.state r.new.work) _ c.args.res.now (leveled c.args.session.now) (finished-by c.args.session.now.bytes.now (list_of c.args.session.now.bytes.now (option_copied c.args.timetable)) (words_of r.new.state r.new.work) r.result c.in_default.is r.ensures.0) c.read_in-level.ensures.initial.level_is c.requires.result_room
 
 pub returns : goal.returns
 returns c =
     let r = c.make_steps-end in
     let x = c.show in
-    list-finished c.args.session.now c.requires.leveled.accepted (list_of c.args.session.now c.args.timetable.now c.args.listed) c.args.clearance c.args.work.now r.new.work c.clear.new.work c.args.res.now x.new.res r.ensures.1 c.clear.ensures (record { current = r.new.current; ended = r.new.ended; tallies = r.new.tallies; queue = r.new.queue; work = r.new.work }) _ x.result (finished-by c.args.session.now (list_of c.args.session.now c.args.timetable.now c.args.listed) (record { current = r.new.current; ended = r.new.ended; tallies = r.new.tallies; queue = r.new.queue; work = r.new.work }) r.result c.in_default.is r.ensures.0) c.read_in-level.ensures.level_is x.ensures
+    list-finished c.args.session.now.bytes.now c.args.session.now.accepted (list_of c.args.session.now.bytes.now (option_copied c.args.timetable)) c.args.clearance c.args.work.now r.new.work c.clear.new.work c.args.res.now x.new.res r.ensures.1 c.clear.ensures (words_of r.new.state r.new.work) _ x.result (finished-by c.args.session.now.bytes.now (list_of c.args.session.now.bytes.now (option_copied c.args.timetable)) (words_of r.new.state r.new.work) r.result c.in_default.is r.ensures.0) c.read_in-level.ensures.initial.level_is x.ensures
