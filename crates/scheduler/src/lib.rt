@@ -4,16 +4,16 @@
 ghost use Rattle.session.specs.Meaning.{level_of, root_object};
 ghost use Rattle.scripts.specs.Valid.{Leveled};
 ghost use Rattle.calls.specs.Entries.{timetabled, plain as plainly, Answers};
+ghost use Rattle.calls.specs.Refusals.{number_told, place_told, count_told};
 ghost use Rattle.model.specs.Schedule.{initial_state};
 ghost use Rattle.results.specs.Writing.{Ready};
 ghost use Rattle.level_state.specs.Steps.{Tables};
 ghost use Rattle.level_state.specs.Ends.{Quiescent, Ends, SameRest};
 ghost use Rattle.scheduler.specs.Runs.{list_of, Fresh, InitialWords, Shows, RunReady, ListDone};
 
+use calls::Refusal;
 use fields::FIELD_WORDS;
 use histories::limits::HISTORY_WORDS;
-use level_state::RunEnd;
-use opening::Answer;
 use queues::QUEUE_WORDS;
 use session::limits::{MAX_LEVELS, MAX_METHODS};
 use tallies::WAITING;
@@ -41,7 +41,7 @@ fn read_in(
     level
 }
 
-// Writes the records of a run that a clearance is shown.
+// Writes the records of a run that a clearance is shown, and returns how many bytes they are.
 fn show(
     session: &[u8],
     masks: &[u16],
@@ -51,14 +51,14 @@ fn show(
     clearance: usize,
     level: usize,
     res: &mut [u8],
-) -> Answer
+) -> u32
     requires { Ready session.now masks.now current.now ended.now tallies.now level res.old }
     ensures { Shows session.now current.now ended.now tallies.now clearance level res.old res.new result }
 {
     let count = results::write(
         session, masks, current, ended, tallies, clearance, level, res,
     );
-    opening::finished(count)
+    count as u32
 }
 
 // Makes scheduler steps from the session as read in: those of a timetable, if it is listed, of which one can
@@ -74,7 +74,7 @@ fn make_steps(
     tallies: &mut [usize],
     queue: &mut [u32],
     work: &mut [u32],
-) -> RunEnd
+) -> Result<(), Refusal>
     requires tables { Tables session.now masks.now index.now }
     requires quiescent { Quiescent session.now (record { current = current.now; ended = ended.old; tallies = tallies.old; queue = queue.old; work = work.old }) (initial_state session.now) }
     ensures { Ends session.now (list_of session.now timetable.now listed) (record { current = current.exit.now; ended = ended.new; tallies = tallies.new; queue = queue.new; work = work.new }) result × SameRest work.old work.new }
@@ -85,7 +85,7 @@ fn make_steps(
         );
     }
     plain::run(session, masks, index, current, ended, tallies, queue, work);
-    RunEnd::Finished
+    Ok(())
 }
 
 // Runs an accepted session, by a timetable or plainly, and writes the records that a clearance is shown.
@@ -97,7 +97,7 @@ fn run_accepted(
     clearance: usize,
     work: &mut [u32],
     res: &mut [u8],
-) -> Answer
+) -> Result<u32, Refusal>
     requires { RunReady session.now masks.now work.old res.old }
     ensures { ListDone session.now (list_of session.now timetable.now listed) clearance work.old work.new res.old res.new result }
 {
@@ -127,12 +127,11 @@ fn run_accepted(
         work,
     );
     versions::clear(work);
-    if let RunEnd::Refused { number, place } = end {
-        return opening::refused(number, place);
-    }
-    show(
+    end?;
+    let count = show(
         session, masks, &current, &ended, &tallies, clearance, level, res,
-    )
+    );
+    Ok(count)
 }
 
 // Runs a session that is opened, with its level table: questions 9 to 15.
@@ -144,15 +143,12 @@ fn run_opened(
     clearance: usize,
     work: &mut [u32],
     res: &mut [u8],
-) -> Answer
+) -> Result<u32, Refusal>
     requires { Leveled session.now masks.now }
-    ensures { Answers (timetabled (record { session = session.entry.now; clearance = clearance; work = work.old; buffer = res.old }) (list_of session.entry.now timetable.now listed)) result.number result.place result.count work.new res.new }
+    ensures { Answers (timetabled (record { session = session.entry.now; clearance = clearance; work = work.old; buffer = res.old }) (list_of session.entry.now timetable.now listed)) (number_told result) (place_told result) (count_told result) work.new res.new }
 {
     let ten = opening::is_work(work.len());
-    let number = opening::lent_refusal(masks.len(), clearance, ten, res.len());
-    if number != 0 {
-        return opening::refused(number, 0);
-    }
+    opening::lent_refusal(masks.len(), clearance, ten, res.len())?;
     run_accepted(session, timetable, listed, masks, clearance, work, res)
 }
 
@@ -165,15 +161,11 @@ fn run_session(
     clearance: usize,
     work: &mut [u32],
     res: &mut [u8],
-) -> Answer
-    ensures { Answers (timetabled (record { session = session.entry.now; clearance = clearance; work = work.old; buffer = res.old }) (list_of session.entry.now timetable.now listed)) result.number result.place result.count work.new res.new }
+) -> Result<u32, Refusal>
+    ensures { Answers (timetabled (record { session = session.entry.now; clearance = clearance; work = work.old; buffer = res.old }) (list_of session.entry.now timetable.now listed)) (number_told result) (place_told result) (count_told result) work.new res.new }
 {
     let mut masks = [0u16; MAX_LEVELS];
-    let opened = opening::open(session, &mut masks);
-    if opened.number != 0 {
-        return opening::refused(opened.number, 0);
-    }
-    let levels = opened.levels;
+    let levels = opening::open(session, &mut masks)?;
     run_opened(
         session,
         timetable,
@@ -193,31 +185,27 @@ pub fn run_timetable(
     clearance: usize,
     work: &mut [u32],
     res: &mut [u8],
-) -> Answer
-    ensures { Answers (timetabled (record { session = session.entry.now; clearance = clearance; work = work.old; buffer = res.old }) timetable.now) result.number result.place result.count work.new res.new }
+) -> Result<u32, Refusal>
+    ensures { Answers (timetabled (record { session = session.entry.now; clearance = clearance; work = work.old; buffer = res.old }) timetable.now) (number_told result) (place_told result) (count_told result) work.new res.new }
 {
     run_session(session, timetable, true, clearance, work, res)
 }
 
 // Runs a session plainly and writes what a clearance is shown of it: Check's questions and 9 to 11 of any bytes, of
 // any length and content, whatever the work slice holds.
-pub fn run_plain(session: &[u8], clearance: usize, work: &mut [u32], res: &mut [u8]) -> Answer
-    ensures { Answers (plainly (record { session = session.entry.now; clearance = clearance; work = work.old; buffer = res.old })) result.number result.place result.count work.new res.new }
+pub fn run_plain(session: &[u8], clearance: usize, work: &mut [u32], res: &mut [u8]) -> Result<u32, Refusal>
+    ensures { Answers (plainly (record { session = session.entry.now; clearance = clearance; work = work.old; buffer = res.old })) (number_told result) (place_told result) (count_told result) work.new res.new }
 {
     let no_timetable = [0u8; 0];
     run_session(session, &no_timetable, false, clearance, work, res)
 }
 
 // Runs a session plainly for a reader cleared to the level of its root's object.
-pub fn run_for_root(session: &[u8], work: &mut [u32], res: &mut [u8]) -> Answer
-    ensures { Answers (plainly (record { session = session.entry.now; clearance = level_of session.entry.now (root_object session.entry.now); work = work.old; buffer = res.old })) result.number result.place result.count work.new res.new }
+pub fn run_for_root(session: &[u8], work: &mut [u32], res: &mut [u8]) -> Result<u32, Refusal>
+    ensures { Answers (plainly (record { session = session.entry.now; clearance = level_of session.entry.now (root_object session.entry.now); work = work.old; buffer = res.old })) (number_told result) (place_told result) (count_told result) work.new res.new }
 {
     let mut masks = [0u16; MAX_LEVELS];
-    let opened = opening::open(session, &mut masks);
-    if opened.number != 0 {
-        return opening::refused(opened.number, 0);
-    }
-    let levels = opened.levels;
+    let levels = opening::open(session, &mut masks)?;
     let message = contents::root(session);
     let level = contents::level_of(session, &masks[..levels], message.object as usize);
     let no_timetable = [0u8; 0];

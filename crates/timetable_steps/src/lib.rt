@@ -2,50 +2,37 @@
 #![tactic(auto)]
 
 ghost use Rattle.std.specs.Prelude.{◌≡◌};
-ghost use Rattle.permits.specs.Permits.{number_of_permit, ended_of, Countable};
+ghost use Rattle.permits.specs.Permits.{ended_of, Countable};
 ghost use Rattle.level_state.specs.Steps.{Tables};
 ghost use Rattle.level_state.specs.Script.{ScriptStep, Unseen};
-ghost use Rattle.timetable_steps.specs.Refusals.{RefusedAt, end_of};
+ghost use Rattle.timetable_steps.specs.Refusals.{refusal_at, end_of};
 
+use calls::Refusal;
 use cores::Effect;
-use level_state::RunEnd;
 use managers::Manager;
 use permits::Permit;
 
-// Document 01's number of what questions 12 to 14 say.
-fn number_of(permit: Permit) -> u32
-    ensures { result ≡ number_of_permit permit }
+// What questions 12 to 14 say of the step at a place.
+pub fn refused_at(permit: Permit, place: u32) -> Result<(), Refusal>
+    ensures { result ≡ refusal_at permit place }
 {
     match permit {
-        Permit::Given => 0,
-        Permit::Absent => 12,
-        Permit::Idle => 13,
-        Permit::Blocked => 14,
+        Permit::Given => Ok(()),
+        Permit::Absent => Err(Refusal::Absent { place }),
+        Permit::Idle => Err(Refusal::Idle { place }),
+        Permit::Blocked => Err(Refusal::Blocked { place }),
     }
 }
 
-// The end of a run at the step at a place, which was not permitted.
-pub fn refused_at(permit: Permit, place: u32) -> RunEnd
-    ensures { RefusedAt permit place result }
-{
-    RunEnd::Refused {
-        number: number_of(permit),
-        place,
-    }
-}
-
-// The end of a run whose timetable has no more bytes: question 15.
-pub fn at_end(masks: &[u16], tallies: &[usize]) -> RunEnd
+// What question 15 says at the end of a timetable.
+pub fn at_end(masks: &[u16], tallies: &[usize]) -> Result<(), Refusal>
     requires { Countable masks.now tallies.now }
     ensures { result ≡ end_of (ended_of masks.now tallies.now) }
 {
     if !permits::all_ended(masks, tallies) {
-        return RunEnd::Refused {
-            number: 15,
-            place: 0,
-        };
+        return Err(Refusal::Unended);
     }
-    RunEnd::Finished
+    Ok(())
 }
 
 // A script step that asks for the existence of an object is made once that is read; a READ may ask for the field then.

@@ -5,9 +5,9 @@ ghost use Rattle.model.specs.Schedule.{initial_state};
 ghost use Rattle.level_state.specs.Steps.{Tables};
 ghost use Rattle.level_state.specs.Ends.{Quiescent, Ends, SameRest};
 
+use calls::Refusal;
 use cores::Effect;
 use fields::FIELD_WORDS;
-use level_state::RunEnd;
 use managers::Manager;
 use permits::Permit;
 use session::limits::MAX_LEVELS;
@@ -26,7 +26,7 @@ pub fn run(
     tallies: &mut [usize],
     queue: &mut [u32],
     work: &mut [u32],
-) -> RunEnd
+) -> Result<(), Refusal>
     requires tables { Tables session.now masks.now index.now }
     requires quiescent { Quiescent session.now (record { current = current.now; ended = ended.old; tallies = tallies.old; queue = queue.old; work = work.old }) (initial_state session.now) }
     ensures { Ends session.now timetable.now (record { current = current.exit.now; ended = ended.new; tallies = tallies.new; queue = queue.new; work = work.new }) result × SameRest work.old work.new }
