@@ -30,7 +30,7 @@ use Rattle.managers.specs.Steps.{WellFormed, Advanceable, Stepped}
 use Rattle.managers.specs.declared.Manager as code
 use Rattle.model.specs.Limits.{max_schedule}
 use Rattle.model.specs.Step.{State, step_at}
-use Rattle.model.specs.Schedule.{initial_state, finished, question14, step_refusal, run_from, run_of}
+use Rattle.model.specs.Schedule.{initial_state, finished, question14, step_refusal, run_from, run_of, refused}
 use Rattle.theorems.proofs.Laws.Order.Accepted.{sound}
 use Rattle.theorems.proofs.Laws.Order.PlainRun.{read_in_total}
 use Rattle.theorems.proofs.Laws.Invariant.Bounded.{total, step_less}
