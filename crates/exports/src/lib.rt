@@ -7,11 +7,11 @@
 ghost use Rattle.std.specs.Prelude.{◌≡◌, []};
 ghost use Rattle.session.specs.Questions.{verdict_of, answer_of};
 ghost use Rattle.calls.specs.Entries.{timetabled, plain, deep};
-ghost use Rattle.calls.specs.Page.{paged};
+ghost use Rattle.calls.specs.Page.{counts_told, paged};
+ghost use Rattle.calls.specs.Refusals.{number_told, place_told, count_told};
 ghost use Rattle.exports.specs.Calls.{reported, Call, reported_page, PageCall};
 
-use calls::PageAnswer;
-use opening::Answer;
+use calls::{PageCounts, Refusal};
 
 // Where place and count stand in `place_and_count`, and how many numbers they are; and with the count of page bytes
 // behind them.
@@ -25,26 +25,45 @@ const PAGE_COUNT: usize = 2;
 
 const PAGE_NUMBERS: usize = 3;
 
-// Reports an answer: its place and count to the front of `place_and_count`, its number as the result.
-fn report(place_and_count: &mut [u32], answer: Answer) -> u32
-    ensures { (result ≡ answer.number) × (place_and_count.new ≡ reported answer.place answer.count place_and_count.old) }
+// The counts of a refusal.
+const NO_COUNTS: PageCounts = PageCounts {
+    count: 0,
+    page_count: 0,
+};
+
+// The number and the place that an answer is told by: 0 and 0 where all questions say yes.
+fn told<T: Copy>(answer: &Result<T, Refusal>) -> (u32, u32)
+    ensures { result ≡ (number_told answer.now, place_told answer.now) }
 {
-    if place_and_count.len() >= NUMBERS {
-        place_and_count[PLACE] = answer.place;
-        place_and_count[COUNT] = answer.count;
+    match answer {
+        Ok(_) => (0, 0),
+        Err(refusal) => (opening::number_of(*refusal), opening::place_of(*refusal)),
     }
-    answer.number
+}
+
+// Reports an answer: its place and count to the front of `place_and_count`, its number as the result.
+fn report(place_and_count: &mut [u32], answer: Result<u32, Refusal>) -> u32
+    ensures { (result ≡ number_told answer) × (place_and_count.new ≡ reported (place_told answer) (count_told answer) place_and_count.old) }
+{
+    let (number, place) = told(&answer);
+    let count = answer.unwrap_or(0);
+    if place_and_count.len() >= NUMBERS {
+        place_and_count[PLACE] = place;
+        place_and_count[COUNT] = count;
+    }
+    number
 }
 
 // Reports an answer of the page entry: its place and both counts to the front of `place_and_counts`.
-fn report_page(place_and_counts: &mut [u32], answer: PageAnswer) -> u32
-    ensures { (result ≡ answer.number) × (place_and_counts.new ≡ reported_page answer.place answer.count answer.page_count place_and_counts.old) }
+fn report_page(place_and_counts: &mut [u32], answer: Result<PageCounts, Refusal>) -> u32
+    ensures { (result ≡ number_told answer) × (place_and_counts.new ≡ reported_page (place_told answer) (counts_told answer).count (counts_told answer).page_count place_and_counts.old) }
 {
-    let number = answer.number;
+    let (number, place) = told(&answer);
+    let counts = answer.unwrap_or(NO_COUNTS);
     if place_and_counts.len() >= PAGE_NUMBERS {
-        place_and_counts[PLACE] = answer.place;
-        place_and_counts[COUNT] = answer.count;
-        place_and_counts[PAGE_COUNT] = answer.page_count;
+        place_and_counts[PLACE] = place;
+        place_and_counts[COUNT] = counts.count;
+        place_and_counts[PAGE_COUNT] = counts.page_count;
     }
     number
 }

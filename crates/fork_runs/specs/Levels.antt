@@ -1,6 +1,6 @@
 -- The plain run, level after level. No meaning rests on these. Assumes nothing.
 -- Laws, in `plain` (`Laws/Plain`): `Ran`.
-use Rattle.std.specs.Prelude.{ℕ, ◌≡◌, false, List}
+use Rattle.std.specs.Prelude.{ℕ, ◌≡◌, false, List, Ok}
 use Rattle.session.specs.Program.{program_of}
 use Rattle.model.specs.Level.{has_manager}
 use Rattle.model.specs.Step.{State, level_at}
@@ -8,7 +8,6 @@ use Rattle.model.specs.Schedule.{refusal_under, Leads}
 use Rattle.model.specs.Rules.{conservative}
 use Rattle.level_state.specs.Representation.{Words}
 use Rattle.level_state.specs.Ends.{Quiescent, SameRest, Ends}
-use Rattle.level_state.specs.declared.RunEnd.TheVariants as runEnd
 
 -- a level may step by the conservative rule, and no manager runs
 abbrev pub LevelReady : List ℕ → Words → ℕ → Type 0
@@ -28,4 +27,4 @@ pub record LevelDone (s : List ℕ) (w w' : Words) (level : ℕ) : Type 0 where
 
 -- the words represent the state in which some list of scheduler steps of session s finishes
 abbrev pub Done : List ℕ → Words → Type 0
-Done s w = (ls : List ℕ) × Ends s ls w runEnd.Finished
+Done s w = (ls : List ℕ) × Ends s ls w (Ok tt)

@@ -1,5 +1,5 @@
 -- The words of a run between managers, and once its steps have ended. No meaning rests on these. Assumes nothing.
-use Rattle.std.specs.Prelude.{ℕ, ◌<◌, ◌≡◌, List, drop}
+use Rattle.std.specs.Prelude.{ℕ, ◌<◌, ◌≡◌, List, Result, Ok, Err, drop}
 use Rattle.session.specs.Parts.{level_count}
 use Rattle.session.specs.Meaning.{root_of}
 use Rattle.session.specs.Program.{program_of}
@@ -9,8 +9,8 @@ use Rattle.model.specs.Level.{idle}
 use Rattle.model.specs.Step.{State, level_at}
 use Rattle.model.specs.Schedule.{finished, refused, run_of}
 use Rattle.level_state.specs.Representation.{Words, Represents, RunInvariant}
-use Rattle.level_state.specs.declared.RunEnd.{RunEnd}
-use Rattle.level_state.specs.declared.RunEnd.TheVariants as runEnd
+use Rattle.calls.specs.Refusals.{number_of_refusal, place_of_refusal}
+use Rattle.calls.specs.declared.Refusal.{Refusal}
 
 -- the words represent the state st, and no manager runs in it: so they represent it whatever managers are held
 pub record Quiescent (s : List ℕ) (w : Words) (st : State) : Type 0 where
@@ -21,8 +21,8 @@ pub record Quiescent (s : List ℕ) (w : Words) (st : State) : Type 0 where
 abbrev pub SameRest : List ℕ → List ℕ → Type 0
 SameRest work work' = drop work_numbers work' ≡ drop work_numbers work
 
--- a list of scheduler steps of session s has ended: refused, or in a state that the words represent
-abbrev pub Ends : List ℕ → List ℕ → Words → RunEnd → Type 0
-Ends s ls w runEnd.Finished =
+-- a list of scheduler steps of session s has ended: in a state that the words represent, or refused by a question, 12 to 15, at its place
+abbrev pub Ends : List ℕ → List ℕ → Words → Result Unit Refusal → Type 0
+Ends s ls w (Ok u) =
     (ms : ℕ → Manager) × ((st : State) × ((run_of (program_of s) (root_of s) ls ≡ finished st) × Represents s w ms st))
-Ends s ls w (runEnd.Refused number place) = run_of (program_of s) (root_of s) ls ≡ refused number place
+Ends s ls w (Err r) = run_of (program_of s) (root_of s) ls ≡ refused (number_of_refusal r) (place_of_refusal r)

@@ -1,5 +1,5 @@
 // What a run with scheduler steps keeps, and of each level: what its words stand for, what the parts of a scheduler step do to
-// them, and how the steps of a run end. Definitions and laws; of code there are only the types of what is kept and of that end.
+// them, and how the steps of a run end. Definitions and laws; of code there is only the type of what is kept.
 //
 // Beside a run's state a slice is lent, `work`: it holds the versions, as in `versions`. `cache` holds what a manager has read,
 // as in `fields`.
@@ -21,12 +21,4 @@ pub struct RunState {
     pub tallies: Tallies,
     // The forks, as in `queues`.
     pub queue: [u32; QUEUE_WORDS],
-}
-
-// How the scheduler steps of a run end.
-#[derive(Clone, Copy)]
-pub enum RunEnd {
-    Finished,
-    // By a question, 12 to 15, and its place.
-    Refused { number: u32, place: u32 },
 }

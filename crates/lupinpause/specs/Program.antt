@@ -1,5 +1,5 @@
 -- What the program's functions promise. Assumes nothing.
-use Rattle.std.specs.Prelude.{ℕ, ◌≡◌, ◌<◌, false, List, length, take}
+use Rattle.std.specs.Prelude.{ℕ, ◌≡◌, ◌<◌, false, List, Result, Ok, Err, length, take}
 use Rattle.std.specs.Io.KnownBytes.{Consumes, IsAtEnd}
 use Rattle.std.specs.declared.option.Option.{Option}
 use Rattle.io.specs.Counts.{IsPrefixLen}
@@ -7,18 +7,16 @@ use Rattle.session.specs.Questions.{question1}
 use Rattle.calls.specs.Entries.{Request, plain, Answers}
 use Rattle.lists.specs.Placed.{Written}
 use Rattle.text.specs.Lines.{text_of}
-use Rattle.lupinpause.specs.declared.Input.{Input}
-use Rattle.lupinpause.specs.declared.Input.TheVariants.{Read, Failed}
 
 -- "reads a session from standard input": what was read stands at the buffer's start. If it fills the buffer, question 1 says no of it
-abbrev pub Within : Input → List ℕ → Type 0
-Within (Read n) buffer = IsPrefixLen n buffer × (n ≡ length buffer → question1 (take n buffer) ≡ false)
-Within (Failed e) buffer = Unit {0}
+abbrev pub Within : {E : Type 0} → Result ℕ E → List ℕ → Type 0
+Within (Ok n) buffer = IsPrefixLen n buffer × (n ≡ length buffer → question1 (take n buffer) ≡ false)
+Within (Err e) buffer = Unit {0}
 
 -- of an input whose bytes are known, what was read is the first of them, and all of them where they leave room in the buffer
-abbrev pub Taken : Option (List ℕ) → Option (List ℕ) → Input → List ℕ → Type 0
-Taken before after (Read n) buffer = Consumes before after (take n buffer) × (n < length buffer → IsAtEnd after)
-Taken before after (Failed e) buffer = Unit {0}
+abbrev pub Taken : {E : Type 0} → Option (List ℕ) → Option (List ℕ) → Result ℕ E → List ℕ → Type 0
+Taken before after (Ok n) buffer = Consumes before after (take n buffer) × (n < length buffer → IsAtEnd after)
+Taken before after (Err e) buffer = Unit {0}
 
 -- "runs it plainly .. and prints each result record"; "A refusal prints as one line": the text of the run's number and place and of the
 -- result bytes written, which q's buffer then holds

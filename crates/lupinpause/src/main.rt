@@ -24,19 +24,10 @@ const TEXT_BYTES: usize = LINE_BYTES * (RESULT_BYTES / RECORD_BYTES);
 // How many interrupted reads are tried again. A bound, so that reading ends.
 const INTERRUPTIONS: usize = 1000;
 
-// What reading to the input's end, or until a buffer is full, came to.
-#[derive(Drop)]
-enum Input {
-    // So many bytes stand at the buffer's start.
-    Read(usize),
-    // A read failed, and this says why.
-    Failed(io::Error),
-}
-
 // Reads an input to its end, or until the buffer is full, which is longer than any session: then question 1
 // says no of what was read. A read may give less than it is asked for, and one that a signal interrupts is tried
-// again.
-fn read_input<R: Read>(input: &mut R, buffer: &mut [u8]) -> Input
+// again. Returns how many bytes stand at the buffer's start, or why a read failed.
+fn read_input<R: Read>(input: &mut R, buffer: &mut [u8]) -> io::Result<usize>
     requires { record_bytes * max_records < length buffer.old }
     ensures within { Within result buffer.new }
     ensures taken { Taken (R.remaining input.old) (R.remaining input.new) result buffer.new }
@@ -46,17 +37,17 @@ fn read_input<R: Read>(input: &mut R, buffer: &mut [u8]) -> Input
     while done < buffer.len() {
         match input.read(&mut buffer[done..]) {
             // No bytes and no failure: the input's end.
-            Ok(0) => return Input::Read(done),
+            Ok(0) => return Ok(done),
             Ok(more) => done += more,
             Err(error) => {
                 if interruptions == 0 || error.kind() != ErrorKind::Interrupted {
-                    return Input::Failed(error);
+                    return Err(error);
                 }
                 interruptions -= 1;
             }
         }
     }
-    Input::Read(done)
+    Ok(done)
 }
 
 // Runs a session, writes what is printed of it to the text's start, and returns how many bytes that is.
@@ -64,12 +55,12 @@ fn answer(session: &[u8], work: &mut [u32], res: &mut [u8], text: &mut [u8]) -> 
     requires { (length res.old ≤ result_bytes) × (text_size ≤ length text.old) }
     ensures { Prints (record { session = session.now; clearance = level_of session.now (root_object session.now); work = work.old; buffer = res.old }) work.new res.new text.old text.new result }
 {
-    let run = scheduler::run_for_root(session, work, res);
-    if run.number != 0 {
-        return lines::put_refusal(text, run.number, run.place);
+    match scheduler::run_for_root(session, work, res) {
+        Ok(count) => lines::put_records(text, &res[..count as usize]),
+        Err(refusal) => {
+            lines::put_refusal(text, opening::number_of(refusal), opening::place_of(refusal))
+        }
     }
-    let count = run.count as usize;
-    lines::put_records(text, &res[..count])
 }
 
 // An error of input or output is told on standard error, where that takes it, and ends the program as any other end.
@@ -77,8 +68,8 @@ fn main(rt: HostRuntime) {
     // One byte more than the longest session, so that a longer input is refused for its length.
     let mut session = [0u8; SESSION_BYTES + 1];
     let length = match read_input(&mut rt.stdin(), &mut session) {
-        Input::Read(length) => length,
-        Input::Failed(error) => {
+        Ok(length) => length,
+        Err(error) => {
             eprintln!(rt; "standard input: {error}").ok();
             return;
         }
@@ -132,10 +123,7 @@ mod tests {
                 ends,
             };
             let mut buffer = [0u8; SESSION_BYTES + 1];
-            let read = match read_input(&mut input, &mut buffer) {
-                Input::Read(length) => Some(length),
-                Input::Failed(_) => None,
-            };
+            let read = read_input(&mut input, &mut buffer).ok();
             assert_eq!(rt; read, want, "after {interruptions} interruptions");
             assert!(rt; read.is_none() || buffer.starts_with(b"session"));
         }

@@ -1,6 +1,6 @@
 -- What the stages of a run promise each other. No meaning rests on these. Assumes nothing.
 -- Laws: the session as read in (`proofs/Laws/Start`); the answers (`Answers`).
-use Rattle.std.specs.Prelude.{ℕ, ◌≤◌, ◌<◌, ◌≡◌, Option, Some, None, List, length, get_or}
+use Rattle.std.specs.Prelude.{ℕ, ◌≤◌, ◌<◌, ◌≡◌, Option, Some, None, List, Result, length, get_or}
 use Rattle.session.specs.Meaning.{level_of, root_object, root_of}
 use Rattle.session.specs.Program.{program_of}
 use Rattle.model.specs.Limits.{work_numbers, result_bytes}
@@ -10,7 +10,8 @@ use Rattle.fields.specs.Limits.{field_words}
 use Rattle.histories.specs.Limits.{history_words}
 use Rattle.results.specs.Writing.{result_in, bytes_in}
 use Rattle.lists.specs.Placed.{Written}
-use Rattle.opening.specs.declared.Answer.{Answer}
+use Rattle.calls.specs.Refusals.{number_told, place_told, count_told}
+use Rattle.calls.specs.declared.Refusal.{Refusal}
 use Rattle.queues.specs.Queue.{queue_words}
 use Rattle.tallies.specs.Places.{start_tallies}
 use Rattle.level_state.specs.Ends.{Quiescent}
@@ -33,10 +34,8 @@ list_of s (Some ls) = ls
 list_of s None = plain_order (program_of s) (root_of s)
 
 -- the records of the words' result for a clearance are written
-pub record Shows (s current ended tallies : List ℕ) (clearance level : ℕ) (before after : List ℕ) (r : Answer) : Type 0 where
-  pub number : r.number ≡ 0
-  pub place : r.place ≡ 0
-  pub written : Written (bytes_in s (result_in current ended tallies) clearance level) before after r.count
+abbrev pub Shows : List ℕ → List ℕ → List ℕ → List ℕ → ℕ → ℕ → List ℕ → List ℕ → ℕ → Type 0
+Shows s current ended tallies clearance level = Written (bytes_in s (result_in current ended tallies) clearance level)
 
 -- a run has the room that questions 10 and 11 ask for
 pub record RunReady (work result : List ℕ) : Type 0 where
@@ -44,7 +43,7 @@ pub record RunReady (work result : List ℕ) : Type 0 where
   pub result_room : result_bytes ≤ length result
 
 -- the whole answer of a list of scheduler steps, the level groups by rising number
-abbrev pub ListDone : List ℕ → List ℕ → ℕ → List ℕ → List ℕ → List ℕ → List ℕ → Answer → Type 0
+abbrev pub ListDone : List ℕ → List ℕ → ℕ → List ℕ → List ℕ → List ℕ → List ℕ → Result ℕ Refusal → Type 0
 ListDone s ls clearance work work' buffer buffer' r =
-    record { number = r.number; place = r.place; count = r.count; work = work'; buffer = buffer' }
+    record { number = number_told r; place = place_told r; count = count_told r; work = work'; buffer = buffer' }
     ≡ answer_of (record { session = s; clearance = clearance; work = work; buffer = buffer }) (run_of (program_of s) (root_of s) ls)

@@ -3,22 +3,22 @@
 
 ghost use Rattle.std.specs.Prelude.{◌≡◌, option_copied};
 ghost use Rattle.session.specs.Meaning.{level_of, root_object};
-ghost use Rattle.scripts.specs.Valid.{Leveled};
 ghost use Rattle.calls.specs.Entries.{timetabled, plain as plainly, Answers};
+ghost use Rattle.calls.specs.Refusals.{number_told, place_told, count_told};
 ghost use Rattle.model.specs.Schedule.{initial_state};
 ghost use Rattle.results.specs.Writing.{Ready};
 ghost use Rattle.level_state.specs.Representation.{words_of};
 ghost use Rattle.level_state.specs.Ends.{Quiescent, Ends, SameRest};
 ghost use Rattle.scheduler.specs.Runs.{list_of, Fresh, InitialWords, Shows, RunReady, ListDone};
 
+use calls::Refusal;
 use contents::Session;
 use fields::FIELD_WORDS;
 use histories::limits::HISTORY_WORDS;
-use level_state::{RunEnd, RunState};
-use opening::Answer;
+use level_state::RunState;
 use queues::QUEUE_WORDS;
 use session::limits::{MAX_LEVELS, MAX_METHODS};
-use tallies::WAITING;
+use tallies::Tallies;
 
 // Fills the state of a run with the session as read in: the first fields and existence of its objects, and the
 // root's fork, which waits. Returns the root's level.
@@ -27,28 +27,28 @@ fn read_in(session: &Session, state: &mut RunState) -> usize
     ensures initial { InitialWords session.now.bytes.now state.new.current state.new.tallies state.new.queue result }
     ensures rest { state.new.ended ≡ state.old.ended }
 {
-    fields::fill(session.bytes, session.masks, &mut state.current);
+    fields::fill(session, &mut state.current);
     let message = session.root();
     let level = session.level_of(message.object as usize);
     let row = queues::root_row(message);
-    state.tallies[WAITING + level] = queues::arrive(&mut state.queue, level, 0, 0, &row);
+    let waiting = queues::arrive(&mut state.queue, level, 0, 0, &row);
+    state.tallies.set_waiting(level, waiting);
     level
 }
 
-// Writes the records of a run that a clearance is shown.
+// Writes the records of a run that a clearance is shown, and returns how many bytes they are.
 fn show(
     session: &Session,
     state: &RunState,
     clearance: usize,
     level: usize,
     res: &mut [u8],
-) -> Answer
+) -> u32
     requires { Ready session.now.bytes.now session.now.masks.now state.now.current state.now.ended state.now.tallies level res.old }
     ensures { Shows session.now.bytes.now state.now.current state.now.ended state.now.tallies clearance level res.old res.new result }
 {
     let count = results::write(
-        session.bytes,
-        session.masks,
+        session,
         &state.current,
         &state.ended,
         &state.tallies,
@@ -56,7 +56,7 @@ fn show(
         level,
         res,
     );
-    opening::finished(count)
+    count as u32
 }
 
 // Makes scheduler steps from the session as read in: those of a timetable, if there is one, of which one can be
@@ -66,7 +66,7 @@ fn make_steps(
     timetable: Option<&[u8]>,
     state: &mut RunState,
     work: &mut [u32],
-) -> RunEnd
+) -> Result<(), Refusal>
     requires { Quiescent session.now.bytes.now (words_of state.old work.old) (initial_state session.now.bytes.now) }
     ensures { Ends session.now.bytes.now (list_of session.now.bytes.now (option_copied timetable.entry)) (words_of state.new work.new) result × SameRest work.old work.new }
 {
@@ -74,7 +74,7 @@ fn make_steps(
         Some(steps) => timetabled::run(session, steps, state, work),
         None => {
             plain::run(session, state, work);
-            RunEnd::Finished
+            Ok(())
         }
     }
 }
@@ -86,66 +86,54 @@ fn run_accepted(
     clearance: usize,
     work: &mut [u32],
     res: &mut [u8],
-) -> Answer
+) -> Result<u32, Refusal>
     requires { RunReady work.old res.old }
     ensures { ListDone session.now.bytes.now (list_of session.now.bytes.now (option_copied timetable.entry)) clearance work.old work.new res.old res.new result }
 {
-    let tallies = tallies::first();
     let mut state = RunState {
-        current: [0u32; FIELD_WORDS],
-        ended: [0u32; HISTORY_WORDS],
-        tallies,
-        queue: [0u32; QUEUE_WORDS],
+        current: [0; FIELD_WORDS],
+        ended: [0; HISTORY_WORDS],
+        tallies: Tallies::first(),
+        queue: [0; QUEUE_WORDS],
     };
     let level = read_in(session, &mut state);
     let end = make_steps(session, timetable, &mut state, work);
     versions::clear(work);
-    if let RunEnd::Refused { number, place } = end {
-        return opening::refused(number, place);
-    }
-    show(session, &state, clearance, level, res)
+    end?;
+    Ok(show(session, &state, clearance, level, res))
 }
 
-// Runs a session that is opened, with its level table: questions 9 to 15.
+// Runs a session that is opened: questions 9 to 15.
 fn run_opened(
-    session: &[u8],
+    session: &Session,
     timetable: Option<&[u8]>,
-    masks: &[u16],
     clearance: usize,
     work: &mut [u32],
     res: &mut [u8],
-) -> Answer
-    requires { Leveled session.now masks.now }
-    ensures { Answers (timetabled (record { session = session.entry.now; clearance = clearance; work = work.old; buffer = res.old }) (list_of session.entry.now (option_copied timetable.entry))) result.number result.place result.count work.new res.new }
+) -> Result<u32, Refusal>
+    ensures { Answers (timetabled (record { session = session.now.bytes.now; clearance = clearance; work = work.old; buffer = res.old }) (list_of session.now.bytes.now (option_copied timetable.entry))) (number_told result) (place_told result) (count_told result) work.new res.new }
 {
     let ten = opening::is_work(work.len());
-    let number = opening::lent_refusal(masks.len(), clearance, ten, res.len());
-    if number != 0 {
-        return opening::refused(number, 0);
-    }
-    let mut index = [0u16; MAX_METHODS + 1];
-    let accepted = Session::new(session, masks, &mut index);
-    run_accepted(&accepted, timetable, clearance, work, res)
+    opening::lent_refusal(session.masks.len(), clearance, ten, res.len())?;
+    run_accepted(session, timetable, clearance, work, res)
 }
 
 // Runs a session, by a timetable or plainly, and writes what a clearance is shown of it: Check's questions and
 // 9 to 15.
 fn run_session(
-    session: &[u8],
+    bytes: &[u8],
     timetable: Option<&[u8]>,
     clearance: usize,
     work: &mut [u32],
     res: &mut [u8],
-) -> Answer
-    ensures { Answers (timetabled (record { session = session.entry.now; clearance = clearance; work = work.old; buffer = res.old }) (list_of session.entry.now (option_copied timetable.entry))) result.number result.place result.count work.new res.new }
+) -> Result<u32, Refusal>
+    ensures { Answers (timetabled (record { session = bytes.entry.now; clearance = clearance; work = work.old; buffer = res.old }) (list_of bytes.entry.now (option_copied timetable.entry))) (number_told result) (place_told result) (count_told result) work.new res.new }
 {
     let mut masks = [0u16; MAX_LEVELS];
-    let opened = opening::open(session, &mut masks);
-    if opened.number != 0 {
-        return opening::refused(opened.number, 0);
-    }
-    let levels = opened.levels;
-    run_opened(session, timetable, &masks[..levels], clearance, work, res)
+    let mut index = [0u16; MAX_METHODS + 1];
+    let levels = opening::open(bytes, &mut masks)?;
+    let session = Session::new(bytes, &masks[..levels], &mut index);
+    run_opened(&session, timetable, clearance, work, res)
 }
 
 // Runs a session by a timetable and writes what a clearance is shown of it: Check's questions and 9 to 15 of any
@@ -156,31 +144,28 @@ pub fn run_timetable(
     clearance: usize,
     work: &mut [u32],
     res: &mut [u8],
-) -> Answer
-    ensures { Answers (timetabled (record { session = session.entry.now; clearance = clearance; work = work.old; buffer = res.old }) timetable.now) result.number result.place result.count work.new res.new }
+) -> Result<u32, Refusal>
+    ensures { Answers (timetabled (record { session = session.entry.now; clearance = clearance; work = work.old; buffer = res.old }) timetable.now) (number_told result) (place_told result) (count_told result) work.new res.new }
 {
     run_session(session, Some(timetable), clearance, work, res)
 }
 
 // Runs a session plainly and writes what a clearance is shown of it: Check's questions and 9 to 11 of any bytes, of
 // any length and content, whatever the work slice holds.
-pub fn run_plain(session: &[u8], clearance: usize, work: &mut [u32], res: &mut [u8]) -> Answer
-    ensures { Answers (plainly (record { session = session.entry.now; clearance = clearance; work = work.old; buffer = res.old })) result.number result.place result.count work.new res.new }
+pub fn run_plain(session: &[u8], clearance: usize, work: &mut [u32], res: &mut [u8]) -> Result<u32, Refusal>
+    ensures { Answers (plainly (record { session = session.entry.now; clearance = clearance; work = work.old; buffer = res.old })) (number_told result) (place_told result) (count_told result) work.new res.new }
 {
     run_session(session, None, clearance, work, res)
 }
 
 // Runs a session plainly for a reader cleared to the level of its root's object.
-pub fn run_for_root(session: &[u8], work: &mut [u32], res: &mut [u8]) -> Answer
-    ensures { Answers (plainly (record { session = session.entry.now; clearance = level_of session.entry.now (root_object session.entry.now); work = work.old; buffer = res.old })) result.number result.place result.count work.new res.new }
+pub fn run_for_root(bytes: &[u8], work: &mut [u32], res: &mut [u8]) -> Result<u32, Refusal>
+    ensures { Answers (plainly (record { session = bytes.entry.now; clearance = level_of bytes.entry.now (root_object bytes.entry.now); work = work.old; buffer = res.old })) (number_told result) (place_told result) (count_told result) work.new res.new }
 {
     let mut masks = [0u16; MAX_LEVELS];
-    let opened = opening::open(session, &mut masks);
-    if opened.number != 0 {
-        return opening::refused(opened.number, 0);
-    }
-    let levels = opened.levels;
-    let message = contents::root(session);
-    let level = contents::level_of(session, &masks[..levels], message.object as usize);
-    run_opened(session, None, &masks[..levels], level, work, res)
+    let mut index = [0u16; MAX_METHODS + 1];
+    let levels = opening::open(bytes, &mut masks)?;
+    let session = Session::new(bytes, &masks[..levels], &mut index);
+    let clearance = session.level_of(session.root().object as usize);
+    run_opened(&session, None, clearance, work, res)
 }

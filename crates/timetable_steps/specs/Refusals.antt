@@ -1,16 +1,19 @@
 -- How a timetable is refused. No meaning rests on these. Assumes nothing.
 -- Laws, in `timetabled` (`Laws/Listed`): a timetable step by step (`ListLoop`).
-use Rattle.std.specs.Prelude.{ℕ, ◌≡◌, Bool, true, false}
-use Rattle.permits.specs.Permits.{number_of_permit}
+use Rattle.std.specs.Prelude.{ℕ, Bool, true, false, Result, Ok, Err}
+use Rattle.calls.specs.declared.Refusal.{Refusal}
+use Rattle.calls.specs.declared.Refusal.TheVariants.{Absent, Idle, Blocked, Unended}
 use Rattle.permits.specs.declared.Permit.{Permit}
-use Rattle.level_state.specs.declared.RunEnd.{RunEnd}
-use Rattle.level_state.specs.declared.RunEnd.TheVariants as runEnd
+use Rattle.permits.specs.declared.Permit.TheVariants as permit
 
--- a step that is not permitted ends a run
-abbrev pub RefusedAt : Permit → ℕ → RunEnd → Type 0
-RefusedAt permit place r = r ≡ runEnd.Refused (number_of_permit permit) place
+-- a step that is not permitted ends a run, at its place
+abbrev pub refusal_at : Permit → ℕ → Result Unit Refusal
+refusal_at permit.Given place = Ok tt
+refusal_at permit.Absent place = Err (Absent place)
+refusal_at permit.Idle place = Err (Idle place)
+refusal_at permit.Blocked place = Err (Blocked place)
 
 -- "At the timetable's end: have all managers ended?"
-abbrev pub end_of : Bool → RunEnd
-end_of true = runEnd.Finished
-end_of false = runEnd.Refused 15 0
+abbrev pub end_of : Bool → Result Unit Refusal
+end_of true = Ok tt
+end_of false = Err Unended

@@ -2,52 +2,40 @@
 #![tactic(auto)]
 
 ghost use Rattle.std.specs.Prelude.{◌≡◌};
-ghost use Rattle.permits.specs.Permits.{number_of_permit, ended_of, Countable};
+ghost use Rattle.permits.specs.Permits.{ended_of, Countable};
 ghost use Rattle.level_state.specs.Representation.{words_of};
 ghost use Rattle.level_state.specs.Script.{ScriptStep, Unseen};
-ghost use Rattle.timetable_steps.specs.Refusals.{RefusedAt, end_of};
+ghost use Rattle.timetable_steps.specs.Refusals.{refusal_at, end_of};
 
+use calls::Refusal;
 use contents::Session;
 use cores::Effect;
 use fields::reads::Sight;
-use level_state::{RunEnd, RunState};
+use level_state::RunState;
 use managers::Manager;
 use permits::Permit;
 
-// Document 01's number of what questions 12 to 14 say.
-fn number_of(permit: Permit) -> u32
-    ensures { result ≡ number_of_permit permit }
+// What questions 12 to 14 say of the step at a place.
+pub fn refused_at(permit: Permit, place: u32) -> Result<(), Refusal>
+    ensures { result ≡ refusal_at permit place }
 {
     match permit {
-        Permit::Given => 0,
-        Permit::Absent => 12,
-        Permit::Idle => 13,
-        Permit::Blocked => 14,
+        Permit::Given => Ok(()),
+        Permit::Absent => Err(Refusal::Absent { place }),
+        Permit::Idle => Err(Refusal::Idle { place }),
+        Permit::Blocked => Err(Refusal::Blocked { place }),
     }
 }
 
-// The end of a run at the step at a place, which was not permitted.
-pub fn refused_at(permit: Permit, place: u32) -> RunEnd
-    ensures { RefusedAt permit place result }
-{
-    RunEnd::Refused {
-        number: number_of(permit),
-        place,
-    }
-}
-
-// The end of a run whose timetable has no more bytes: question 15.
-pub fn at_end(session: &Session, state: &RunState) -> RunEnd
+// What question 15 says at the end of a timetable.
+pub fn at_end(session: &Session, state: &RunState) -> Result<(), Refusal>
     requires { Countable session.now.masks.now state.now.tallies }
     ensures { result ≡ end_of (ended_of session.now.masks.now state.now.tallies) }
 {
     if !permits::all_ended(session.masks, &state.tallies) {
-        return RunEnd::Refused {
-            number: 15,
-            place: 0,
-        };
+        return Err(Refusal::Unended);
     }
-    RunEnd::Finished
+    Ok(())
 }
 
 // A script step that asks for the existence of an object is made once that is read; a READ may ask for the field then.

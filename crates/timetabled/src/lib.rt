@@ -5,11 +5,12 @@ ghost use Rattle.model.specs.Schedule.{initial_state};
 ghost use Rattle.level_state.specs.Representation.{words_of};
 ghost use Rattle.level_state.specs.Ends.{Quiescent, Ends, SameRest};
 
+use calls::Refusal;
 use contents::Session;
 use cores::Effect;
 use fields::FIELD_WORDS;
 use fields::reads::Sight;
-use level_state::{RunEnd, RunState};
+use level_state::RunState;
 use managers::Manager;
 use permits::Permit;
 use session::limits::MAX_LEVELS;
@@ -18,7 +19,12 @@ use session::limits::MAX_LEVELS;
 // ends the run; so does a timetable at whose end a manager has not ended. A script step that asks for a field
 // is made once that is read. Between the steps of a manager others step: nothing that it has read is kept in
 // `cache`.
-pub fn run(session: &Session, timetable: &[u8], state: &mut RunState, work: &mut [u32]) -> RunEnd
+pub fn run(
+    session: &Session,
+    timetable: &[u8],
+    state: &mut RunState,
+    work: &mut [u32],
+) -> Result<(), Refusal>
     requires { Quiescent session.now.bytes.now (words_of state.old work.old) (initial_state session.now.bytes.now) }
     ensures { Ends session.now.bytes.now timetable.now (words_of state.new work.new) result × SameRest work.old work.new }
 {

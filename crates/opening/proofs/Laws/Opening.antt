@@ -109,6 +109,13 @@ module _ {s before after : List ℕ} where
         };
       }
 
+-- one of them says no
+pub unopened : {before after : List ℕ} (ten : Bool) (q : Request) (r : Refusal) → Opens q.session before after (Err r) → (entry_refusal ten q ≡ number_of_refusal r) × (place_of_refusal r ≡ 0)
+unfolding entry_refusal
+unopened ten q r o =
+    let (i, p) = refused_by (verdict_of q.session) (length (table_made q.session)) r o.verdict in
+    (rw (i, ne_eqb (number_of_refusal r) 0 (number_some r)) refl, p)
+
 -- a run is not made where a question, 1 to 11, says no: nothing is touched
 pub record Refuses (ten : Bool) (q : Request) (of : model.Answer) : Type 0 where
   pub no : (number : ℕ) → entry_refusal ten q ≡ number → (number ≡ 0 → ⊥) → of ≡ untouched q number
@@ -127,20 +134,9 @@ deep_refuses q = record { no = λ number e n. rw (e, ne_eqb number 0 n) refl }
 
 module _ {ten : Bool} {q : Request} {of : model.Answer} (refuses : Refuses ten q of) where
   -- the answer of an entry that a question ends
-  answers_no : (r : Refusal) → entry_refusal ten q ≡ number_of_refusal r → (number_of_refusal r ≡ 0 → ⊥) → place_of_refusal r ≡ 0
-      → Answers of (number_of_refusal r) (place_of_refusal r) 0 q.work q.buffer
-  answers_no r e n p = rw p (sym (refuses.no (number_of_refusal r) e n))
-
-  -- 9 to 11
   pub answers_refusal : (r : Refusal) → entry_refusal ten q ≡ number_of_refusal r → place_of_refusal r ≡ 0 → Answers of (number_of_refusal r) (place_of_refusal r) 0 q.work q.buffer
-  answers_refusal r e p = answers_no r e (number_some r) p
-
-  refused_session : (r : Refusal) → number_of_verdict (verdict_of q.session) ≡ number_of_refusal r → entry_refusal ten q ≡ number_of_refusal r
-  unfolding entry_refusal
-  refused_session r e = rw (e, ne_eqb (number_of_refusal r) 0 (number_some r)) refl
+  answers_refusal r e p = rw p (sym (refuses.no (number_of_refusal r) e (number_some r)))
 
   -- 1 to 8
   pub answers_unopened : {before after : List ℕ} (r : Refusal) → Opens q.session before after (Err r) → Answers of (number_of_refusal r) (place_of_refusal r) 0 q.work q.buffer
-  answers_unopened r o =
-      let (i, p) = refused_by (verdict_of q.session) (length (table_made q.session)) r o.verdict in
-      answers_no r (refused_session r i) (number_some r) p
+  answers_unopened r o = let (e, p) = unopened ten q r o in answers_refusal r e p

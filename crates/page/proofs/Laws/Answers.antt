@@ -11,12 +11,15 @@ use Rattle.calls.specs.Entries.{Request, entry_refusal}
 use Rattle.lists.specs.Placed.{written_over, Written}
 use Rattle.theorems.proofs.Laws.Reader.Answers.{passes, deep_is}
 use Rattle.theorems.proofs.Laws.Reader.Bytes.{written_bytes}
+use Rattle.std.specs.Prelude.{Ok, Err}
+use Rattle.calls.specs.Refusals.{number_of_refusal, place_of_refusal}
+use Rattle.calls.specs.declared.Refusal.{Refusal}
+use Rattle.calls.specs.declared.Refusal.TheVariants.{ShortPage}
 use Rattle.opening.specs.Opening.{Opens}
-use Rattle.opening.specs.declared.Opened.{Opened}
+use Rattle.opening.proofs.Laws.Opening.{number_some, unopened}
 use Rattle.depth_first.specs.Runs.{bytes_shown, Shown}
 use Rattle.text.specs.Text.{page_of}
-use Rattle.calls.specs.Page.{page_refusal, page_refused, paged, PageAnswers, Refused, Finished}
-use Rattle.calls.specs.declared.PageAnswer.{PageAnswer}
+use Rattle.calls.specs.Page.{page_refusal, page_refused, paged, PageAnswers}
 use Rattle.page.proofs.Laws.Fits.{page_fits}
 
 abbrev pub request : List ℕ → ℕ → List ℕ → Request
@@ -28,21 +31,21 @@ module _ (q : Request) (page : List ℕ) where
   unfolding paged
   refuses number e n = rw (e, ne_eqb number 0 n) refl
 
-  answers-no : (number : ℕ) → page_refusal q page ≡ number → (number ≡ 0 → ⊥) → (r : PageAnswer) → Refused number r → PageAnswers (paged q page) r q.buffer page
-  answers-no number e n r (i, j, k, l) = rw (i, j, k, l) (sym (refuses number e n))
+  answers-no : (r : Refusal) → page_refusal q page ≡ number_of_refusal r → place_of_refusal r ≡ 0 → PageAnswers (paged q page) (Err r) q.buffer page
+  answers-no r e p = rw p (sym (refuses (number_of_refusal r) e (number_some r)))
 
   -- 1 to 9 and 11
-  pub answers_refusal : (number : ℕ) → entry_refusal true q ≡ number → (number ≡ 0 → ⊥) → (r : PageAnswer) → Refused number r → PageAnswers (paged q page) r q.buffer page
-  answers_refusal number e n = answers-no number (unfold page_refusal in rw (e, ne_eqb number 0 n) refl) n
+  pub answers_refusal : (r : Refusal) → entry_refusal true q ≡ number_of_refusal r → place_of_refusal r ≡ 0 → PageAnswers (paged q page) (Err r) q.buffer page
+  answers_refusal r e = answers-no r (unfold page_refusal in rw (e, ne_eqb (number_of_refusal r) 0 (number_some r)) refl)
 
   -- 1 to 8
-  pub answers_unopened : {before after : List ℕ} {o : Opened} → Opens q.session before after o → (o.number ≡ 0 → ⊥) → (r : PageAnswer) → Refused o.number r → PageAnswers (paged q page) r q.buffer page
-  answers_unopened {o = o} p n = answers_refusal o.number (unfold entry_refusal in rw (sym p.number, ne_eqb o.number 0 n) refl) n
+  pub answers_unopened : {before after : List ℕ} (r : Refusal) → Opens q.session before after (Err r) → PageAnswers (paged q page) (Err r) q.buffer page
+  answers_unopened r o = let (e, p) = unopened true q r o in answers_refusal r e p
 
   module _ (yes : entry_refusal true q ≡ 0) where
     -- 16
-    pub answers-16 : length page < page_bytes → (r : PageAnswer) → Refused 16 r → PageAnswers (paged q page) r q.buffer page
-    answers-16 h = answers-no 16 (unfold page_refusal in rw (yes, lt-leb page_bytes (length page) h) refl) (λ e. omega (arith, e))
+    pub answers-16 : length page < page_bytes → PageAnswers (paged q page) (Err ShortPage) q.buffer page
+    answers-16 h = answers-no ShortPage (unfold page_refusal in rw (yes, lt-leb page_bytes (length page) h) refl) refl
 
     -- all say yes
     all_yes : page_bytes ≤ length page → page_refusal q page ≡ 0
@@ -92,8 +95,8 @@ module _ (s : List ℕ) (c : ℕ) (b page : List ℕ) (yes : entry_refusal true 
       rw (eq-eqb (page_refusal q page) 0 (all_yes q page yes h), deep_is q yes, written_bytes bytes b) refl
 
   pub answers-finished : page_bytes ≤ length page → (count : ℕ) (b' : List ℕ) → Shown s c b b' count → (n : ℕ) (page' : List ℕ) → Written (page_of (take count b')) page page' n
-      → (r : PageAnswer) → Finished count n r → PageAnswers (paged q page) r b' page'
-  answers-finished h count b' t n page' w r (i, j, k, l) =
+      → PageAnswers (paged q page) (Ok (record { count = count; page_count = n })) b' page'
+  answers-finished h count b' t n page' w =
       let size : n ≡ length (page_of bytes) = w.number ∙ ap (λ x. length (page_of x)) (cut count b' t) in
       let text : page' ≡ written_over (page_of bytes) page = w.buffer ∙ ap (λ x. written_over (page_of x) page) (cut count b' t) in
-      rw (i, j, k, l, size, text, t.written.number, t.written.buffer) (sym (paged-is h))
+      rw (size, text, t.written.number, t.written.buffer) (sym (paged-is h))

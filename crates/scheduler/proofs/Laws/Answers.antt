@@ -29,15 +29,15 @@ use Rattle.lists.specs.Placed.{Written}
 use Rattle.results.proofs.Laws.Depends.{bytes_depend}
 use Rattle.histories.proofs.Laws.Histories.{ended_few}
 use Rattle.results.proofs.Laws.Written.{bytes_fit}
-use Rattle.opening.specs.declared.Answer.{Answer}
-use Rattle.opening.specs.Opening.{Refused, LentRefusal}
+use Rattle.std.specs.Prelude.{Result, Ok, Err}
+use Rattle.calls.specs.Refusals.{number_of_refusal, place_of_refusal, number_told, place_told, count_told}
+use Rattle.calls.specs.declared.Refusal.{Refusal}
+use Rattle.opening.specs.Opening.{LentRefusal}
 use Rattle.versions.proofs.Laws.Cleared.{cleared_rest}
 use Rattle.level_state.specs.Representation.{Words, Represents}
 use Rattle.level_state.specs.Ends.{SameRest, Ends}
 use Rattle.fork_runs.specs.Levels.{Done}
 use Rattle.scheduler.specs.Runs.{Shows, RunReady, ListDone}
-use Rattle.level_state.specs.declared.RunEnd as code
-use Rattle.level_state.specs.declared.RunEnd.TheVariants as runEnd
 
 module _ (s : List ℕ) (a : verdict_of s ≡ Accepted) where
   root_level : level_of s (root_object s) < level_count s
@@ -74,28 +74,28 @@ module _ (s : List ℕ) (a : verdict_of s ≡ Accepted) where
     emptied = zero ∙ cleared_rest work work1 same
 
     -- the list was refused
-    pub list_refused : (w : Words) (o : code.RunEnd) (number place : ℕ) (r : Answer) → Ends s ls w o → o ≡ runEnd.Refused number place → Refused number place r → buffer' ≡ buffer → ListDone s ls c work work' buffer buffer' r
-    list_refused w o number place r e is (i, j, k) b =
-        let ends : run_of (program_of s) (root_of s) ls ≡ refused number place = rw is at e in
-        rw (i, j, k, emptied, b) (sym (ap (answer_of q) ends ∙ answer number place))
+    pub list_refused : (w : Words) (o : Result Unit Refusal) (r : Refusal) → Ends s ls w o → o ≡ Err r → buffer' ≡ buffer → ListDone s ls c work work' buffer buffer' (Err r)
+    list_refused w o r e is b =
+        let ends : run_of (program_of s) (root_of s) ls ≡ refused (number_of_refusal r) (place_of_refusal r) = rw is at e in
+        rw (emptied, b) (sym (ap (answer_of q) ends ∙ answer (number_of_refusal r) (place_of_refusal r)))
       where
         answer : (number place : ℕ) → answer_of q (refused number place) ≡ record { number = number; place = place; count = 0; work = cleared work; buffer = buffer }
         answer number place = unfold answer_of in refl
 
     -- it finished, and the records are written
-    pub list-finished : (w : Words) (level : ℕ) (r : Answer) → Ends s ls w runEnd.Finished → level ≡ level_of s (root_object s) → Shows s w.current w.ended w.tallies c level buffer buffer' r → ListDone s ls c work work' buffer buffer' r
-    list-finished w level r (ms, (st, (run, t))) e shows =
+    pub list-finished : (w : Words) (level count : ℕ) → Ends s ls w (Ok tt) → level ≡ level_of s (root_object s) → Shows s w.current w.ended w.tallies c level buffer buffer' count → ListDone s ls c work work' buffer buffer' (Ok count)
+    list-finished w level count (ms, (st, (run, t))) e shows =
         let bytes = bytes_in s (result_of (program_of s) st) c (level_of s (root_object s)) in
         let is : bytes_in s (result_in w.current w.ended w.tallies) c level ≡ bytes_in s (result_of (program_of s) st) c (level_of s (root_object s)) =
         ap (bytes_in s (result_in w.current w.ended w.tallies) c) e ∙ same_bytes w ms st t c in
-        let wrote : Written (bytes_in s (result_of (program_of s) st) c (level_of s (root_object s))) buffer buffer' r.count = rw is at shows.written in
-        rw (shows.number, shows.place, wrote.number, wrote.buffer, emptied) (sym (ap (answer_of q) run ∙ answer st))
+        let wrote : Written (bytes_in s (result_of (program_of s) st) c (level_of s (root_object s))) buffer buffer' count = rw is at shows in
+        rw (wrote.number, wrote.buffer, emptied) (sym (ap (answer_of q) run ∙ answer st))
       where
         answer : (st : State) → answer_of q (finished st) ≡ success q (cleared work) (bytes_in s (result_of (program_of s) st) c (level_of s (root_object s)))
         answer st = unfold answer_of in refl
 
   -- any list that finishes ends as the plain order does
-  pub plain-ends : (w : Words) → Done s w → Ends s (plain_order (program_of s) (root_of s)) w runEnd.Finished
+  pub plain-ends : (w : Words) → Done s w → Ends s (plain_order (program_of s) (root_of s)) w (Ok tt)
   plain-ends w (ls, (ms, (st, (run, t)))) =
       let (u, e) = accepted_plain s a in
       let same : st ≡ u = any_order s a ls (plain_order (program_of s) (root_of s)) st u run e in
@@ -106,9 +106,9 @@ module _ (s : List ℕ) (c : ℕ) (work buffer : List ℕ) where
   request = record { session = s; clearance = c; work = work; buffer = buffer }
 
   -- questions 9 to 11, put of an opened session with its level table
-  pub entry-is : (masks : List ℕ) → Leveled s masks → (ten : Bool) → ten ≡ question10 request → (number : ℕ) → LentRefusal (length masks) c ten (length buffer) number → entry_refusal (question10 request) request ≡ number
-  entry-is masks y ten e number h =
-      ap (λ t. entry_refusal t request) (sym e) ∙ h request y.accepted (sym (ap length y.masks_are ∙ masks_length s y.accepted)) refl refl
+  pub entry-is : (masks : List ℕ) → Leveled s masks → (ten : Bool) → ten ≡ question10 request → (r : Result Unit Refusal) → LentRefusal (length masks) c ten (length buffer) r → entry_refusal (question10 request) request ≡ number_told r
+  entry-is masks y ten e r h =
+      ap (λ t. entry_refusal t request) (sym e) ∙ h.number request y.accepted (sym (ap length y.masks_are ∙ masks_length s y.accepted)) refl refl
 
   -- questions 1 to 11 say yes
   module _ (e : entry_refusal (question10 request) request ≡ 0) where
@@ -121,7 +121,7 @@ module _ (s : List ℕ) (c : ℕ) (work buffer : List ℕ) where
     unfolding timetabled
     ran_is ls = rw e refl
 
-    pub answered-list : (work' buffer' : List ℕ) (r : Answer) (ls : List ℕ) → ListDone s ls c work work' buffer buffer' r → Answers (timetabled request ls) r.number r.place r.count work' buffer'
+    pub answered-list : (work' buffer' : List ℕ) (r : Result ℕ Refusal) (ls : List ℕ) → ListDone s ls c work work' buffer buffer' r → Answers (timetabled request ls) (number_told r) (place_told r) (count_told r) work' buffer'
     answered-list work' buffer' r ls d = d ∙ sym (ran_is ls)
 
   -- the plain run is a timetabled one
@@ -137,12 +137,12 @@ pub zeros-are : (n i : ℕ) → i < n → get_or {A = ℕ} (replicate n 0) i 0 �
 zeros-are n i h = get_or-replicate n i 0 0 h
 
 -- a list that finished, by the end that the code has of it
-pub finished-by : (s ls : List ℕ) (w : Words) (o : code.RunEnd) → o ≡ runEnd.Finished → Ends s ls w o → Ends s ls w runEnd.Finished
+pub finished-by : (s ls : List ℕ) (w : Words) (o : Result Unit Refusal) → o ≡ Ok tt → Ends s ls w o → Ends s ls w (Ok tt)
 finished-by s ls w o e x =
-    let y : Ends s ls w runEnd.Finished = rw e at x in
+    let y : Ends s ls w (Ok tt) = rw e at x in
     y
 
-pub show-ready : (s masks ls : List ℕ) (w : Words) (level : ℕ) (buffer : List ℕ) → Leveled s masks → Ends s ls w runEnd.Finished → level ≡ level_of s (root_object s) → result_bytes ≤ length buffer → Ready s masks w.current w.ended w.tallies level buffer
+pub show-ready : (s masks ls : List ℕ) (w : Words) (level : ℕ) (buffer : List ℕ) → Leveled s masks → Ends s ls w (Ok tt) → level ≡ level_of s (root_object s) → result_bytes ≤ length buffer → Ready s masks w.current w.ended w.tallies level buffer
 show-ready s masks ls w level buffer y (ms, (st, (run, t))) e room =
     write_ready s y.accepted w ms st t masks level buffer y e room
 
