@@ -11,7 +11,7 @@ returns-then-dominates c =
     let o = g.self.now in
     let w = c.write_histories in
     level_shown (dominates o.session.masks.now) (ended_in o.histories.now o.counts.now) o.clearance g.level 0 w.result
-    g.res.now w.new.res (sym c.dominates.ensures ∙ c.if-dominates.true) w.ensures
+    g.res.now w.new.res (sym c.dominates.ensures ∙ c.if-dominates.true) (rw c.ended.ensures at w.ensures)
 
 pub returns-else-dominates : goal.returns-else-dominates
 returns-else-dominates c =

@@ -11,7 +11,7 @@ returns-then-dominates c =
     let o = g.self.now in
     reply_shown_lem (dominates o.session.masks.now) (ended_in o.histories.now o.counts.now) o.clearance g.root_level 0 c.put.result
     g.res.now c.put.new.res c.reply_record-made.result c.first_reply-reply.result
-    (sym c.dominates.ensures ∙ c.if-dominates.true) c.reply_record-made.ensures c.first_reply-reply.ensures c.put.ensures
+    (sym c.dominates.ensures ∙ c.if-dominates.true) c.reply_record-made.ensures (rw c.ended.ensures at c.first_reply-reply.ensures) c.put.ensures
 
 pub returns-else-dominates : goal.returns-else-dominates
 returns-else-dominates c =
