@@ -21,17 +21,17 @@ use Rattle.fields.specs.declared.reads.Missing.{Missing}
 use Rattle.std.specs.Prelude.{Result, Ok, Err}
 
 -- what is found of a field, and what is asked for in its place
-abbrev found : Value → Result Value Missing
-found v = Ok v
+abbrev pub held : Value → Result Value Missing
+held v = Ok v
 
-abbrev missing : ℕ → Result Value Missing
-missing k = Err (lacking k)
+abbrev pub lacked : ℕ → Result Value Missing
+lacked k = Err (lacking k)
 
 -- what is found is one value, and something missing is no value
-same_value : (v w : Value) → found v ≡ found w → v ≡ w
+same_value : (v w : Value) → held v ≡ held w → v ≡ w
 same_value v w e = cc
 
-no_value : (k : ℕ) (v : Value) → missing k ≡ found v → ⊥
+no_value : (k : ℕ) (v : Value) → lacked k ≡ held v → ⊥
 no_value k v e = cc
 
 -- what is told of a script: it is at hand, and which; or it is not
@@ -90,13 +90,13 @@ found_scripted s current cache false false o f g own_low h e = elim (truth (know
     unknown_is q = not_both true refl q
 
 -- what is missing is the field, or existence
-same_missing : (j k : ℕ) → missing j ≡ missing k → j ≡ k
+pub same_missing : (j k : ℕ) → lacked j ≡ lacked k → j ≡ k
 same_missing j k e = let z : lacking j ≡ lacking k = cc in ap (λ m. m.value) z
 
-no_missing : (k : ℕ) (v : Value) → found v ≡ missing k → ⊥
+pub no_missing : (k : ℕ) (v : Value) → held v ≡ lacked k → ⊥
 no_missing k v e = cc
 
-pub missing_low : (current cache : List ℕ) (own unchanged : Bool) (o b k : ℕ) → b < fields → found_of current cache own unchanged o b ≡ missing k → k ≤ existence
+pub missing_low : (current cache : List ℕ) (own unchanged : Bool) (o b k : ℕ) → b < fields → found_of current cache own unchanged o b ≡ lacked k → k ≤ existence
 unfolding found_of
 missing_low current cache own unchanged o b k h q = elim (truth (eqb (script_found current cache own unchanged o) unknown)) [
   | holds e ↦ omega (arith, same_missing existence k (rw e at q))
@@ -124,7 +124,7 @@ module _ (s current cache : List ℕ) (all unchanged : Bool) (level : ℕ) (read
   seen_there_lem e = sym (there_script (read o existence)) ∙ ap (λ w. not (eqb w 0)) (seen_script e)
 
   -- a found field is what a READ sees
-  pub found_seen : (k : ℕ) (v : Value) → k < fields → found_of current cache (is_own s all level o) unchanged o k ≡ found v → v ≡ field_seen read o k
+  pub found_seen : (k : ℕ) (v : Value) → k < fields → found_of current cache (is_own s all level o) unchanged o k ≡ held v → v ≡ field_seen read o k
   unfolding found_of
   found_seen k v h q = elim (truth (eqb script unknown)) [
     | holds e ↦ absurd (no_value existence v (rw e at q))
