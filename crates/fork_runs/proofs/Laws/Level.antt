@@ -5,7 +5,6 @@ use mathlib.Core.Bool.{true, false}
 use mathlib.Core.List.{List, [], ◌∷◌, ◌++◌}
 use native.Mathlib.Decide.{ℕ_discrete}
 use borrow.Author.Tests.{lt-ltb}
-use lib.ListN.{length}
 use Rattle.session.specs.Parts.{level_count}
 use Rattle.session.specs.Program.{program_of}
 use Rattle.session.specs.Questions.{verdict_of, Accepted}

@@ -1,17 +1,16 @@
 -- The words of a run once its session is read in: nothing has started, ended or been written, and the root's fork waits. Assumes nothing.
 use Prim.Native.Nat.{ℕ, ◌+◌, ◌≤◌, ◌<◌}
 use mathlib.Core.Path.{◌≡◌, refl, sym, ◌∙◌, ap, ap₂}
-use mathlib.Core.List.{List, [], ◌++◌}
+use mathlib.Core.List.{List, []}
 use native.Mathlib.Decide.{dec_lt}
 use native.Mathlib.Omega.{arith}
-use lib.ListN.{length, get_or, set, drop, replicate, length-replicate, get_or-replicate}
-use Rattle.session.specs.Limits.{max_levels, max_methods, max_numbers}
+use lib.ListN.{get_or, set, replicate, length-replicate, get_or-replicate}
+use Rattle.session.specs.Limits.{max_levels, max_numbers}
 use Rattle.lists.specs.Lists.{rising_from}
 use Rattle.session.specs.Parts.{level_count, object_count}
 use Rattle.session.specs.Meaning.{Numbered, level_of, root_object, root_of}
 use Rattle.session.specs.Questions.{verdict_of, Accepted}
 use Rattle.session.specs.Program.{program_of}
-use Rattle.contents.specs.Reading.{index_of}
 use Rattle.session.specs.declared.Message.{Message}
 use Rattle.session.proofs.Laws.Accepted.{level_present, root_present}
 use Rattle.session.proofs.Laws.Numbers.{number_own}
