@@ -9,6 +9,7 @@ use lib.Dec.{ltb, leb}
 use lib.ListN.{get_or}
 use Rattle.lists.proofs.Laws.Range.{not_both, and_left, and_right}
 use Rattle.session.specs.Program.{Program, program_of}
+use Rattle.frames.proofs.Laws.Values.{either_same}
 use Rattle.session.specs.Value.{Value}
 use Rattle.std.specs.Prelude.{None}
 use Rattle.lists.proofs.Laws.Lists.{holds, fails, truth}
@@ -95,16 +96,12 @@ late_comes s c r w gs e d o a h =
     ap (λ m. record { manager = m; effect = effect_of c.effect })
     (plain-settled p (causing r c.effect) gs c.effect d o a
     ∙ ap (λ x. concluded p (standing x gs)) h.core_is
-    ∙ ap (λ f. concluded p (bare c (f ∷ gs))) (h.top_is ∙ ap (with_register (aside_of w) (into_of c.top.answer)) (both (returns_of c.top.answer)))
+    ∙ ap (λ f. concluded p (bare c (f ∷ gs))) (h.top_is ∙ ap (with_register (aside_of w) (into_of c.top.answer)) (either_same (returns_of c.top.answer) None))
     ∙ sym (concluded_pop p (standing c (aside_of w ∷ gs)) (frame_of c.top) (aside_of w) gs e)
     ∙ sym (plain-settled p c (aside_of w ∷ gs) c.effect d o a))
   where
     p : Program
     p = program_of s
-
-    both : (b : Bool) → cond b None None ≡ None
-    both true = refl
-    both false = refl
 
 pub lowering_start : (s masks index current cache : List ℕ) (all unchanged : Bool) (limit : ℕ) (c₀ : Core) (ws₀ : List Waiting) (c : Core) (ws : List Waiting) → Turning s masks index current cache all unchanged limit c₀ ws₀ c ws → is_done c.effect ≡ true → Lowering s index ws c c
 lowering_start s masks index current cache all unchanged limit c₀ ws₀ c ws t d =

@@ -9,6 +9,7 @@ use lib.ListN.{length, get_or, set}
 use lib.Seq.{get_or-set_same, get_or-set_other}
 use Rattle.lists.proofs.Laws.Range.{not_both}
 use Rattle.session.specs.Program.{Program, program_of}
+use Rattle.frames.proofs.Laws.Values.{either_same}
 use Rattle.session.specs.Value.{Value}
 use Rattle.std.specs.Prelude.{None}
 use Rattle.lists.proofs.Laws.Lists.{holds, fails, truth}
@@ -116,12 +117,8 @@ end_comes s c (g ∷ gs) h r e =
     let f = frame_of c.top in
     rw (ne_eqb c.height 1 more)
     (ap idle
-    (ap (concluded (program_of s)) (popped_to_lem (standing c (g ∷ gs)) f g gs None ∙ ap (λ v. bare c (with_register g (into_of c.top.answer) v ∷ gs)) (both (returns_of c.top.answer)))
+    (ap (concluded (program_of s)) (popped_to_lem (standing c (g ∷ gs)) f g gs None ∙ ap (λ v. bare c (with_register g (into_of c.top.answer) v ∷ gs)) (either_same (returns_of c.top.answer) None))
     ∙ sym (concluded_pop (program_of s) (standing c (g ∷ gs)) f g gs e)))
-  where
-    both : (b : Bool) → cond b None None ≡ None
-    both true = refl
-    both false = refl
 
 -- a step waits: nothing has changed
 asking_comes : (p : Program) (c : Core) (gs : List defined.Frame) (e : Effect) → is_asking e ≡ true → comes_to p (causing c e) gs ≡ record { manager = standing c gs; effect = effect.Nothing }
