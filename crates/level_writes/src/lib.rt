@@ -100,13 +100,13 @@ fn write_change(
     level: usize,
     stamp: u16,
     top: Frame,
-    change: Change,
+    change: Option<Change>,
 )
     requires { ChangeReady current.old tallies.old work.old level (change_of (frame_of top) change) }
     ensures { ChangeDone current.old current.new tallies.old tallies.new work.old work.new level stamp (change_of (frame_of top) change) }
 {
     match change {
-        Change::Create { object, script } => {
+        Some(Change::Create { object, script }) => {
             let first = top.r1;
             let second = top.r2;
             let third = top.r3;
@@ -114,10 +114,10 @@ fn write_change(
                 current, tallies, work, level, stamp, object, first, second, third, script,
             );
         }
-        Change::Withdraw { object } => {
+        Some(Change::Withdraw { object }) => {
             write_withdrawn(current, tallies, work, level, stamp, object);
         }
-        Change::Nothing => {}
+        None => {}
     }
 }
 

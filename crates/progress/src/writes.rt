@@ -12,12 +12,12 @@ use session::Value;
 
 // What a CREATE or WITHDRAW of a manager of a level writes, and that it does. `before` is the frame that made it, as
 // it was before the step.
-fn write(current: &mut [u32], tallies: &mut [usize], level: usize, before: Frame, change: Change)
+fn write(current: &mut [u32], tallies: &mut [usize], level: usize, before: Frame, change: Option<Change>)
     requires { Writable current.old tallies.old level change }
     ensures { Written level before change current.old tallies.old current.new tallies.new }
 {
     match change {
-        Change::Create { object, script } => {
+        Some(Change::Create { object, script }) => {
             let first = before.r1;
             let second = before.r2;
             let third = before.r3;
@@ -28,12 +28,12 @@ fn write(current: &mut [u32], tallies: &mut [usize], level: usize, before: Frame
             fields::set(current, object as usize, EXISTENCE as usize, made);
             tallies::change(tallies, level);
         }
-        Change::Withdraw { object } => {
+        Some(Change::Withdraw { object }) => {
             let withdrawn = Value::Number(0);
             fields::set(current, object as usize, EXISTENCE as usize, withdrawn);
             tallies::change(tallies, level);
         }
-        Change::Nothing => {}
+        None => {}
     }
 }
 
