@@ -1,6 +1,6 @@
 -- What a CREATE or WITHDRAW writes to the words of a depth-first run. No meaning rests on these. Assumes nothing.
 -- Laws (`proofs/Laws/Changes`): what it concerns is there (`change_there`); it is done to the words as the definition does it (`change_done`).
-use Rattle.std.specs.Prelude.{ℕ, ◌≤◌, ◌<◌, ◌≡◌, List, [], ◌∷◌, length}
+use Rattle.std.specs.Prelude.{ℕ, ◌≤◌, ◌<◌, ◌≡◌, Option, Some, None, List, [], ◌∷◌, length}
 use Rattle.session.specs.Limits.{max_levels, max_numbers}
 use Rattle.session.specs.Program.{program_of}
 use Rattle.scripts.specs.Existence.{existence, making, withdrawn}
@@ -10,7 +10,7 @@ use Rattle.fields.specs.Limits.{field_words}
 use Rattle.fields.specs.Fields.{FieldSet}
 use Rattle.frames.specs.declared.Frame.{Frame}
 use Rattle.changes.specs.declared.Change.{Change}
-use Rattle.changes.specs.declared.Change.TheVariants.{Nothing, Create, Withdraw}
+use Rattle.changes.specs.declared.Change.TheVariants.{Create, Withdraw}
 use Rattle.managers.specs.Manager.{manager_of}
 use Rattle.managers.specs.Steps.{WellFormed}
 use Rattle.managers.specs.declared.Manager.{Manager}
@@ -20,12 +20,12 @@ use Rattle.tallies.specs.Places.{tally_numbers, changed}
 use Rattle.progress.specs.Representation.{RepresentedBy, Spared}
 
 -- what a change writes has words
-abbrev pub Numbers : Change → Type 0
-Numbers Nothing = Unit
-Numbers (Create o w) = o < max_numbers
-Numbers (Withdraw o) = o < max_numbers
+abbrev pub Numbers : Option Change → Type 0
+Numbers None = Unit
+Numbers (Some (Create o w)) = o < max_numbers
+Numbers (Some (Withdraw o)) = o < max_numbers
 
-pub record Writable (current tallies : List ℕ) (level : ℕ) (change : Change) : Type 0 where
+pub record Writable (current tallies : List ℕ) (level : ℕ) (change : Option Change) : Type 0 where
   pub fields_there : field_words ≤ length current
   pub tallies_there : tally_numbers ≤ length tallies
   pub level_small : level < max_levels
@@ -37,11 +37,11 @@ AllSet [] ws ws' = ws' ≡ ws
 AllSet (x ∷ xs) ws ws' = (vs : List ℕ) × (AllSet xs ws vs × FieldSet vs ws' x.object x.field x.value)
 
 -- what a change of a manager of level l writes, whose top frame was f before, and that existence was written
-abbrev pub Written : ℕ → Frame → Change → List ℕ → List ℕ → List ℕ → List ℕ → Type 0
-Written l f Nothing current tallies current' tallies' = (current' ≡ current) × (tallies' ≡ tallies)
-Written l f (Create o w) current tallies current' tallies' =
+abbrev pub Written : ℕ → Frame → Option Change → List ℕ → List ℕ → List ℕ → List ℕ → Type 0
+Written l f None current tallies current' tallies' = (current' ≡ current) × (tallies' ≡ tallies)
+Written l f (Some (Create o w)) current tallies current' tallies' =
     AllSet (making o f.r1 f.r2 f.r3 w) current current' × (tallies' ≡ changed l tallies)
-Written l f (Withdraw o) current tallies current' tallies' =
+Written l f (Some (Withdraw o)) current tallies current' tallies' =
     AllSet (record { object = o; field = existence; value = withdrawn } ∷ []) current current' × (tallies' ≡ changed l tallies)
 
 -- a script step of manager m, a CREATE or WITHDRAW, is made, and done to the words as the definition does it: whatever the histories

@@ -32,6 +32,7 @@ use Rattle.fields.specs.Reads.{own_script_of}
 use Rattle.versions.specs.Log.{max_versions}
 use Rattle.cores.specs.Core.{bare, effect_of, kept_of, Present}
 use Rattle.changes.specs.Changes.{change_of}
+use Rattle.std.specs.Prelude.{Option, Some, None}
 use Rattle.changes.specs.declared.Change.{Change}
 use Rattle.changes.specs.declared.Change.TheVariants as change
 use Rattle.cores.specs.declared.Effect as core
@@ -137,10 +138,10 @@ module _ {current tallies work : List ℕ} {l n : ℕ} (r : RoomFor current tall
       }
 
 -- what a change needs depends on no fork
-pub change_any : (current tallies queue work : List ℕ) (l forks : ℕ) (f : Frame) (x : Change) → EffectReady current tallies queue work l forks (change_of f x) → ChangeReady current tallies work l (change_of f x)
-change_any current tallies queue work l forks f change.Nothing r = tt
-change_any current tallies queue work l forks f (change.Create o script) r = r
-change_any current tallies queue work l forks f (change.Withdraw o) r = r
+pub change_any : (current tallies queue work : List ℕ) (l forks : ℕ) (f : Frame) (x : Option Change) → EffectReady current tallies queue work l forks (change_of f x) → ChangeReady current tallies work l (change_of f x)
+change_any current tallies queue work l forks f None r = tt
+change_any current tallies queue work l forks f (Some (change.Create o script)) r = r
+change_any current tallies queue work l forks f (Some (change.Withdraw o)) r = r
 
 -- the writes of a CREATE, and that of a WITHDRAW, one after the other
 module _ {c0 c1 : List ℕ} (t0 : List ℕ) {t1 t2 w0 w1 : List ℕ} {l stamp o : ℕ} (note : t1 ≡ changed l t0) where

@@ -22,9 +22,9 @@ use Rattle.fates.specs.declared.Fate.TheVariants as fate
 use Rattle.scripts.specs.Existence.{existence}
 use Rattle.fields.specs.Fields.{field_at, script_in, known_at}
 use Rattle.fields.specs.Reads.{own_script_of, unknown, script_found, found_of, Small, is_own}
-use Rattle.fields.specs.declared.reads.Found.{Found}
-use Rattle.fields.specs.declared.reads.Found.TheVariants.{Missing, Is}
-use Rattle.fields.proofs.Laws.Reads.{own_known}
+use Rattle.fields.specs.declared.reads.Missing.{Missing}
+use Rattle.std.specs.Prelude.{Result, Ok, Err}
+use Rattle.fields.proofs.Laws.Reads.{own_known, lacked, same_missing, no_missing}
 use Rattle.changes.specs.Changes.{IsChange}
 use Rattle.operations.specs.Operations.{none, on, change, missing, unseen, pause_on}
 
@@ -42,12 +42,6 @@ change_on x k e = let z : ◌≡◌ {A = ℕ} 0 1 = cc in omega arith
 
 none_change : none ≡ change → ⊥
 none_change e = let z : ◌≡◌ {A = ℕ} 0 1 = cc in omega arith
-
-same_missing : (j k : ℕ) → Missing j ≡ Missing k → j ≡ k
-same_missing j k e = cc
-
-no_missing : (k : ℕ) (v : Value) → Is v ≡ Missing k → ⊥
-no_missing k v e = let z : ◌≡◌ {A = ℕ} 0 1 = cc in omega arith
 
 -- the object that a step may ask about
 abbrev target : ℕ → Step → ℕ
@@ -71,7 +65,7 @@ module _ (s current cache : List ℕ) (u : Bool) (level : ℕ) where
     of_existence : k ≡ existence → eqb (script x) unknown ≡ true → Reason i x k
     of_field : (a : ℕ) → i ≡ op.Read a k → eqb (script x) unknown ≡ false → is_own s false level x ≡ false → known_at cache x k ≡ false → Reason i x k
 
-  found_reason : (a o b k : ℕ) → found_of current cache (is_own s false level o) u o b ≡ Missing k → Reason (op.Read a b) o k
+  found_reason : (a o b k : ℕ) → found_of current cache (is_own s false level o) u o b ≡ lacked k → Reason (op.Read a b) o k
   unfolding found_of
   found_reason a o b k q = elim (truth (eqb (script o) unknown)) [
     | holds e ↦ of_existence (sym (same_missing existence k (rw e at q))) e
@@ -109,11 +103,11 @@ module _ (s current cache : List ℕ) (u : Bool) (level : ℕ) where
   pause_reason o (op.Jump a b) x k q = absurd (none_on x k q)
   pause_reason o (op.Read a b) x k q = by (found_of current cache (is_own s false level o) u o b) refl q
     where
-      by : (f : Found) → found_of current cache (is_own s false level o) u o b ≡ f → missing o f ≡ on x k → (x ≡ o) × Reason (op.Read a b) x k
-      by (Is v) e q = absurd (none_on x k q)
-      by (Missing j) e q =
-          let is = same_object o j x k q in
-          (sym is, rw (sym is, sym (same_field o j x k q)) (found_reason a o b j e))
+      by : (f : Result Value Missing) → found_of current cache (is_own s false level o) u o b ≡ f → missing o f ≡ on x k → (x ≡ o) × Reason (op.Read a b) x k
+      by (Ok v) e q = absurd (none_on x k q)
+      by (Err j) e q =
+          let is = same_object o j.value x k q in
+          (sym is, rw (sym is, sym (same_field o j.value x k q)) (found_reason a o b j.value e))
   pause_reason o (op.Write a b) x k q = absurd (none_on x k q)
   pause_reason o (op.Send a b c) x k q =
       unseen_reason (op.Send a b c) c x k (fate_of (level_count s) (dominates (masks_of s)) level (level_of s o) (level_of s c)) q
@@ -164,9 +158,9 @@ pause_change s current cache u level o (op.Add a b) q = none_change q
 pause_change s current cache u level o (op.Jump a b) q = none_change q
 pause_change s current cache u level o (op.Read a b) q = by (found_of current cache (is_own s false level o) u o b) q
   where
-    by : (f : Found) → missing o f ≡ change → ⊥
-    by (Is v) q = none_change q
-    by (Missing j) q = change_on o j (sym q)
+    by : (f : Result Value Missing) → missing o f ≡ change → ⊥
+    by (Ok v) q = none_change q
+    by (Err j) q = change_on o j.value (sym q)
 pause_change s current cache u level o (op.Write a b) q = none_change q
 pause_change s current cache u level o (op.Send a b c) q = unseen_change s current cache u level c (fate_of (level_count s) (dominates (masks_of s)) level (level_of s o) (level_of s c)) q
 pause_change s current cache u level o (op.Quit a) q = none_change q

@@ -114,5 +114,5 @@ module _ {s masks index : List ℕ} {w : Words} {l : ℕ} {m : code.Manager} (a 
         rw (level_is, sym (busy_fork q)) (agrees a.leveled q.invariant see)
 
     -- a step that asks for nothing is the definition's
-    pub step_is : {n : code.Manager} → managers.Stepped s w.current cache u m n → is_asking n.core.effect ≡ false → StepIs s w l m n
+    pub step_is : {n : code.Manager} → managers.Stepped s w.current cache false u m n → is_asking n.core.effect ≡ false → StepIs s w l m n
     step_is d internal ms st x q = sym (d.is internal (read_at (program_of s) st l x) (sees q))

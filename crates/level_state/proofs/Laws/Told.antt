@@ -32,7 +32,7 @@ use Rattle.level_state.proofs.Laws.Pauses.{pause_values, same_target, field_told
 use Rattle.level_state.proofs.Laws.Script.{field_there, asks_none, able, step_is, small_current, small_cache}
 
 -- a step that was not made: the manager stands where it did
-module _ {s : List ℕ} {w : Words} {l : ℕ} {cache : List ℕ} {u : Bool} {m n : code.Manager} (b : RunsAt s w l m) (d : managers.Stepped s w.current cache u m n) {o k : ℕ} (is : n.core.effect ≡ act.Read o k) where
+module _ {s : List ℕ} {w : Words} {l : ℕ} {cache : List ℕ} {u : Bool} {m n : code.Manager} (b : RunsAt s w l m) (d : managers.Stepped s w.current cache false u m n) {o k : ℕ} (is : n.core.effect ≡ act.Read o k) where
   asked_for : is_asking n.core.effect ≡ true
   asked_for = rw is refl
 
@@ -73,7 +73,7 @@ module _ {s masks index : List ℕ} {w : Words} {l : ℕ} {cache : List ℕ} {u 
     told_others blank o' k' hk apart = q.kept.others o' k' (omega (arith, hk)) apart ∙ blank o' k' hk
 
     -- it does not become a CREATE or WITHDRAW
-    module _ {u' : Bool} {r : code.Manager} (d : managers.Stepped s w.current cache' u' n r) where
+    module _ {u' : Bool} {r : code.Manager} (d : managers.Stepped s w.current cache' false u' n r) where
       pub still_reads : r.core.effect ≡ act.Change → ⊥
       still_reads is =
           let then : pause_of s w.current cache' false u' n.core ≡ change = (d.asks (rw is refl)).1 ∙ ap asking is in
@@ -138,7 +138,7 @@ module _ {s masks index : List ℕ} {w : Words} {l : ℕ} {cache : List ℕ} {n 
   pub unseen_forgets : FieldThere cache₁ o existence
   unseen_forgets = told_forgets a q.waits q.there first
 
-  module _ {r : code.Manager} (d : managers.Stepped s w.current cache₁ false n r) where
+  module _ {r : code.Manager} (d : managers.Stepped s w.current cache₁ false false n r) where
     -- the step is made
     pub unseen_made : {cache₂ : List ℕ} → ((x k : ℕ) → r.core.effect ≡ act.Read x k → ⊥) → Forgotten cache₁ cache₂ o existence → ScriptStep s w l cache₂ n r
     unseen_made reads f =
@@ -169,7 +169,7 @@ module _ {s masks index : List ℕ} {w : Words} {l : ℕ} {cache : List ℕ} {n 
         field : k ≡ existence → ⊥
         field e = omega (arith, e, seen_field.1)
 
-        pub seen_made : {cache₃ cache₄ : List ℕ} {r' : code.Manager} → managers.Stepped s w.current cache₂ false r r' → Forgotten cache₂ cache₃ x k → Forgotten cache₃ cache₄ o existence → ScriptStep s w l cache₄ n r'
+        pub seen_made : {cache₃ cache₄ : List ℕ} {r' : code.Manager} → managers.Stepped s w.current cache₂ false false r r' → Forgotten cache₂ cache₃ x k → Forgotten cache₃ cache₄ o existence → ScriptStep s w l cache₄ n r'
         seen_made {cache₃} {cache₄} d' f₃ f₄ =
             stepped_same q.waits.runs d is
             (told_made a waits₂ there₁ second d' sees₂ (makes_both a waits₂ there₁ second d' sees₂ known field) (forgotten_others f₄ others))

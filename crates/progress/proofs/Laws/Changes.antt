@@ -31,7 +31,8 @@ use Rattle.frames.specs.Frames.{frame_of}
 use Rattle.frames.specs.declared.Frame.{Frame}
 use Rattle.changes.specs.Changes.{IsChange, change_of}
 use Rattle.changes.specs.declared.Change.{Change}
-use Rattle.changes.specs.declared.Change.TheVariants.{Nothing, Create, Withdraw}
+use Rattle.changes.specs.declared.Change.TheVariants.{Create, Withdraw}
+use Rattle.std.specs.Prelude.{Option, Some, None}
 use Rattle.managers.specs.Manager.{manager_of}
 use Rattle.managers.specs.Steps.{Changeable, ChangedFrom}
 use Rattle.managers.specs.declared.Manager.{Manager}
@@ -83,34 +84,34 @@ module _ (s : List ℕ) (read : ℕ → ℕ → Value) (m : defined.Manager) (f 
   operated_low op.Withdraw h = withdrawn_low
 
 -- the words of what it writes
-pub create_there : {c c' t : List ℕ} {l o w : ℕ} {x : Change} → Writable c t l x → x ≡ Create o w → (k : ℕ) → k < object_values → length c' ≡ length c → FieldThere c' o k
+pub create_there : {c c' t : List ℕ} {l o w : ℕ} {x : Option Change} → Writable c t l x → x ≡ Some (Create o w) → (k : ℕ) → k < object_values → length c' ≡ length c → FieldThere c' o k
 create_there h is k j same = record { room = rw same h.fields_there; object = subst Numbers is h.numbers; field = j }
 
-pub withdraw_there : {c t : List ℕ} {l o : ℕ} {x : Change} → Writable c t l x → x ≡ Withdraw o → (k : ℕ) → k < object_values → FieldThere c o k
+pub withdraw_there : {c t : List ℕ} {l o : ℕ} {x : Option Change} → Writable c t l x → x ≡ Some (Withdraw o) → (k : ℕ) → k < object_values → FieldThere c o k
 withdraw_there h is k j = record { room = h.fields_there; object = subst Numbers is h.numbers; field = j }
 
 -- it is written
-pub wrote_none : (l : ℕ) (f : Frame) (c t : List ℕ) {x : Change} → x ≡ Nothing → Written l f x c t c t
+pub wrote_none : (l : ℕ) (f : Frame) (c t : List ℕ) {x : Option Change} → x ≡ None → Written l f x c t c t
 wrote_none l f c t is = subst (λ x. Written l f x c t c t) (sym is) (refl, refl)
 
-pub wrote_create : (l : ℕ) (f : Frame) (t : List ℕ) {c c1 c2 c3 c' t' : List ℕ} {o w : ℕ} {x : Change} → x ≡ Create o w → FieldSet c c1 o 0 f.r1 → FieldSet c1 c2 o 1 f.r2 → FieldSet c2 c3 o 2 f.r3 → FieldSet c3 c' o existence (Some w) → t' ≡ changed l t → Written l f x c t c' t'
+pub wrote_create : (l : ℕ) (f : Frame) (t : List ℕ) {c c1 c2 c3 c' t' : List ℕ} {o w : ℕ} {x : Option Change} → x ≡ Some (Create o w) → FieldSet c c1 o 0 f.r1 → FieldSet c1 c2 o 1 f.r2 → FieldSet c2 c3 o 2 f.r3 → FieldSet c3 c' o existence (Some w) → t' ≡ changed l t → Written l f x c t c' t'
 wrote_create l f t {c} {c1} {c2} {c3} {c'} {t'} is set0 set1 set2 set3 counted =
     subst (λ x. Written l f x c t c' t') (sym is) ((c3, ((c2, ((c1, ((c, (refl, set0)), set1)), set2)), set3)), counted)
 
-pub wrote_withdraw : (l : ℕ) (f : Frame) (t : List ℕ) {c c' t' : List ℕ} {o : ℕ} {x : Change} → x ≡ Withdraw o → FieldSet c c' o existence withdrawn → t' ≡ changed l t → Written l f x c t c' t'
+pub wrote_withdraw : (l : ℕ) (f : Frame) (t : List ℕ) {c c' t' : List ℕ} {o : ℕ} {x : Option Change} → x ≡ Some (Withdraw o) → FieldSet c c' o existence withdrawn → t' ≡ changed l t → Written l f x c t c' t'
 wrote_withdraw l f t {c} {c'} {t'} is set counted =
     subst (λ x. Written l f x c t c' t') (sym is) ((c, (refl, set)), counted)
 
 -- what a change concerns is there
-abbrev pub Concerns : List ℕ → Change → Type 0
-Concerns s Nothing = Unit
-Concerns s (Create o w) = Numbered s o × (w ≤ object_count s)
-Concerns s (Withdraw o) = Numbered s o
+abbrev pub Concerns : List ℕ → Option Change → Type 0
+Concerns s None = Unit
+Concerns s (Some (Create o w)) = Numbered s o × (w ≤ object_count s)
+Concerns s (Some (Withdraw o)) = Numbered s o
 
-concerned : (s : List ℕ) (f : defined.Frame) (c : Change) → EffectPresent s (change_of f c) → Low s (change_of f c) → Concerns s c
-concerned s f Nothing there low = tt
-concerned s f (Create o w) there low = (there.0.0, low.0 refl)
-concerned s f (Withdraw o) there low = there.0.0
+concerned : (s : List ℕ) (f : defined.Frame) (c : Option Change) → EffectPresent s (change_of f c) → Low s (change_of f c) → Concerns s c
+concerned s f None there low = tt
+concerned s f (Some (Create o w)) there low = (there.0.0, low.0 refl)
+concerned s f (Some (Withdraw o)) there low = there.0.0
 
 module _ {s masks index current : List ℕ} {m : Manager} (can : Changeable s masks index current m) where
   abbrev a : verdict_of s ≡ Accepted
@@ -151,32 +152,32 @@ module _ {s masks index current : List ℕ} {m : Manager} (can : Changeable s ma
         rw top_is (operated_low s read n (at_step f (f.next + 1)) (can.scripted f.object (number_few s a f.object object)) (next_step (program_of s) f) can.next) in
         concerned s f r.change (subst (EffectPresent s) (sym step_is) there) (subst (Low s) (sym step_is) low)
 
-    numbered : (c : Change) → Concerns s c → Numbers c
-    numbered Nothing h = tt
-    numbered (Create o w) h = number_few s a o h.0
-    numbered (Withdraw o) h = number_few s a o h
+    numbered : (c : Option Change) → Concerns s c → Numbers c
+    numbered None h = tt
+    numbered (Some (Create o w)) h = number_few s a o h.0
+    numbered (Some (Withdraw o)) h = number_few s a o h
 
     pub change_writable : (tallies : List ℕ) → tally_numbers ≤ length tallies → Writable current tallies m.core.level r.change
     change_writable tallies room =
         record { fields_there = can.fields_there; tallies_there = room; level_small = small; numbers = numbered r.change change_there }
 
     module _ (ended : List ℕ) {t c' t' : List ℕ} where
-      does : (g : Progress) (run : RunFork) (x : model.Fork) → RepresentedBy s g current ended t → (ch : Change) → Concerns s ch → Written m.core.level m.core.top ch current t c' t' → RepresentedBy s (effected run m.core.level x (manager_of m) (change_of (frame_of m.core.top) ch) g) c' ended t'
+      does : (g : Progress) (run : RunFork) (x : model.Fork) → RepresentedBy s g current ended t → (ch : Option Change) → Concerns s ch → Written m.core.level m.core.top ch current t c' t' → RepresentedBy s (effected run m.core.level x (manager_of m) (change_of (frame_of m.core.top) ch) g) c' ended t'
       unfolding effected
-      does g run x q Nothing h (e, i) = rw (e, i) q
-      does g run x q (Create o w) h ((c3, ((c2, ((c1, ((c0, (e, set0)), set1)), set2)), set3)), i) =
+      does g run x q None h (e, i) = rw (e, i) q
+      does g run x q (Some (Create o w)) h ((c3, ((c2, ((c1, ((c0, (e, set0)), set1)), set2)), set3)), i) =
           let few = few_levels s (accepted s a).three in
           let f = m.core.top in
           let q1 = kept_write s g current c1 ended t o 0 f.r1 q (rw e at set0) (omega arith) few in
           let q2 = kept_write s _ c1 c2 ended t o 1 f.r2 q1 set1 (omega arith) few in
           let q3 = kept_write s _ c2 c3 ended t o 2 f.r3 q2 set2 (omega arith) few in
           rw i (kept_change s _ c3 c' ended t o existence (Some w) q3 set3 m.core.level small refl h.1 few)
-      does g run x q (Withdraw o) h ((c0, (e, set)), i) =
+      does g run x q (Some (Withdraw o)) h ((c0, (e, set)), i) =
           rw i (kept_change s g current c' ended t o existence withdrawn q (rw e at set) m.core.level small refl (omega arith) (few_levels s (accepted s a).three))
 
-      spared : (ch : Change) → Concerns s ch → Written m.core.level m.core.top ch current t c' t' → Spared s (words current ended t) (words c' ended t')
-      spared Nothing h (e, i) = rw (e, i) (spared_none s (words current ended t))
-      spared (Create o w) h ((c3, ((c2, ((c1, ((c0, (e, set0)), set1)), set2)), set3)), i) =
+      spared : (ch : Option Change) → Concerns s ch → Written m.core.level m.core.top ch current t c' t' → Spared s (words current ended t) (words c' ended t')
+      spared None h (e, i) = rw (e, i) (spared_none s (words current ended t))
+      spared (Some (Create o w)) h ((c3, ((c2, ((c1, ((c0, (e, set0)), set1)), set2)), set3)), i) =
           let f = m.core.top in
           rw i (
           spared_then s (words current ended t) (words c1 ended t) (words c' ended (changed m.core.level t)) (spared_write s a (words current ended t) c1 o 0 f.r1 h.0 (omega arith) (rw e at set0))
@@ -185,7 +186,7 @@ module _ {s masks index current : List ℕ} {m : Manager} (can : Changeable s ma
           (spared_then s (words c3 ended t) (words c' ended t) (words c' ended (changed m.core.level t)) (spared_write s a (words c3 ended t) c' o existence (Some w) h.0 (omega arith) set3)
           (spared_change s (words c' ended t) m.core.level small))))
           )
-      spared (Withdraw o) h ((c0, (e, set)), i) =
+      spared (Some (Withdraw o)) h ((c0, (e, set)), i) =
           rw i (
           spared_then s (words current ended t) (words c' ended t) (words c' ended (changed m.core.level t)) (spared_write s a (words current ended t) c' o existence withdrawn h (omega arith) (rw e at set))
           (spared_change s (words c' ended t) m.core.level small)

@@ -30,8 +30,8 @@ use Rattle.scripts.specs.Value.{number_in}
 use Rattle.scripts.proofs.Laws.Existence.{first_there, first_none}
 use Rattle.fields.specs.Fields.{script_in}
 use Rattle.fields.specs.Reads.{own_script_of, unknown, is_own, script_found, found_of, Small, Agrees}
-use Rattle.fields.specs.declared.reads.Found.{Found}
-use Rattle.fields.specs.declared.reads.Found.TheVariants.{Missing, Is}
+use Rattle.fields.specs.declared.reads.Missing.{Missing}
+use Rattle.std.specs.Prelude.{Result, Ok, Err}
 use Rattle.fields.proofs.Laws.Reads.{own_known}
 use Rattle.operations.specs.Operations.{none, on, change, missing, unseen, waits_for, pause_on}
 use Rattle.changes.specs.Changes.{IsChange, OwnExistence}
@@ -84,9 +84,9 @@ change_not_on : (o k : ℕ) → change ≡ on o k → ⊥
 change_not_on o k q = let z : ◌≡◌ {A = ℕ} 0 1 = cc in omega (arith, z)
 
 -- a step that waits to be made is a CREATE or WITHDRAW
-missing_not_change : (o : ℕ) (f : Found) → missing o f ≡ change → ⊥
-missing_not_change o (Missing k) q = on_not_change o k q
-missing_not_change o (Is v) q = not_change q
+missing_not_change : (o : ℕ) (f : Result Value Missing) → missing o f ≡ change → ⊥
+missing_not_change o (Err m) q = on_not_change o m.value q
+missing_not_change o (Ok v) q = not_change q
 
 asked_not_change : (b : Bool) (o : ℕ) → cond b (on o existence) none ≡ change → ⊥
 asked_not_change true o q = on_not_change o existence q
@@ -98,7 +98,7 @@ unseen_not_change o script fate.Discard q = asked_not_change (eqb script unknown
 unseen_not_change o script fate.Block q = not_change q
 unseen_not_change o script (fate.Fork u) q = not_change q
 
-waits_change : (found : ℕ → ℕ → Found) (script : ℕ → ℕ) (becomes : ℕ → ℕ → Fate) (o : ℕ) (i : Step) → waits_for found script becomes o i ≡ change → IsChange i
+waits_change : (found : ℕ → ℕ → Result Value Missing) (script : ℕ → ℕ) (becomes : ℕ → ℕ → Fate) (o : ℕ) (i : Step) → waits_for found script becomes o i ≡ change → IsChange i
 waits_change found script becomes o op.End q = not_change q
 waits_change found script becomes o (op.Set a n) q = not_change q
 waits_change found script becomes o (op.Add a b) q = not_change q

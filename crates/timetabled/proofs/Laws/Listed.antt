@@ -320,7 +320,7 @@ module _ {s masks index ls : List ℕ} {d : code.Manager} {w₀ w : Words} {mana
       pub list_able : Advanceable s masks index w.current cache m
       list_able = able g.read (busy_here advancing) (sees flag) held_here
 
-      module _ {n : code.Manager} (x : Stepped s w.current cache u m n) where
+      module _ {n : code.Manager} (x : Stepped s w.current cache false u m n) where
         pub list_made : is_asking n.core.effect ≡ false → ScriptStep s w level cache m n
         list_made q =
             record { is = step_is g.read (busy_here advancing) (sees flag) x q; held = x.held; present = x.present; blank = g.loop.blank }
@@ -354,7 +354,7 @@ module _ {s masks index ls : List ℕ} {d : code.Manager} {w₀ w : Words} {mana
               pub list_forgets : FieldThere cache' o k
               list_forgets = told_forgets g.read waits cache_there told
 
-              pub list_answered : {cache'' : List ℕ} {r : code.Manager} → Stepped s w.current cache' u n r → Forgotten cache' cache'' o k → ScriptStep s w level cache'' m r
+              pub list_answered : {cache'' : List ℕ} {r : code.Manager} → Stepped s w.current cache' false u n r → Forgotten cache' cache'' o k → ScriptStep s w level cache'' m r
               list_answered e forgotten =
                   list_seen (told_made g.read waits cache_there told e told_seeing (makes g.read waits cache_there told e refl field) (forgotten_others forgotten (told_others g.read waits cache_there told g.loop.blank)))
 
