@@ -96,11 +96,12 @@ pub fn run_manager(session: &Session, progress: &mut Progress, left: usize, fork
     let mut ending = core.ending;
     while cores::is_running(ending) {
         // Every READ is answered by the fields: what was read before is never asked.
+        let same = progress.tallies.is_unchanged();
         let sight = Sight {
             current: &progress.current,
             cache: &progress.current,
             all: true,
-            unchanged: progress.tallies.is_unchanged(),
+            unchanged: same,
         };
         m = m.advance(session, &sight, limit);
         let core = m.core;

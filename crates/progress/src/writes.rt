@@ -1,5 +1,6 @@
 // CREATE and WITHDRAW: the script step is made, and what it writes stands in the fields at once.
-ghost use Rattle.std.specs.Prelude.{◌≡◌};
+ghost use Rattle.std.specs.Prelude.{◌≡◌, ◌≤◌, length};
+ghost use Rattle.tallies.specs.Places.{tally_numbers};
 ghost use Rattle.managers.specs.Steps.{Changeable};
 ghost use Rattle.progress.specs.Changes.{Writable, Written, ChangeDone};
 
@@ -48,7 +49,8 @@ impl Progress {
 
     // A CREATE or WITHDRAW of a manager that runs, pops and ending included, with what it writes.
     pub fn change(&mut self, session: &Session, m: Manager) -> Manager
-        requires { Changeable session.now.bytes.now session.now.masks.now session.now.index.now self.old.current m }
+        requires changeable { Changeable session.now.bytes.now session.now.masks.now session.now.index.now self.old.current m }
+        requires counted { tally_numbers ≤ length self.old.tallies }
         ensures change_done { ChangeDone session.now.bytes.now m result self.old.current self.old.tallies self.new.current self.new.tallies }
         ensures ended_stays { self.new.ended ≡ self.old.ended }
     {

@@ -14,7 +14,7 @@ use Rattle.managers.specs.declared.Manager.{Manager}
 use Rattle.managers.specs.Steps.{Advanced}
 use Rattle.progress.proofs.Laws.Session.{tables}
 use Rattle.descent.proofs.Laws.Perform.{perform_nothing, write_there, perform_writes, fork_runs, perform_forks}
-use Rattle.descent.proofs.Laws.Run.{Looped, level_small, run_none, fork_starts, run_starts, run_preserves, run_able, run_performable, run_again, run_less, run_changeable, run_changed, run_changed_less, run_room, run_ends}
+use Rattle.descent.proofs.Laws.Run.{Looped, level_small, run_none, fork_starts, run_starts, run_preserves, run_able, run_performable, run_again, run_less, run_changeable, run_counted, run_changed, run_changed_less, run_room, run_ends}
 use Rattle.descent.proofs.+perform_run_kept_run_manager.Goals as goal
 
 -- an effect of another tag than a write's and a fork's
@@ -103,7 +103,11 @@ run_manager-change-m-requires t c =
     let a = tables c.args.session.now in
     let l = c.loop-progress in
     let x = c.advance-m in
-    run_changeable a z.runnable.0 c.if-left-eq0.false l.invariant.1 z.represents_some (told c.is_unchanged-same.ensures x.ensures) c.in-Change.is
+    let y = told c.is_unchanged-same.ensures x.ensures in
+    record {
+      changeable = run_changeable a z.runnable.0 c.if-left-eq0.false l.invariant.1 z.represents_some y c.in-Change.is;
+      counted = run_counted a z.runnable.0 c.if-left-eq0.false l.invariant.1 z.represents_some y c.in-Change.is;
+    }
 
 pub run_manager-loop-progress-smaller-in-Change : goal.run_manager-loop-progress-smaller-in-Change
 run_manager-loop-progress-smaller-in-Change t c =

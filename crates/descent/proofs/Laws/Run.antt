@@ -275,6 +275,9 @@ module _ {s masks index : List ℕ} (a : Tables s masks index) {left : ℕ} {f :
               next = pause_change s w.current w.current true (unchanged w.tallies) n.core.level n.core.top.object (next_step p (frame_of n.core.top)) asks.1;
             }
 
+        pub run_counted : tally_numbers ≤ length w.tallies
+        run_counted = here.represents.tallies_there
+
         -- so far nothing was done outside
         before : Looped s left f w₀ w n
         before = run_again w (perform_nothing a run_performable w (ap effect_of is))

@@ -3,7 +3,6 @@ use Prim.Native.Nat.{ℕ, ◌^◌, ◌≤◌, ◌<◌}
 use mathlib.Core.Path.{◌≡◌}
 use mathlib.Core.List.{List}
 use native.Mathlib.Omega.{arith}
-use lib.ListN.{length}
 use Rattle.session.specs.Limits.{max_levels}
 use Rattle.session.specs.Parts.{level_count, object_count}
 use Rattle.session.specs.Questions.{verdict_of, Accepted}
@@ -12,7 +11,6 @@ use Rattle.session.proofs.Laws.Numbers.{number_few}
 use Rattle.session.proofs.Laws.Verdict.{accepted}
 use Rattle.scripts.specs.Existence.{existence}
 use Rattle.fields.specs.Fields.{script_in, FieldThere}
-use Rattle.tallies.specs.Places.{next_place}
 use Rattle.progress.specs.Starts.{StartReady}
 use Rattle.progress.specs.declared.Fork as fork
 
@@ -24,8 +22,8 @@ module _ {s index c t : List ℕ} {f : fork.Fork} (h : StartReady s index c t f)
   abbrev yes : verdict_of s ≡ Accepted
   yes = h.indexed.accepted
 
-  pub next_there : next_place f.level < length t
-  next_there = omega (arith, h.startable.placed, few s yes, h.tallies_there)
+  pub level_low : f.level < max_levels
+  level_low = omega (arith, h.startable.placed, few s yes)
 
   pub script_there : FieldThere c f.message.object existence
   script_there =
