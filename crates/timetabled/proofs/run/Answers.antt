@@ -1,8 +1,4 @@
-use Prim.Native.Nat.{ℕ, ◌*◌, ◌<◌}
 use mathlib.Core.Path.{refl, sym, ◌∙◌, ap}
-use native.Mathlib.Omega.{arith}
-use mir.Syntax.{w64}
-use mir.Val.{Fits}
 use Rattle.scripts.specs.Ending.{is_running}
 use Rattle.contents.proofs.Laws.Session.{leveled}
 use Rattle.level_state.specs.Representation.{words_of}
@@ -13,14 +9,6 @@ use Rattle.timetabled.proofs.Laws.Listed.{Permitted, Turn, list_start, list_aska
 use Rattle.timetabled.proofs.run.Invariants.{none}
 use Rattle.timetabled.proofs.run.Goals as goal
 use Rattle.timetabled.proofs.run.Goals.{In-Given, After-step-n}
-
--- the bytes of a manager
-abbrev manager_bytes : ℕ
-manager_bytes = 376
-
--- the place of a manager in the array
-small : (n : ℕ) → n < 8 → Fits w64 (n * manager_bytes)
-small n h = record { fits = omega (arith, h) }
 
 -- the next step is permitted
 here : (c : In-Given) → Permitted c.args.session.now.bytes.now c.args.session.now.masks.now c.args.session.now.index.now c.args.timetable.now none (words_of c.args.state.now c.args.work.now) (words_of c.loop-i.state c.loop-i.work) c.loop-i.managers c.loop-i.cache c.loop-i.i
