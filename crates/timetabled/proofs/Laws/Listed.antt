@@ -13,7 +13,8 @@ use Rattle.session.specs.Limits.{max_levels, fields}
 use Rattle.session.specs.Parts.{level_count, masks_of}
 use Rattle.session.specs.Meaning.{root_of}
 use Rattle.session.specs.Program.{program_of}
-use Rattle.session.specs.Questions.{verdict_of, Accepted}
+use Rattle.session.specs.Questions.{verdict_of}
+use Rattle.session.specs.declared.Verdict.TheVariants.{Accepted}
 use Rattle.session.proofs.Laws.Contents.{level_limit, masks_length}
 use Rattle.lists.proofs.Laws.Lists.{holds, fails, truth}
 use Rattle.scripts.specs.Existence.{existence}
@@ -30,7 +31,7 @@ use Rattle.managers.specs.Steps.{WellFormed, Advanceable, Stepped}
 use Rattle.managers.specs.declared.Manager as code
 use Rattle.model.specs.Limits.{max_schedule}
 use Rattle.model.specs.Step.{State, step_at}
-use Rattle.model.specs.Schedule.{initial_state, finished, question14, step_refusal, run_from, run_of, refused}
+use Rattle.model.specs.Schedule.{initial_state, finished, question14, step_refusal, run_from, run_of}
 use Rattle.theorems.proofs.Laws.Order.Accepted.{sound}
 use Rattle.theorems.proofs.Laws.Order.PlainRun.{read_in_total}
 use Rattle.theorems.proofs.Laws.Invariant.Bounded.{total, step_less}
@@ -40,10 +41,9 @@ use Rattle.level_state.specs.Representation.{Words, RunInvariant, placed}
 use Rattle.permits.specs.Permits.{number_of_permit, ended_of, permit_of, Askable}
 use Rattle.level_state.specs.Steps.{Tables, Readable, ReadReady, Answered, PerformReady, SettleReady, CoreSettled, Changing, ChangedBy, StepDone, StartReady, Started}
 use Rattle.level_state.specs.Ends.{Quiescent, SameRest, Ends}
-use Rattle.timetable_steps.specs.Refusals.{refusal_at, end_of}
-use Rattle.std.specs.Prelude.{Result, Ok, Err}
-use Rattle.calls.specs.declared.Refusal.{Refusal}
-use Rattle.calls.specs.declared.Refusal.TheVariants.{Unended}
+use Rattle.timetable_steps.specs.Refusals.{end_of}
+use Rattle.level_state.specs.declared.RunEnd.{RunEnd}
+use Rattle.level_state.specs.declared.RunEnd.TheVariants as runEnd
 use Rattle.permits.specs.declared.Permit.{Permit}
 use Rattle.permits.specs.declared.Permit.TheVariants.{Given, Absent, Idle, Blocked}
 use Rattle.level_state.proofs.Laws.Settle.{placed_own, placed_other}
@@ -113,7 +113,7 @@ module _ (s : List ℕ) (a : verdict_of s ≡ Accepted) (few : level_count s ≤
 
     module _ (masks : List ℕ) (table : masks ≡ masks_of s) (long : length masks ≡ level_count s) where
       -- at its end
-      pub steps_made_ends : i ≡ length ls → ended_of masks w.tallies ≡ true → Ends s ls w (Ok tt)
+      pub steps_made_ends : i ≡ length ls → ended_of masks w.tallies ≡ true → Ends s ls w runEnd.Finished
       steps_made_ends e z = (ms, (g.state, (over, g.invariant.represents)))
         where
           over : run_of (program_of s) (root_of s) ls ≡ finished g.state
@@ -123,7 +123,7 @@ module _ (s : List ℕ) (a : verdict_of s ≡ Accepted) (few : level_count s ≤
               ∙ ap (λ xs. run_from i (program_of s) xs g.state) (drop-length ls)
               ∙ run_ends i (program_of s) g.state (sym (ended_is s masks table long w ms g.state g.invariant.represents) ∙ z)
 
-      pub steps_made_unended : i ≡ length ls → ended_of masks w.tallies ≡ false → Ends s ls w (Err Unended)
+      pub steps_made_unended : i ≡ length ls → ended_of masks w.tallies ≡ false → Ends s ls w (runEnd.Refused 15 0)
       steps_made_unended e z =
           sym g.run
           ∙ ap (λ k. run_from i (program_of s) (drop k ls) g.state) e
@@ -138,7 +138,7 @@ module _ (s : List ℕ) (a : verdict_of s ≡ Accepted) (few : level_count s ≤
         next = sym g.run ∙ ap (λ xs. run_from i (program_of s) xs g.state) (drop-cons ls i 0 h)
 
         -- a step that is not permitted
-        pub steps_made_stops : (p : Permit) → p ≡ permit_of masks w.tallies w.queue l → (p ≡ Given → ⊥) → run_of (program_of s) (root_of s) ls ≡ refused (number_of_permit p) i
+        pub steps_made_stops : (p : Permit) → p ≡ permit_of masks w.tallies w.queue l → (p ≡ Given → ⊥) → Ends s ls w (runEnd.Refused (number_of_permit p) i)
         steps_made_stops p e d =
             next
             ∙ run_stops i (program_of s) l (drop (suc i) ls) g.state (number_of_permit p) (sym (asked_is s masks a few table long w ms g.state g.invariant l) ∙ ap number_of_permit (sym e)) (none p d)
@@ -208,7 +208,7 @@ module _ {s masks : List ℕ} (y : Leveled s masks) {ls : List ℕ} {d : code.Ma
   list_fits = steps_made_fits s y.accepted few ls i w (held_in managers d) g.steps_made
 
   -- question 15
-  pub list_ends : length ls ≤ i → {r : Result Unit Refusal} → r ≡ end_of (ended_of masks w.tallies) → Ends s ls w r
+  pub list_ends : length ls ≤ i → {r : RunEnd} → r ≡ end_of (ended_of masks w.tallies) → Ends s ls w r
   list_ends h q =
       let e : i ≡ length ls = omega (arith, h, g.low) in
       elim (truth (ended_of masks w.tallies)) [
@@ -220,15 +220,9 @@ module _ {s masks : List ℕ} (y : Leveled s masks) {ls : List ℕ} {d : code.Ma
 
   module _ (h : i < length ls) {p : Permit} (e : p ≡ permit_of masks w.tallies w.queue (get_or ls i 0)) where
     -- the step is not permitted
-    pub list_refused : (p ≡ Given → ⊥) → (w' : Words) {r : Result Unit Refusal} → r ≡ refusal_at p i → Ends s ls w' r
+    pub list_refused : (p ≡ Given → ⊥) → (w' : Words) {r : RunEnd} → r ≡ runEnd.Refused (number_of_permit p) i → Ends s ls w' r
     list_refused z w' q =
-        rw q (at_place p z (steps_made_stops s y.accepted few ls i w (held_in managers d) g.steps_made masks y.masks_are long h p e z))
-      where
-        at_place : (p : Permit) → (p ≡ Given → ⊥) → run_of (program_of s) (root_of s) ls ≡ refused (number_of_permit p) i → Ends s ls w' (refusal_at p i)
-        at_place Given z e = absurd (z refl)
-        at_place Absent z e = e
-        at_place Idle z e = e
-        at_place Blocked z e = e
+        rw q (steps_made_stops s y.accepted few ls i w (held_in managers d) g.steps_made masks y.masks_are long h p e z)
 
 -- the next step is permitted
 pub record Permitted (s masks index ls : List ℕ) (d : code.Manager) (w₀ w : Words) (managers : List code.Manager) (cache : List ℕ) (i : ℕ) : Type 0 where
@@ -320,67 +314,77 @@ module _ {s masks index ls : List ℕ} {d : code.Manager} {w₀ w : Words} {mana
       pub list_able : Advanceable s masks index w.current cache m
       list_able = able g.read (busy_here advancing) (sees flag) held_here
 
-      module _ {n : code.Manager} (x : Stepped s w.current cache false u m n) where
-        pub list_made : is_asking n.core.effect ≡ false → ScriptStep s w level cache m n
-        list_made q =
-            record { is = step_is g.read (busy_here advancing) (sees flag) x q; held = x.held; present = x.present; blank = g.loop.blank }
+-- m runs there, and has made a script step or asks: it is n by then
+pub record Turn (s masks index ls : List ℕ) (d : code.Manager) (w₀ w : Words) (managers : List code.Manager) (cache : List ℕ) (i : ℕ) (u : Bool) (n : code.Manager) : Type 0 where
+  pub here : Permitted s masks index ls d w₀ w managers cache i
+  pub busy : busy_in w.tallies (level here) ≡ true
+  pub flag : u ≡ unchanged w.tallies
+  pub step : Stepped s w.current cache false u (m here) n
 
-        -- n waits for a value
-        module _ {o k : ℕ} (q : n.core.effect ≡ act.Read o k) where
-          waits : Waits s w level cache u n o k
-          waits = waits_of (busy_here advancing) x q
+module _ {s masks index ls : List ℕ} {d : code.Manager} {w₀ w : Words} {managers : List code.Manager} {cache : List ℕ} {i : ℕ} {u : Bool} {n : code.Manager} (t : Turn s masks index ls d w₀ w managers cache i u n) where
+  abbrev advances : Advancing s masks index w (level t.here) (m t.here)
+  advances = advancing t.here t.busy
 
-          -- for existence
-          pub list_unseen : k ≡ existence → Unseen s w level cache n o
-          list_unseen e =
-              record { unchanged = u; waits = rw (sym e) waits; blank = g.loop.blank; there = cache_there }
+  pub list_made : is_asking n.core.effect ≡ false → ScriptStep s w (level t.here) cache (m t.here) n
+  list_made q =
+      record { is = step_is t.here.read (busy_here advances) (sees t.here t.flag) t.step q; held = t.step.held; present = t.step.present; blank = t.here.loop.blank }
 
-          pub list_seen : {cache' : List ℕ} {r : code.Manager} → ScriptStep s w level cache' n r → ScriptStep s w level cache' m r
-          list_seen made = stepped_same (busy_here advancing) x q made
+  -- n waits for a value
+  module _ {o k : ℕ} (q : n.core.effect ≡ act.Read o k) where
+    waits : Waits s w (level t.here) cache u n o k
+    waits = waits_of (busy_here advances) t.step q
 
-          -- for a field
-          module _ (field : k ≡ existence → ⊥) where
-            pub list_reads : Leveled s masks × (Readable s w level × (ReadReady s cache o k × (k < fields)))
-            list_reads =
-                (y, (readable g.read (busy_here advancing), (tells g.read waits cache_there, omega (arith, waits.named.field, field))))
+    -- for existence
+    pub list_unseen : k ≡ existence → Unseen s w (level t.here) cache n o
+    list_unseen e =
+        record { unchanged = u; waits = rw (sym e) waits; blank = t.here.loop.blank; there = cache_there t.here }
 
-            module _ {cache' : List ℕ} (told : Answered s w cache cache' level o k) where
-              told_seeing : Seeing s w level cache' u
-              told_seeing = told_sees g.read waits cache_there told u (sees flag).kept (sees flag).flag
+    pub list_seen : {cache' : List ℕ} {r : code.Manager} → ScriptStep s w (level t.here) cache' n r → ScriptStep s w (level t.here) cache' (m t.here) r
+    list_seen made = stepped_same (busy_here advances) t.step q made
 
-              pub list_told : Advanceable s masks index w.current cache' n
-              list_told = able g.read waits.runs told_seeing waits.held
+    -- for a field
+    module _ (field : k ≡ existence → ⊥) where
+      pub list_reads : Readable s w (level t.here) × (ReadReady s cache o k × (k < fields))
+      list_reads =
+          (readable t.here.read (busy_here advances), (tells t.here.read waits (cache_there t.here), omega (arith, waits.named.field, field)))
 
-              pub list_forgets : FieldThere cache' o k
-              list_forgets = told_forgets g.read waits cache_there told
+      module _ {cache' : List ℕ} (told : Answered s w cache cache' (level t.here) o k) where
+        told_seeing : Seeing s w (level t.here) cache' u
+        told_seeing = told_sees t.here.read waits (cache_there t.here) told u (sees t.here t.flag).kept (sees t.here t.flag).flag
 
-              pub list_answered : {cache'' : List ℕ} {r : code.Manager} → Stepped s w.current cache' false u n r → Forgotten cache' cache'' o k → ScriptStep s w level cache'' m r
-              list_answered e forgotten =
-                  list_seen (told_made g.read waits cache_there told e told_seeing (makes g.read waits cache_there told e refl field) (forgotten_others forgotten (told_others g.read waits cache_there told g.loop.blank)))
+        pub list_told : Advanceable s masks index w.current cache' n
+        list_told = able t.here.read waits.runs told_seeing waits.held
 
-        -- n stands before a CREATE or WITHDRAW
-        module _ (q : n.core.effect ≡ act.Change) where
-          asked_for : is_asking n.core.effect ≡ true
-          asked_for = rw q refl
+        pub list_forgets : FieldThere cache' o k
+        list_forgets = told_forgets t.here.read waits (cache_there t.here) told
 
-          stands : manager_of n ≡ manager_of m
-          stands = (x.asks asked_for).0
+        pub list_answered : {cache'' : List ℕ} {r : code.Manager} → Stepped s w.current cache' u n r → Forgotten cache' cache'' o k → ScriptStep s w (level t.here) cache'' (m t.here) r
+        list_answered e forgotten =
+            list_seen (told_made t.here.read waits (cache_there t.here) told e told_seeing (makes t.here.read waits (cache_there t.here) told e refl field) (forgotten_others forgotten (told_others t.here.read waits (cache_there t.here) told t.here.loop.blank)))
 
-          pub list_changes : Changing s masks index w.current w.tallies w.work level n
-          list_changes =
-              change_ready g.read (change_runs advancing stands) cache u x.held ((x.still asked_for).1 ∙ ap asking q)
+  -- n stands before a CREATE or WITHDRAW
+  module _ (q : n.core.effect ≡ act.Change) where
+    asked_for : is_asking n.core.effect ≡ true
+    asked_for = rw q refl
 
-          module _ {current' tallies' work' : List ℕ} {r : code.Manager} (made : ChangedBy s w.current current' w.tallies tallies' w.work work' level n r) where
-            pub list_settles : SettleReady w.ended tallies' w.queue level
-            list_settles = change_room advancing stands made
+    stands : manager_of n ≡ manager_of (m t.here)
+    stands = (t.step.asks asked_for).0
 
-            pub list_changed : {ended'' tallies'' : List ℕ} → CoreSettled w.ended ended'' tallies' tallies'' w.queue level r.core → ListLoop s ls d w₀ (record { current = current'; ended = ended''; tallies = tallies''; queue = w.queue; work = work' }) (set managers level r) cache (i + 1)
-            list_changed settled = again (change_represented advancing stands made settled g.loop.blank) refl
+    pub list_changes : Changing s masks index w.current w.tallies w.work (level t.here) n
+    list_changes =
+        change_ready t.here.read (change_runs advances stands) cache u t.step.held ((t.step.still asked_for).1 ∙ ap asking q)
 
-    -- what the step did outside is done
-    module _ {cache' : List ℕ} {r : code.Manager} (made : ScriptStep s w level cache' m r) where
-      pub list_performs : PerformReady w.current w.tallies w.queue w.work level r.core.first r.core.forks (effect_of r.core.effect) × SettleReady w.ended w.tallies w.queue level
-      list_performs = (done_performs advancing made, done_settles advancing made)
+    module _ {current' tallies' work' : List ℕ} {r : code.Manager} (made : ChangedBy s w.current current' w.tallies tallies' w.work work' (level t.here) n r) where
+      pub list_settles : SettleReady w.ended tallies' w.queue (level t.here)
+      list_settles = change_room advances stands made
 
-      pub list_done : {w' : Words} → StepDone w w' level r.core → length cache' ≡ length cache → ListLoop s ls d w₀ w' (set managers level r) cache' (i + 1)
-      list_done x = again (step_represented advancing made x)
+      pub list_changed : {ended'' tallies'' : List ℕ} → CoreSettled w.ended ended'' tallies' tallies'' w.queue (level t.here) r.core → ListLoop s ls d w₀ (record { current = current'; ended = ended''; tallies = tallies''; queue = w.queue; work = work' }) (set managers (level t.here) r) cache (i + 1)
+      list_changed settled = again t.here (change_represented advances stands made settled t.here.loop.blank) refl
+
+  -- what the step did outside is done
+  module _ {cache' : List ℕ} {r : code.Manager} (made : ScriptStep s w (level t.here) cache' (m t.here) r) where
+    pub list_performs : PerformReady w.current w.tallies w.queue w.work (level t.here) r.core.first r.core.forks (effect_of r.core.effect) × SettleReady w.ended w.tallies w.queue (level t.here)
+    list_performs = (done_performs advances made, done_settles advances made)
+
+    pub list_done : {w' : Words} → StepDone w w' (level t.here) r.core → length cache' ≡ length cache → ListLoop s ls d w₀ w' (set managers (level t.here) r) cache' (i + 1)
+    list_done x = again t.here (step_represented advances made x)

@@ -1,31 +1,29 @@
-use Prim.Native.Nat.{ℕ, ◌*◌, ◌<◌}
 use mathlib.Core.Path.{refl, sym, ◌∙◌, ap}
-use native.Mathlib.Omega.{arith}
-use mir.Syntax.{w64}
-use mir.Val.{Fits}
 use Rattle.scripts.specs.Ending.{is_running}
 use Rattle.contents.proofs.Laws.Session.{leveled}
 use Rattle.level_state.specs.Representation.{words_of}
 use Rattle.level_state.proofs.Laws.Tables.{tables}
 use Rattle.level_state.proofs.Laws.Asks.{asks_nothing}
 use Rattle.level_state.proofs.Laws.Made.{held_fits}
-use Rattle.timetabled.proofs.Laws.Listed.{Permitted, list_start, list_askable, list_ends, list_refused, permitted, list_present, list_numbers, list_starts, list_started, list_able, list_made, list_unseen, list_seen, list_reads, list_told, list_answered, list_changes, list_settles, list_changed, list_performs, list_done}
+use Rattle.timetabled.proofs.Laws.Listed.{Permitted, Turn, list_start, list_askable, list_ends, list_refused, permitted, list_present, list_numbers, list_starts, list_started, list_able, list_made, list_unseen, list_seen, list_reads, list_told, list_answered, list_changes, list_settles, list_changed, list_performs, list_done}
 use Rattle.timetabled.proofs.run.Invariants.{none}
 use Rattle.timetabled.proofs.run.Goals as goal
-use Rattle.timetabled.proofs.run.Goals.{In-Given}
-
--- the bytes of a manager
-abbrev manager_bytes : ℕ
-manager_bytes = 376
-
--- the place of a manager in the array
-small : (n : ℕ) → n < 8 → Fits w64 (n * manager_bytes)
-small n h = record { fits = omega (arith, h) }
+use Rattle.timetabled.proofs.run.Goals.{In-Given, After-step-n}
 
 -- the next step is permitted
 here : (c : In-Given) → Permitted c.args.session.now.bytes.now c.args.session.now.masks.now c.args.session.now.index.now c.args.timetable.now none (words_of c.args.state.now c.args.work.now) (words_of c.loop-i.state c.loop-i.work) c.loop-i.managers c.loop-i.cache c.loop-i.i
 here c =
     permitted (tables c.args.session.now) c.loop-i.invariant c.loop-i-test.true c.ask-permit.ensures c.in-Given.is
+
+-- the manager that runs at its level has made a script step, or asks
+turn : (c : After-step-n) → Turn c.args.session.now.bytes.now c.args.session.now.masks.now c.args.session.now.index.now c.args.timetable.now none (words_of c.args.state.now c.args.work.now) (words_of c.loop-i.state c.loop-i.work) c.loop-i.managers c.loop-i.cache c.loop-i.i c.is_unchanged-unchanged.result c.step-n.result
+turn c =
+    record {
+      here = permitted (tables c.args.session.now) c.loop-i.invariant c.loop-i-test.true c.ask-permit.ensures c.in-Given.is;
+      busy = sym c.is_busy.ensures ∙ c.if-not-is_busy.false;
+      flag = c.is_unchanged-unchanged.ensures;
+      step = c.step-n.ensures;
+    }
 
 pub loop-i-init : goal.loop-i-init
 loop-i-init c =
@@ -67,7 +65,7 @@ step-n-requires c =
 
 pub step_seen-r-requires : goal.step_seen-r-requires
 step_seen-r-requires c =
-    list_unseen (here (goal.at.step_seen-r-requires c).In-Given) (sym c.is_busy.ensures ∙ c.if-not-is_busy.false) c.is_unchanged-unchanged.ensures c.step-n.ensures c.in-Read.is c.if-field-eq-EXISTENCE.true
+    list_unseen (turn (goal.at.step_seen-r-requires c).After-step-n) c.in-Read.is c.if-field-eq-EXISTENCE.true
 
 pub bounds-managers-level-then-field-eq-EXISTENCE : goal.bounds-managers-level-then-field-eq-EXISTENCE
 bounds-managers-level-then-field-eq-EXISTENCE c =
@@ -75,22 +73,22 @@ bounds-managers-level-then-field-eq-EXISTENCE c =
 
 pub done-requires : goal.done-requires
 done-requires c =
-    let q = list_performs (here (goal.at.done-requires c).In-Given) (sym c.is_busy.ensures ∙ c.if-not-is_busy.false) (list_seen (here (goal.at.done-requires c).In-Given) (sym c.is_busy.ensures ∙ c.if-not-is_busy.false) c.is_unchanged-unchanged.ensures c.step-n.ensures c.in-Read.is c.step_seen-r.ensures) in
+    let q = list_performs (turn (goal.at.done-requires c).After-step-n) (list_seen (turn (goal.at.done-requires c).After-step-n) c.in-Read.is c.step_seen-r.ensures) in
     record { perform_ready = q.0; settle_ready = q.1 }
 
 pub loop-i-preserved-then-field-eq-EXISTENCE : goal.loop-i-preserved-then-field-eq-EXISTENCE
 loop-i-preserved-then-field-eq-EXISTENCE c =
     let r = c.done in
-    list_done (here (goal.at.loop-i-preserved-then-field-eq-EXISTENCE c).In-Given) (sym c.is_busy.ensures ∙ c.if-not-is_busy.false) (list_seen (here (goal.at.loop-i-preserved-then-field-eq-EXISTENCE c).In-Given) (sym c.is_busy.ensures ∙ c.if-not-is_busy.false) c.is_unchanged-unchanged.ensures c.step-n.ensures c.in-Read.is c.step_seen-r.ensures) r.ensures c.step_seen-r.auto.cache
+    list_done (turn (goal.at.loop-i-preserved-then-field-eq-EXISTENCE c).After-step-n) (list_seen (turn (goal.at.loop-i-preserved-then-field-eq-EXISTENCE c).After-step-n) c.in-Read.is c.step_seen-r.ensures) r.ensures c.step_seen-r.auto.cache
 
 pub answer_read-requires : goal.answer_read-requires
 answer_read-requires c =
-    let q = list_reads (here (goal.at.answer_read-requires c).In-Given) (sym c.is_busy.ensures ∙ c.if-not-is_busy.false) c.is_unchanged-unchanged.ensures c.step-n.ensures c.in-Read.is c.if-field-eq-EXISTENCE.false in
-    record { readable = q.1.0; read_ready = q.1.1 }
+    let q = list_reads (turn (goal.at.answer_read-requires c).After-step-n) c.in-Read.is c.if-field-eq-EXISTENCE.false in
+    record { readable = q.0; read_ready = q.1 }
 
 pub step-r-requires : goal.step-r-requires
 step-r-requires c =
-    list_told (here (goal.at.step-r-requires c).In-Given) (sym c.is_busy.ensures ∙ c.if-not-is_busy.false) c.is_unchanged-unchanged.ensures c.step-n.ensures c.in-Read.is c.if-field-eq-EXISTENCE.false c.answer_read.ensures
+    list_told (turn (goal.at.step-r-requires c).After-step-n) c.in-Read.is c.if-field-eq-EXISTENCE.false c.answer_read.ensures
 
 pub bounds-managers-level-in-Read : goal.bounds-managers-level-in-Read
 bounds-managers-level-in-Read c =
@@ -98,17 +96,17 @@ bounds-managers-level-in-Read c =
 
 pub done-requires-in-Read : goal.done-requires-in-Read
 done-requires-in-Read c =
-    let q = list_performs (here (goal.at.done-requires-in-Read c).In-Given) (sym c.is_busy.ensures ∙ c.if-not-is_busy.false) (list_answered (here (goal.at.done-requires-in-Read c).In-Given) (sym c.is_busy.ensures ∙ c.if-not-is_busy.false) c.is_unchanged-unchanged.ensures c.step-n.ensures c.in-Read.is c.if-field-eq-EXISTENCE.false c.answer_read.ensures c.step-r.ensures c.forget.ensures) in
+    let q = list_performs (turn (goal.at.done-requires-in-Read c).After-step-n) (list_answered (turn (goal.at.done-requires-in-Read c).After-step-n) c.in-Read.is c.if-field-eq-EXISTENCE.false c.answer_read.ensures c.step-r.ensures c.forget.ensures) in
     record { perform_ready = q.0; settle_ready = q.1 }
 
 pub loop-i-preserved-in-Read : goal.loop-i-preserved-in-Read
 loop-i-preserved-in-Read c =
     let r = c.done-in-Read in
-    list_done (here (goal.at.loop-i-preserved-in-Read c).In-Given) (sym c.is_busy.ensures ∙ c.if-not-is_busy.false) (list_answered (here (goal.at.loop-i-preserved-in-Read c).In-Given) (sym c.is_busy.ensures ∙ c.if-not-is_busy.false) c.is_unchanged-unchanged.ensures c.step-n.ensures c.in-Read.is c.if-field-eq-EXISTENCE.false c.answer_read.ensures c.step-r.ensures c.forget.ensures) r.ensures (c.forget.auto.fields ∙ c.answer_read.auto.cache)
+    list_done (turn (goal.at.loop-i-preserved-in-Read c).After-step-n) (list_answered (turn (goal.at.loop-i-preserved-in-Read c).After-step-n) c.in-Read.is c.if-field-eq-EXISTENCE.false c.answer_read.ensures c.step-r.ensures c.forget.ensures) r.ensures (c.forget.auto.fields ∙ c.answer_read.auto.cache)
 
 pub change-r-requires : goal.change-r-requires
 change-r-requires c =
-    list_changes (here (goal.at.change-r-requires c).In-Given) (sym c.is_busy.ensures ∙ c.if-not-is_busy.false) c.is_unchanged-unchanged.ensures c.step-n.ensures c.in-Change.is
+    list_changes (turn (goal.at.change-r-requires c).After-step-n) c.in-Change.is
 
 pub bounds-managers-level-in-Change : goal.bounds-managers-level-in-Change
 bounds-managers-level-in-Change c =
@@ -118,7 +116,7 @@ pub settle-requires : goal.settle-requires
 settle-requires c =
     let made = c.change-r.ensures in
     record {
-      settle_ready = rw (made.rest.0, made.rest.1) (list_settles (here (goal.at.settle-requires c).In-Given) (sym c.is_busy.ensures ∙ c.if-not-is_busy.false) c.is_unchanged-unchanged.ensures c.step-n.ensures c.in-Change.is made.changed_by);
+      settle_ready = rw (made.rest.0, made.rest.1) (list_settles (turn (goal.at.settle-requires c).After-step-n) c.in-Change.is made.changed_by);
       forks_bound = held_fits made.changed_by.held;
     }
 
@@ -126,7 +124,7 @@ pub loop-i-preserved-in-Change : goal.loop-i-preserved-in-Change
 loop-i-preserved-in-Change c =
     let made = c.change-r.ensures in
     let r = c.settle.ensures in
-    rw (r.rest.0, r.rest.1, made.rest.1) (list_changed (here (goal.at.loop-i-preserved-in-Change c).In-Given) (sym c.is_busy.ensures ∙ c.if-not-is_busy.false) c.is_unchanged-unchanged.ensures c.step-n.ensures c.in-Change.is made.changed_by (rw (made.rest.0, made.rest.1) at r.settled))
+    rw (r.rest.0, r.rest.1, made.rest.1) (list_changed (turn (goal.at.loop-i-preserved-in-Change c).After-step-n) c.in-Change.is made.changed_by (rw (made.rest.0, made.rest.1) at r.settled))
 
 pub bounds-managers-level-in-loop-i-2 : goal.bounds-managers-level-in-loop-i-2
 bounds-managers-level-in-loop-i-2 c =
@@ -134,13 +132,13 @@ bounds-managers-level-in-loop-i-2 c =
 
 pub done-requires-in-loop-i : goal.done-requires-in-loop-i
 done-requires-in-loop-i c =
-    let q = list_performs (here (goal.at.done-requires-in-loop-i c).In-Given) (sym c.is_busy.ensures ∙ c.if-not-is_busy.false) (list_made (here (goal.at.done-requires-in-loop-i c).In-Given) (sym c.is_busy.ensures ∙ c.if-not-is_busy.false) c.is_unchanged-unchanged.ensures c.step-n.ensures (asks_nothing c.step-n.result.core.effect c.in_default-effect.not-Read c.in_default-effect-2.not-Change)) in
+    let q = list_performs (turn (goal.at.done-requires-in-loop-i c).After-step-n) (list_made (turn (goal.at.done-requires-in-loop-i c).After-step-n) (asks_nothing c.step-n.result.core.effect c.in_default-effect.not-Read c.in_default-effect-2.not-Change)) in
     record { perform_ready = q.0; settle_ready = q.1 }
 
 pub loop-i-preserved : goal.loop-i-preserved
 loop-i-preserved c =
     let r = c.done-in-loop-i in
-    list_done (here (goal.at.loop-i-preserved c).In-Given) (sym c.is_busy.ensures ∙ c.if-not-is_busy.false) (list_made (here (goal.at.loop-i-preserved c).In-Given) (sym c.is_busy.ensures ∙ c.if-not-is_busy.false) c.is_unchanged-unchanged.ensures c.step-n.ensures (asks_nothing c.step-n.result.core.effect c.in_default-effect.not-Read c.in_default-effect-2.not-Change)) r.ensures refl
+    list_done (turn (goal.at.loop-i-preserved c).After-step-n) (list_made (turn (goal.at.loop-i-preserved c).After-step-n) (asks_nothing c.step-n.result.core.effect c.in_default-effect.not-Read c.in_default-effect-2.not-Change)) r.ensures refl
 
 pub at_end-requires : goal.at_end-requires
 at_end-requires c =
