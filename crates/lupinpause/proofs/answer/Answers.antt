@@ -32,9 +32,9 @@ unfolding text_of
 returns-in-Err c =
     let a = rw c.in-Err.is at c.run_for_root.ensures in
     record {
-      number = c.number_of.result;
-      place = c.place_of.result;
+      number = c.number_of-number.result;
+      place = c.place_of-place.result;
       count = 0;
-      answers = rw (c.number_of.ensures, c.place_of.ensures) a;
-      text = rw (ne_eqb c.number_of.result 0 (λ e. number_some c.in-Err.refusal (sym c.number_of.ensures ∙ e))) c.put_refusal.ensures;
+      answers = rw (c.number_of-number.ensures, c.place_of-place.ensures) a;
+      text = rw (ne_eqb c.number_of-number.result 0 (λ e. number_some c.in-Err.refusal (sym c.number_of-number.ensures ∙ e))) c.put_refusal.ensures;
     }
