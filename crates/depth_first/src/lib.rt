@@ -73,11 +73,7 @@ pub fn run(bytes: &[u8], masks: &[u16], clearance: usize, res: &mut [u8]) -> usi
 
 // Runs a session depth first, writes what a clearance is shown of it, and returns how many bytes that is: Check's
 // questions, 9 and 11 of any bytes, of any length and content, and then the run.
-pub fn run_depth_first(
-    session: &[u8],
-    clearance: usize,
-    res: &mut [u8],
-) -> Result<u32, Refusal>
+pub fn run_depth_first(session: &[u8], clearance: usize, res: &mut [u8]) -> Result<u32, Refusal>
     ensures { Answers (deep (record { session = session.entry.now; clearance = clearance; work = []; buffer = res.old })) (number_told result) (place_told result) (count_told result) [] res.new }
 {
     let mut masks = [0u16; MAX_LEVELS];

@@ -58,7 +58,9 @@ fn answer(session: &[u8], work: &mut [u32], res: &mut [u8], text: &mut [u8]) -> 
     match scheduler::run_for_root(session, work, res) {
         Ok(count) => lines::put_records(text, &res[..count as usize]),
         Err(refusal) => {
-            lines::put_refusal(text, opening::number_of(refusal), opening::place_of(refusal))
+            let number = opening::number_of(refusal);
+            let place = opening::place_of(refusal);
+            lines::put_refusal(text, number, place)
         }
     }
 }

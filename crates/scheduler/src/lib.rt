@@ -152,7 +152,12 @@ pub fn run_timetable(
 
 // Runs a session plainly and writes what a clearance is shown of it: Check's questions and 9 to 11 of any bytes, of
 // any length and content, whatever the work slice holds.
-pub fn run_plain(session: &[u8], clearance: usize, work: &mut [u32], res: &mut [u8]) -> Result<u32, Refusal>
+pub fn run_plain(
+    session: &[u8],
+    clearance: usize,
+    work: &mut [u32],
+    res: &mut [u8],
+) -> Result<u32, Refusal>
     ensures { Answers (plainly (record { session = session.entry.now; clearance = clearance; work = work.old; buffer = res.old })) (number_told result) (place_told result) (count_told result) work.new res.new }
 {
     run_session(session, None, clearance, work, res)
