@@ -70,7 +70,7 @@ pub run_kept-has_room-requires : goal.run_kept-has_room-requires
 run_kept-has_room-requires t c =
     let z = c.requires in
     let a = tables c.args.session.now in
-    (level_small a c.args.fork.level z.runnable.placed, z.represents_some.1.tallies_there)
+    level_small a c.args.fork.level z.runnable.placed
 
 pub run_manager-returns-then-left-eq0 : goal.run_manager-returns-then-left-eq0
 run_manager-returns-then-left-eq0 t c =
@@ -163,8 +163,8 @@ run_manager-loop-progress-preserved t c =
       run_again a z.runnable.0 c.if-left-eq0.false l.invariant.1 z.represents_some (told c.is_unchanged-same.ensures c.advance-m.ensures) r.new.progress r.ensures,
     )
 
-pub run_manager-close-requires-clause-history_room : goal.run_manager-close-requires-clause-history_room
-run_manager-close-requires-clause-history_room t c =
+pub run_manager-close-requires : goal.run_manager-close-requires
+run_manager-close-requires t c =
     let z = c.requires in
     let a = tables c.args.session.now in
     let l = c.loop-progress in
@@ -178,4 +178,4 @@ run_manager-returns t c =
     let x = c.close in
     run_ends a z.runnable.0 c.if-left-eq0.false l.invariant.1 z.represents_some z.runnable.1
     (ap is_running (sym l.invariant.0) ∙ sym c.is_running.ensures ∙ c.loop-progress-test.false)
-    c.ended-history.ensures x.new.ended x.new.tallies x.ensures
+    c.ended-history.ensures x.new.ended x.new.self x.ensures
