@@ -3,11 +3,6 @@ use Rattle.histories.specs.Limits.{history_words}
 use Rattle.depth_first.proofs.Laws.Start.{zeros, long, kept_start}
 use Rattle.depth_first.proofs.run.Goals as goal
 
-pub fill-requires : goal.fill-requires
-fill-requires c =
-    let s = c.new-session.result in
-    record { accepted = s.accepted; table = s.masks_are; room = long field_words }
-
 pub run_over-requires : goal.run_over-requires
 run_over-requires c =
     let s = c.new-session.result in record {

@@ -14,7 +14,7 @@ use Rattle.session.specs.Parts.{level_count, masks_of}
 use Rattle.session.specs.Meaning.{root_of}
 use Rattle.session.specs.Program.{program_of}
 use Rattle.session.specs.Questions.{verdict_of}
-use Rattle.session.specs.declared.Verdict.TheVariants.{Accepted}
+use Rattle.session.specs.Questions.{Accepted}
 use Rattle.session.proofs.Laws.Contents.{level_limit, masks_length}
 use Rattle.lists.proofs.Laws.Lists.{holds, fails, truth}
 use Rattle.scripts.specs.Existence.{existence}
