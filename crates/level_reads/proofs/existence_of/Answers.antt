@@ -10,7 +10,7 @@ pub is_level_unchanged-requires : goal.is_level_unchanged-requires
 is_level_unchanged-requires c =
     let p = c.requires in
     let q = bound_ready (leveled c.args.session.now) p.readable p.named c.level_of-j.ensures in
-    (q.level, q.counted)
+    q.level
 
 pub get-requires : goal.get-requires
 get-requires c =
@@ -35,11 +35,16 @@ bound_of-bound-requires c =
     let p = c.requires in
     bound_ready (leveled c.args.session.now) p.readable p.named c.level_of-j.ensures
 
+pub versions-requires : goal.versions-requires
+versions-requires c =
+    let p = c.requires in
+    (bound_ready (leveled c.args.session.now) p.readable p.named c.level_of-j.ensures).level
+
 pub newest_to-requires : goal.newest_to-requires
 newest_to-requires c =
     let p = c.requires in
     let q = versions_ready (leveled c.args.session.now) p.readable p.named c.level_of-j.ensures in
-    record { within = q.0; stamps_rise = q.1 }
+    record { within = rw c.versions.ensures q.0; stamps_rise = rw c.versions.ensures q.1 }
 
 pub returns : goal.returns
 returns c =
@@ -47,4 +52,4 @@ returns c =
     let apart = c.if-j-level.false in
     let bound = c.bound_of-bound.ensures in
     let initial = c.first_existence-initial.ensures ∙ first-existence _ c.args.session.now.accepted c.args.object p.named.number in
-    read_version (leveled c.args.session.now) p.readable p.named c.level_of-j.ensures apart bound initial c.newest_to.ensures
+    read_version (leveled c.args.session.now) p.readable p.named c.level_of-j.ensures apart bound initial (rw c.versions.ensures at c.newest_to.ensures)

@@ -18,31 +18,20 @@ bound_of-bound-requires c =
     let p = c.requires in
     bound_ready (leveled c.args.session.now) p.readable p.named.0 c.level_of-j.ensures
 
-pub overflow_add-j : goal.overflow_add-j
-overflow_add-j c =
+pub versions-requires : goal.versions-requires
+versions-requires c =
     let p = c.requires in
-    omega (arith, (bound_ready (leveled c.args.session.now) p.readable p.named.0 c.level_of-j.ensures).level)
-
-pub offset_bounds-state-j : goal.offset_bounds-state-j
-offset_bounds-state-j c =
-    let p = c.requires in
-    omega (arith, (bound_ready (leveled c.args.session.now) p.readable p.named.0 c.level_of-j.ensures).level)
-
-pub bounds-state-j : goal.bounds-state-j
-bounds-state-j c =
-    let p = c.requires in
-    let q = bound_ready (leveled c.args.session.now) p.readable p.named.0 c.level_of-j.ensures in
-    omega (arith, q.level, q.counted)
+    (bound_ready (leveled c.args.session.now) p.readable p.named.0 c.level_of-j.ensures).level
 
 pub newest_to-requires : goal.newest_to-requires
 newest_to-requires c =
     let p = c.requires in
     let q = versions_ready (leveled c.args.session.now) p.readable p.named.0 c.level_of-j.ensures in
-    record { within = q.0; stamps_rise = q.1 }
+    record { within = rw c.versions.ensures q.0; stamps_rise = rw c.versions.ensures q.1 }
 
 pub returns : goal.returns
 returns c =
     let p = c.requires in
     let apart = c.if-j-level.false in
     let bound = c.bound_of-bound.ensures in
-    read_version (leveled c.args.session.now) p.readable p.named.0 c.level_of-j.ensures apart bound c.first_field-initial.ensures c.newest_to.ensures
+    read_version (leveled c.args.session.now) p.readable p.named.0 c.level_of-j.ensures apart bound c.first_field-initial.ensures (rw c.versions.ensures at c.newest_to.ensures)
