@@ -23,11 +23,12 @@ pub fn run_next(session: &Session, state: &mut RunState, work: &mut [u32], level
     let core = m.core;
     let mut ending = core.ending;
     while cores::is_running(ending) {
+        let unchanged = state.tallies.is_unchanged();
         let sight = Sight {
             current: &state.current,
             cache: &cache,
             all: false,
-            unchanged: state.tallies.is_unchanged(),
+            unchanged,
         };
         m = m.advance(session, &sight, MAX_SCRIPT_STEPS);
         let core = m.core;

@@ -25,10 +25,6 @@ gone c =
       steps = c.advance-m.ensures;
     }
 
-pub is_unchanged-unchanged-requires : goal.is_unchanged-unchanged-requires
-is_unchanged-unchanged-requires c =
-    next_flags (goes (tables c.args.session.now) c.requires c.start-m.ensures.started c.loop-cache.invariant c.is_running.ensures c.loop-cache-test.true)
-
 pub advance-m-requires : goal.advance-m-requires
 advance-m-requires c =
     let q = next_able (goes (tables c.args.session.now) c.requires c.start-m.ensures.started c.loop-cache.invariant c.is_running.ensures c.loop-cache-test.true) in

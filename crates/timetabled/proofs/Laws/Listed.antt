@@ -13,8 +13,7 @@ use Rattle.session.specs.Limits.{max_levels, fields}
 use Rattle.session.specs.Parts.{level_count, masks_of}
 use Rattle.session.specs.Meaning.{root_of}
 use Rattle.session.specs.Program.{program_of}
-use Rattle.session.specs.Questions.{verdict_of}
-use Rattle.session.specs.Questions.{Accepted}
+use Rattle.session.specs.Questions.{verdict_of, Accepted}
 use Rattle.session.proofs.Laws.Contents.{level_limit, masks_length}
 use Rattle.lists.proofs.Laws.Lists.{holds, fails, truth}
 use Rattle.scripts.specs.Existence.{existence}
@@ -31,7 +30,7 @@ use Rattle.managers.specs.Steps.{WellFormed, Advanceable, Stepped}
 use Rattle.managers.specs.declared.Manager as code
 use Rattle.model.specs.Limits.{max_schedule}
 use Rattle.model.specs.Step.{State, step_at}
-use Rattle.model.specs.Schedule.{initial_state, finished, question14, step_refusal, run_from, run_of}
+use Rattle.model.specs.Schedule.{initial_state, finished, question14, step_refusal, run_from, run_of, refused}
 use Rattle.theorems.proofs.Laws.Order.Accepted.{sound}
 use Rattle.theorems.proofs.Laws.Order.PlainRun.{read_in_total}
 use Rattle.theorems.proofs.Laws.Invariant.Bounded.{total, step_less}
@@ -41,9 +40,10 @@ use Rattle.level_state.specs.Representation.{Words, RunInvariant, placed}
 use Rattle.permits.specs.Permits.{number_of_permit, ended_of, permit_of, Askable}
 use Rattle.level_state.specs.Steps.{Tables, Readable, ReadReady, Answered, PerformReady, SettleReady, CoreSettled, Changing, ChangedBy, StepDone, StartReady, Started}
 use Rattle.level_state.specs.Ends.{Quiescent, SameRest, Ends}
-use Rattle.timetable_steps.specs.Refusals.{end_of}
-use Rattle.level_state.specs.declared.RunEnd.{RunEnd}
-use Rattle.level_state.specs.declared.RunEnd.TheVariants as runEnd
+use Rattle.timetable_steps.specs.Refusals.{refusal_at, end_of}
+use Rattle.std.specs.Prelude.{Result, Ok, Err}
+use Rattle.calls.specs.declared.Refusal.{Refusal}
+use Rattle.calls.specs.declared.Refusal.TheVariants.{Unended}
 use Rattle.permits.specs.declared.Permit.{Permit}
 use Rattle.permits.specs.declared.Permit.TheVariants.{Given, Absent, Idle, Blocked}
 use Rattle.level_state.proofs.Laws.Settle.{placed_own, placed_other}
@@ -113,7 +113,7 @@ module _ (s : List ℕ) (a : verdict_of s ≡ Accepted) (few : level_count s ≤
 
     module _ (masks : List ℕ) (table : masks ≡ masks_of s) (long : length masks ≡ level_count s) where
       -- at its end
-      pub steps_made_ends : i ≡ length ls → ended_of masks w.tallies ≡ true → Ends s ls w runEnd.Finished
+      pub steps_made_ends : i ≡ length ls → ended_of masks w.tallies ≡ true → Ends s ls w (Ok tt)
       steps_made_ends e z = (ms, (g.state, (over, g.invariant.represents)))
         where
           over : run_of (program_of s) (root_of s) ls ≡ finished g.state
@@ -123,7 +123,7 @@ module _ (s : List ℕ) (a : verdict_of s ≡ Accepted) (few : level_count s ≤
               ∙ ap (λ xs. run_from i (program_of s) xs g.state) (drop-length ls)
               ∙ run_ends i (program_of s) g.state (sym (ended_is s masks table long w ms g.state g.invariant.represents) ∙ z)
 
-      pub steps_made_unended : i ≡ length ls → ended_of masks w.tallies ≡ false → Ends s ls w (runEnd.Refused 15 0)
+      pub steps_made_unended : i ≡ length ls → ended_of masks w.tallies ≡ false → Ends s ls w (Err Unended)
       steps_made_unended e z =
           sym g.run
           ∙ ap (λ k. run_from i (program_of s) (drop k ls) g.state) e
@@ -138,7 +138,7 @@ module _ (s : List ℕ) (a : verdict_of s ≡ Accepted) (few : level_count s ≤
         next = sym g.run ∙ ap (λ xs. run_from i (program_of s) xs g.state) (drop-cons ls i 0 h)
 
         -- a step that is not permitted
-        pub steps_made_stops : (p : Permit) → p ≡ permit_of masks w.tallies w.queue l → (p ≡ Given → ⊥) → Ends s ls w (runEnd.Refused (number_of_permit p) i)
+        pub steps_made_stops : (p : Permit) → p ≡ permit_of masks w.tallies w.queue l → (p ≡ Given → ⊥) → run_of (program_of s) (root_of s) ls ≡ refused (number_of_permit p) i
         steps_made_stops p e d =
             next
             ∙ run_stops i (program_of s) l (drop (suc i) ls) g.state (number_of_permit p) (sym (asked_is s masks a few table long w ms g.state g.invariant l) ∙ ap number_of_permit (sym e)) (none p d)
@@ -208,7 +208,7 @@ module _ {s masks : List ℕ} (y : Leveled s masks) {ls : List ℕ} {d : code.Ma
   list_fits = steps_made_fits s y.accepted few ls i w (held_in managers d) g.steps_made
 
   -- question 15
-  pub list_ends : length ls ≤ i → {r : RunEnd} → r ≡ end_of (ended_of masks w.tallies) → Ends s ls w r
+  pub list_ends : length ls ≤ i → {r : Result Unit Refusal} → r ≡ end_of (ended_of masks w.tallies) → Ends s ls w r
   list_ends h q =
       let e : i ≡ length ls = omega (arith, h, g.low) in
       elim (truth (ended_of masks w.tallies)) [
@@ -220,9 +220,15 @@ module _ {s masks : List ℕ} (y : Leveled s masks) {ls : List ℕ} {d : code.Ma
 
   module _ (h : i < length ls) {p : Permit} (e : p ≡ permit_of masks w.tallies w.queue (get_or ls i 0)) where
     -- the step is not permitted
-    pub list_refused : (p ≡ Given → ⊥) → (w' : Words) {r : RunEnd} → r ≡ runEnd.Refused (number_of_permit p) i → Ends s ls w' r
+    pub list_refused : (p ≡ Given → ⊥) → (w' : Words) {r : Result Unit Refusal} → r ≡ refusal_at p i → Ends s ls w' r
     list_refused z w' q =
-        rw q (steps_made_stops s y.accepted few ls i w (held_in managers d) g.steps_made masks y.masks_are long h p e z)
+        rw q (at_place p z (steps_made_stops s y.accepted few ls i w (held_in managers d) g.steps_made masks y.masks_are long h p e z))
+      where
+        at_place : (p : Permit) → (p ≡ Given → ⊥) → run_of (program_of s) (root_of s) ls ≡ refused (number_of_permit p) i → Ends s ls w' (refusal_at p i)
+        at_place Given z e = absurd (z refl)
+        at_place Absent z e = e
+        at_place Idle z e = e
+        at_place Blocked z e = e
 
 -- the next step is permitted
 pub record Permitted (s masks index ls : List ℕ) (d : code.Manager) (w₀ w : Words) (managers : List code.Manager) (cache : List ℕ) (i : ℕ) : Type 0 where
@@ -247,9 +253,6 @@ module _ {s masks index ls : List ℕ} {d : code.Manager} {w₀ w : Words} {mana
   pub list_present : level < max_levels
   list_present =
       omega (arith, few y g.loop, steps_made_present s y.accepted (few y g.loop) ls i w (held_in managers d) g.loop.steps_made masks y.masks_are (long y g.loop) g.more g.given)
-
-  pub list_numbers : (level < max_levels) × (tally_numbers ≤ length w.tallies)
-  list_numbers = (list_present, g.loop.steps_made.invariant.represents.roomy.tallies)
 
   there : level < length managers
   there = omega (arith, g.loop.managers_long, list_present)
@@ -358,7 +361,7 @@ module _ {s masks index ls : List ℕ} {d : code.Manager} {w₀ w : Words} {mana
         pub list_forgets : FieldThere cache' o k
         list_forgets = told_forgets t.here.read waits (cache_there t.here) told
 
-        pub list_answered : {cache'' : List ℕ} {r : code.Manager} → Stepped s w.current cache' u n r → Forgotten cache' cache'' o k → ScriptStep s w (level t.here) cache'' (m t.here) r
+        pub list_answered : {cache'' : List ℕ} {r : code.Manager} → Stepped s w.current cache' false u n r → Forgotten cache' cache'' o k → ScriptStep s w (level t.here) cache'' (m t.here) r
         list_answered e forgotten =
             list_seen (told_made t.here.read waits (cache_there t.here) told e told_seeing (makes t.here.read waits (cache_there t.here) told e refl field) (forgotten_others forgotten (told_others t.here.read waits (cache_there t.here) told t.here.loop.blank)))
 

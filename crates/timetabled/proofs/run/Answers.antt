@@ -5,7 +5,7 @@ use Rattle.level_state.specs.Representation.{words_of}
 use Rattle.level_state.proofs.Laws.Tables.{tables}
 use Rattle.level_state.proofs.Laws.Asks.{asks_nothing}
 use Rattle.level_state.proofs.Laws.Made.{held_fits}
-use Rattle.timetabled.proofs.Laws.Listed.{Permitted, Turn, list_start, list_askable, list_ends, list_refused, permitted, list_present, list_numbers, list_starts, list_started, list_able, list_made, list_unseen, list_seen, list_reads, list_told, list_answered, list_changes, list_settles, list_changed, list_performs, list_done}
+use Rattle.timetabled.proofs.Laws.Listed.{Permitted, Turn, list_start, list_askable, list_ends, list_refused, permitted, list_present, list_starts, list_started, list_able, list_made, list_unseen, list_seen, list_reads, list_told, list_answered, list_changes, list_settles, list_changed, list_performs, list_done}
 use Rattle.timetabled.proofs.run.Invariants.{none}
 use Rattle.timetabled.proofs.run.Goals as goal
 use Rattle.timetabled.proofs.run.Goals.{In-Given, After-step-n}
@@ -40,7 +40,7 @@ returns-in_default c =
 
 pub is_busy-requires : goal.is_busy-requires
 is_busy-requires c =
-    list_numbers (here (goal.at.is_busy-requires c).In-Given)
+    list_present (here (goal.at.is_busy-requires c).In-Given)
 
 pub start-requires : goal.start-requires
 start-requires c =
