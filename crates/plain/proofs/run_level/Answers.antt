@@ -7,22 +7,14 @@ pub loop-state-init : goal.loop-state-init
 loop-state-init c =
     turns_start c.args.session.now.bytes.now c.args.session.now.accepted (words_of c.args.state.now c.args.work.now) c.args.level c.requires
 
-pub overflow_add-level : goal.overflow_add-level
-overflow_add-level c =
-    omega (arith, turns_small c.args.session.now.bytes.now c.args.session.now.accepted (words_of c.args.state.now c.args.work.now) c.args.level c.requires)
-
-pub offset_bounds-state-level : goal.offset_bounds-state-level
-offset_bounds-state-level c =
-    omega (arith, turns_small c.args.session.now.bytes.now c.args.session.now.accepted (words_of c.args.state.now c.args.work.now) c.args.level c.requires)
-
-pub bounds-state-level : goal.bounds-state-level
-bounds-state-level c =
+pub waiting-requires : goal.waiting-requires
+waiting-requires c =
     omega (arith, turns_small c.args.session.now.bytes.now c.args.session.now.accepted (words_of c.args.state.now c.args.work.now) c.args.level c.requires)
 
 pub run_next-requires : goal.run_next-requires
 run_next-requires c =
     let l = c.loop-state in
-    turns_next c.args.session.now.bytes.now c.args.session.now.accepted (words_of c.args.state.now c.args.work.now) c.args.level c.requires (words_of l.state l.work) l.invariant c.loop-state-test.true
+    turns_next c.args.session.now.bytes.now c.args.session.now.accepted (words_of c.args.state.now c.args.work.now) c.args.level c.requires (words_of l.state l.work) l.invariant (rw c.waiting.ensures at c.loop-state-test.true)
 
 pub loop-state-smaller : goal.loop-state-smaller
 loop-state-smaller c =
@@ -33,4 +25,4 @@ loop-state-smaller c =
 pub returns : goal.returns
 returns c =
     let l = c.loop-state in
-    turns_done c.args.session.now.bytes.now c.args.session.now.accepted (words_of c.args.state.now c.args.work.now) c.args.level c.requires (words_of l.state l.work) l.invariant (omega (arith, c.loop-state-test.false))
+    turns_done c.args.session.now.bytes.now c.args.session.now.accepted (words_of c.args.state.now c.args.work.now) c.args.level c.requires (words_of l.state l.work) l.invariant (omega (arith, c.waiting.ensures, c.loop-state-test.false))
