@@ -6,22 +6,13 @@ pub level_of-level-requires : goal.level_of-level-requires
 level_of-level-requires c =
     root_there _ c.args.session.now.accepted _ c.root-message.ensures
 
-pub arrive-requires : goal.arrive-requires
-arrive-requires c =
+pub arrive-waiting-requires : goal.arrive-waiting-requires
+arrive-waiting-requires c =
     root_room _ c.args.session.now.accepted _ _ _ c.requires _ _ c.root-message.ensures c.level_of-level.ensures
 
-pub overflow_add-state : goal.overflow_add-state
-overflow_add-state c =
-    record { fits = omega (arith, level_small _ c.args.session.now.accepted _ _ c.root-message.ensures c.level_of-level.ensures) }
-
-pub offset_bounds-state-level : goal.offset_bounds-state-level
-offset_bounds-state-level c =
-    record { fits = omega (arith, level_small _ c.args.session.now.accepted _ _ c.root-message.ensures c.level_of-level.ensures) }
-
-pub bounds-state-level : goal.bounds-state-level
-bounds-state-level c =
-    omega (arith, level_small _ c.args.session.now.accepted _ _ c.root-message.ensures c.level_of-level.ensures)
+pub set_waiting-requires : goal.set_waiting-requires
+set_waiting-requires c = level_small _ c.args.session.now.accepted _ _ c.root-message.ensures c.level_of-level.ensures
 
 pub returns-clause-initial : goal.returns-clause-initial
 returns-clause-initial c =
-    read_in_lem _ c.args.session.now.accepted _ _ _ c.requires _ _ c.root-message.ensures c.level_of-level.ensures _ _ _ _ c.fill.ensures c.root_row-row.ensures.1 c.arrive.ensures
+    rw c.set_waiting.ensures (read_in_lem _ c.args.session.now.accepted _ _ _ c.requires _ _ c.root-message.ensures c.level_of-level.ensures _ _ _ _ c.fill.ensures c.root_row-row.ensures.1 c.arrive-waiting.ensures)

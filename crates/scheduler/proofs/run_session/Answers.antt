@@ -11,10 +11,8 @@ returns-in_err-levels c =
     let o = rw c.in_err-levels.was at c.open.ensures in
     rw (p.1, p.2) (answers_unopened (timetabled_refuses (request c.args.bytes.now c.args.clearance c.args.work.now c.args.res.now) (list_of c.args.bytes.now (option_copied c.args.timetable))) _ o)
 
-pub new-session-requires : goal.new-session-requires
-new-session-requires c =
-    let t = (opened (rw c.in_ok-levels.was at c.open.ensures)).leveled in
-    record { accepted = t.accepted; masks_are = t.masks_are; room = ? }
+pub new-session-requires-clause-accepted : goal.new-session-requires-clause-accepted
+new-session-requires-clause-accepted c = (opened (rw c.in_ok-levels.was at c.open.ensures)).leveled.accepted
 
-pub returns : goal.returns
-returns c = ?
+pub new-session-requires-clause-masks_are : goal.new-session-requires-clause-masks_are
+new-session-requires-clause-masks_are c = (opened (rw c.in_ok-levels.was at c.open.ensures)).leveled.masks_are
