@@ -37,13 +37,7 @@ fn read_in(session: &Session, state: &mut RunState) -> usize
 }
 
 // Writes the records of a run that a clearance is shown, and returns how many bytes they are.
-fn show(
-    session: &Session,
-    state: &RunState,
-    clearance: usize,
-    level: usize,
-    res: &mut [u8],
-) -> u32
+fn show(session: &Session, state: &RunState, clearance: usize, level: usize, res: &mut [u8]) -> u32
     requires { Ready session.now.bytes.now session.now.masks.now state.now.current state.now.ended state.now.tallies level res.old }
     ensures { Shows session.now.bytes.now state.now.current state.now.ended state.now.tallies clearance level res.old res.new result }
 {

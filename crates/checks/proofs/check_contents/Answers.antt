@@ -1,3 +1,4 @@
+-- Questions 6 to 8, each put where the one before says yes.
 use mathlib.Core.Path.{sym, ◌∙◌}
 use native.Mathlib.Omega.{arith}
 use Rattle.session.specs.Questions.{first_no}

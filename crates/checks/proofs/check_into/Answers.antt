@@ -1,3 +1,4 @@
+-- Questions 1 to 3, then those of the levels and the contents.
 use mathlib.Core.Path.{sym, ◌∙◌}
 use Rattle.std.proofs.lemmas.Result.{err_from_is_err_and}
 use Rattle.session.proofs.Laws.Parts.{question2_falls}

@@ -1,3 +1,4 @@
+-- The level table, questions 4, 5 and 17, then those of the contents.
 use Prim.Native.Nat.{◌≤◌}
 use mathlib.Core.Path.{sym, ◌∙◌}
 use native.Mathlib.Omega.{arith}

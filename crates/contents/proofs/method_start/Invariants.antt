@@ -1,3 +1,4 @@
+-- The invariant: the steps passed have smaller keys.
 use Prim.Native.Nat.{◌+◌, ◌-◌, ◌≤◌}
 use Rattle.session.specs.Parts.{level_count, object_count}
 use Rattle.contents.specs.Reading.{method_start}

@@ -1,3 +1,4 @@
+-- The definition's case, by the answers of `lattice`.
 use mathlib.Core.Path.{◌≡◌, sym, ◌∙◌}
 use mathlib.Core.Bool.{true, false}
 use lib.ListN.{length}

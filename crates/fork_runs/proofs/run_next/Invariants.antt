@@ -1,3 +1,5 @@
+-- The invariant: the words represent a state that the steps of the manager have led to since its start, and what is kept of its reads is
+-- what it reads.
 use mathlib.Core.Path.{◌≡◌}
 use Rattle.level_state.specs.Representation.{words_of}
 use Rattle.fork_runs.proofs.Laws.Left.{steps_left}

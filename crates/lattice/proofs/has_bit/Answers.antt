@@ -1,3 +1,4 @@
+-- A mask of 16 bits has none from 16 on.
 use Rattle.std.proofs.Common.{sym, ◌∙◌, le_trans, le-ltb}
 use lib.Pow.{pow_mono}
 use Rattle.dominance.proofs.Laws.Table.{bit_beyond}

@@ -1,3 +1,4 @@
+-- Of two comparable levels the upper one is the join.
 use mathlib.Core.Path.{◌≡◌, sym, ◌∙◌}
 use mathlib.Core.Bool.{true}
 use lib.ListN.{length}

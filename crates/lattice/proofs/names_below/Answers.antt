@@ -1,3 +1,4 @@
+-- A mask of 16 bits is below 2 ^ 16.
 use Rattle.std.proofs.Common.{sym, ◌∙◌, ◌^◌, le_trans, le-leb, lt-ltb}
 use lib.Pow.{pow_mono}
 use Rattle.dominance.proofs.Laws.Table as table

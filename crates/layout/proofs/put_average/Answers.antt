@@ -1,3 +1,4 @@
+-- Word, level, quotient, remainder and line feed stand one behind the other.
 use Rattle.layout.proofs.Laws.Placing.{placed_next}
 use Rattle.text.specs.Text.{average_line}
 use Rattle.layout.proofs.put_average.Goals as goal

@@ -1,3 +1,4 @@
+-- The invariant: the lines of the levels passed are placed.
 use Prim.Native.Nat.{◌-◌, ◌≤◌}
 use Rattle.session.specs.Limits.{max_levels}
 use Rattle.lists.specs.Lists.{tab, joined}

@@ -1,3 +1,4 @@
+-- The four numbers stand one behind the other.
 use Rattle.layout.proofs.Laws.Placing.{placed_next}
 use Rattle.text.specs.Text.{front_of}
 use Rattle.layout.proofs.put_front.Goals as goal

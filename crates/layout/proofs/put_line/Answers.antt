@@ -1,3 +1,4 @@
+-- The front, three numbers and the line feed stand one behind the other.
 use Rattle.layout.proofs.Laws.Placing.{placed_next}
 use Rattle.text.specs.Text.{line_of}
 use Rattle.layout.proofs.put_line.Goals as goal

@@ -1,3 +1,4 @@
+-- Word, number and line feed stand one behind the other.
 use native.Mathlib.Omega.{arith}
 use Rattle.layout.proofs.Laws.Placing.{placed_next}
 use Rattle.text.specs.Text.{total_gap, total_columns, total_line}

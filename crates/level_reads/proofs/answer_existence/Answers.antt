@@ -1,3 +1,4 @@
+-- What is read of existence is kept.
 use Rattle.level_state.proofs.Laws.Script.{field_there}
 use Rattle.level_reads.proofs.answer_existence.Goals as goal
 

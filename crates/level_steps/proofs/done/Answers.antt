@@ -1,3 +1,4 @@
+-- What the step did outside leaves room for its history.
 use mathlib.Core.Path.{ap}
 use Rattle.cores.specs.Core.{effect_of}
 use Rattle.level_state.proofs.Laws.Done.{step_done, nothing_done}

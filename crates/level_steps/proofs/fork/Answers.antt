@@ -1,3 +1,4 @@
+-- The fork is a child of the one behind those that have ended, and is dropped or arrives among those that wait.
 use native.Mathlib.Omega.{arith}
 use Rattle.level_state.proofs.Laws.Made.{forked_dropped}
 use Rattle.level_steps.proofs.fork.Goals as goal

@@ -1,3 +1,4 @@
+-- The fork behind those that have ended starts, with the write stamp that was kept for it, and may end at once.
 use Rattle.managers.specs.Manager.{manager_of}
 use Rattle.level_state.proofs.Laws.Made.{begun, settled_of_lem}
 use Rattle.level_steps.proofs.start.Goals as goal

@@ -1,3 +1,4 @@
+-- Four versions, each the next one's words.
 use Rattle.level_state.proofs.Laws.Made.{made_done}
 use Rattle.level_writes.proofs.write_made.Goals as goal
 

@@ -1,3 +1,4 @@
+-- The invariant: the digits of the bytes passed are placed.
 use Prim.Native.Nat.{◌+◌, ◌*◌, ◌≤◌}
 use mathlib.Core.Path.{◌≡◌}
 use Rattle.lists.specs.Lists.{tab, joined}

@@ -1,3 +1,4 @@
+-- The invariant: the lines of the records passed are placed.
 use Prim.Native.Nat.{◌*◌, ◌≤◌}
 use mathlib.Core.Path.{◌≡◌}
 use Rattle.lists.specs.Lists.{tab, joined}

@@ -1,3 +1,4 @@
+-- Number, blank, place and line feed stand one behind the other.
 use mathlib.Core.List.{[], ◌∷◌, ◌++◌}
 use native.Mathlib.Omega.{arith}
 use Rattle.lists.specs.Placed.{Placed}

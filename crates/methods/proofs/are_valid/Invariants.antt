@@ -1,3 +1,4 @@
+-- The invariant: (object, name) has not fallen, and the steps passed are whole methods, and valid if it never falls.
 use Prim.Native.Nat.{◌-◌}
 use Rattle.methods.proofs.Laws.Scripts.{Methods}
 use Rattle.methods.proofs.are_valid.Given as goal

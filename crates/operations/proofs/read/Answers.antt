@@ -1,3 +1,4 @@
+-- What is found is put, and what is missing asked for.
 use mathlib.Core.Path.{sym, ◌∙◌}
 use native.Mathlib.Omega.{arith}
 use Rattle.session.proofs.Laws.Numbers.{number_few}

@@ -1,3 +1,5 @@
+-- The invariant: allowed steps were made from the session as read in, no manager runs, and no level before this one may step by the
+-- conservative rule.
 use Rattle.level_state.specs.Representation.{words_of}
 use Rattle.plain.proofs.Laws.Plain.{PlainLoop, plain_left}
 use Rattle.plain.proofs.run.Given as goal

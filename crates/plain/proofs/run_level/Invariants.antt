@@ -1,3 +1,4 @@
+-- The invariant: allowed steps led from the state at the start to the one that the words say, in which no manager runs at the level.
 use Prim.Native.Nat.{◌-◌}
 use lib.ListN.{get_or}
 use Rattle.model.specs.Limits.{max_managers}

@@ -1,3 +1,4 @@
+-- A full level drops a fork unless the last one that waits, at the last place, has a greater stamp.
 use mathlib.Core.Path.{sym}
 use native.Mathlib.Omega.{arith}
 use Rattle.queues.proofs.Laws.Queue.{dropped_roomy, dropped_started, dropped_last}

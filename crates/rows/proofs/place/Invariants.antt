@@ -1,3 +1,4 @@
+-- The invariant: the row behind the place, if there is one, has a greater key.
 use Rattle.std.proofs.Common.{◌+◌, ◌*◌, ◌<◌, get_or}
 use Rattle.rows.proofs.place.Given as goal
 

@@ -1,3 +1,4 @@
+-- Existence is told, then a field of the same object if it is asked for, and all of it is forgotten.
 use mathlib.Core.Path.{◌∙◌}
 use Rattle.level_state.proofs.Laws.Tables.{tables}
 use Rattle.level_state.proofs.Laws.Script.{readable}

@@ -1,3 +1,5 @@
+-- The invariant: the words represent a state from which the rest of the timetable ends as the whole does; the managers that run are as
+-- their steps leave them, and nothing is kept of what they read.
 use Prim.Native.Nat.{◌-◌}
 use mathlib.Core.List.{[]}
 use lib.ListN.{length}

@@ -1,3 +1,4 @@
+-- The invariant: the versions before `low` are not above the bound, and those from `high` on are.
 use Rattle.std.proofs.Common.{◌-◌}
 use Rattle.versions.specs.Log.{log_start}
 use Rattle.versions.proofs.Laws.Order.{Bracket}

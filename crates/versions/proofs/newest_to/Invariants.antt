@@ -1,3 +1,4 @@
+-- The invariant: the newest of the versions not yet passed is the newest up to the bound of all.
 use Rattle.std.proofs.Common.{◌≡◌}
 use Rattle.model.specs.Level.{newest, newest_to}
 use Rattle.versions.specs.Log.{log_start, log_of}

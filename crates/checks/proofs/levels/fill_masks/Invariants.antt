@@ -1,3 +1,4 @@
+-- The invariant: the masks of the records passed stand in front, and the rest is as it came.
 use Prim.Native.Nat.{◌≤◌, ◌-◌}
 use mathlib.Core.Path.{◌≡◌}
 use mathlib.Core.List.{◌++◌}

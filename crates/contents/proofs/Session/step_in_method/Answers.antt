@@ -1,3 +1,4 @@
+-- A step stands so far behind the first as its number says.
 use mathlib.Core.Path.{◌∙◌}
 use native.Mathlib.Omega.{arith}
 use Rattle.contents.proofs.Laws.Methods.{method_ends, step_there}

@@ -1,3 +1,4 @@
+-- A limit of one more makes one step.
 use Rattle.managers.proofs.Laws.Done.{step_done}
 use Rattle.managers.proofs.Manager.step.Goals as goal
 

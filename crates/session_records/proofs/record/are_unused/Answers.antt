@@ -1,3 +1,4 @@
+-- The two words, masked.
 use native.Mathlib.Omega.{arith}
 use Rattle.session.specs.Record.{record_at}
 use Rattle.session_records.proofs.Laws.Words.{record_small, first_says, second_says}

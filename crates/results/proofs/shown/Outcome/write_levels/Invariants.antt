@@ -1,3 +1,4 @@
+-- The invariant: what is shown of the levels passed is placed.
 use Prim.Native.Nat.{◌-◌, ◌*◌, ◌≤◌}
 use mathlib.Core.Path.{◌≡◌}
 use lib.ListN.{length}

@@ -1,3 +1,4 @@
+-- The invariant: what is shown of the objects passed is placed.
 use Prim.Native.Nat.{◌-◌, ◌*◌, ◌≤◌}
 use Rattle.lists.specs.Lists.{tab, joined}
 use Rattle.session.specs.Program.{program_of}
