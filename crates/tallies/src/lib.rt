@@ -69,7 +69,8 @@ impl Tallies {
         requires { level < max_levels }
         ensures { result ≡ get_or self.now level 0 }
     {
-        self.levels[level].ended
+        let tally = self.levels[level];
+        tally.ended
     }
 
     // The write stamp of its next manager.
@@ -77,7 +78,8 @@ impl Tallies {
         requires { level < max_levels }
         ensures { result ≡ get_or self.now (next_place level) 0 }
     {
-        self.levels[level].next
+        let tally = self.levels[level];
+        tally.next
     }
 
     // How many forks wait there.
@@ -85,7 +87,8 @@ impl Tallies {
         requires { level < max_levels }
         ensures { result ≡ get_or self.now (waiting_place level) 0 }
     {
-        self.levels[level].waiting
+        let tally = self.levels[level];
+        tally.waiting
     }
 
     // How many forks started there.
@@ -94,7 +97,7 @@ impl Tallies {
         ensures { result ≡ get_or self.now level 0 + get_or self.now (busy_place level) 0 }
     {
         let tally = self.levels[level];
-        tally.ended + tally.runs as usize
+        tally.runs as usize + tally.ended
     }
 
     // How many versions it has.
@@ -102,7 +105,8 @@ impl Tallies {
         requires { level < max_levels }
         ensures { result ≡ get_or self.now (versions_place level) 0 }
     {
-        self.levels[level].versions
+        let tally = self.levels[level];
+        tally.versions
     }
 
     // So many managers of a level have ended.
