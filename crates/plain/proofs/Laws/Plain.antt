@@ -1,6 +1,6 @@
 -- The plain run: level after level, until all managers have ended. Assumes nothing.
 use Prim.Native.Nat.{ℕ, zero, suc, ◌+◌, ◌*◌, ◌-◌, ◌≤◌, ◌<◌}
-use mathlib.Core.Path.{◌≡◌, refl, sym, ◌∙◌, ap}
+use mathlib.Core.Path.{◌≡◌, refl, sym, ◌∙◌, ap, subst}
 use mathlib.Core.Bool.{true, false, cond}
 use mathlib.Core.List.{List, [], ◌∷◌, ◌++◌}
 use native.Mathlib.Decide.{ℕ_discrete}
@@ -19,6 +19,8 @@ use Rattle.model.specs.Limits.{max_managers}
 use Rattle.model.specs.Level.{idle, Level, is_busy, has_manager}
 use Rattle.model.specs.Step.{State, level_at, step_at}
 use Rattle.model.specs.Schedule.{initial_state, finished, question14, question15, refusal_under, step_refusal, run_of, Leads}
+use Rattle.std.specs.Prelude.{Option, None, Some, MatchOption}
+use Rattle.plain.specs.Lowest.{NoneLowest}
 use Rattle.model.specs.Rules.{conservative}
 use Rattle.theorems.proofs.Laws.Order.Accepted.{sound}
 use Rattle.theorems.proofs.Laws.Invariant.Measure.{left, cost}
@@ -149,14 +151,14 @@ module _ (s masks : List ℕ) (a : verdict_of s ≡ Accepted) (table : masks ≡
       ]
 
   -- one that may step is run
-  module _ (h : level < length masks) (z : lowest_of masks w.tallies level ≡ true) where
-    ran_allowed : refusal_under conservative (program_of s) st level ≡ 0
-    ran_allowed = lowest_allowed s masks table long w (λ _. any_manager) st represented.represents level h z
+  module _ (l : ℕ) (h : l < length masks) (z : lowest_of masks w.tallies l ≡ true) where
+    ran_allowed : refusal_under conservative (program_of s) st l ≡ 0
+    ran_allowed = lowest_allowed s masks table long w (λ _. any_manager) st represented.represents l h z
 
-    pub ran_ready : LevelReady s w level
+    pub ran_ready : LevelReady s w l
     ran_ready = (st, (g.quiescent, ran_allowed))
 
-    pub ran_level : (w' : Words) → LevelDone s w w' level → Ran s w' 0
+    pub ran_level : (w' : Words) → LevelDone s w w' l → Ran s w' 0
     ran_level w' d =
         let r = d.ran st g.quiescent ran_allowed in
         record {
@@ -177,11 +179,11 @@ module _ (s masks : List ℕ) (a : verdict_of s ≡ Accepted) (table : masks ≡
         zero_less j = omega arith
 
     -- and then there is room for fewer managers
-    pub ran_less : (w' : Words) → LevelDone s w w' level → room_from w'.tallies 0 (length masks) < room_from w.tallies 0 (length masks)
+    pub ran_less : (w' : Words) → LevelDone s w w' l → room_from w'.tallies 0 (length masks) < room_from w.tallies 0 (length masks)
     ran_less w' d =
         let r = d.ran st g.quiescent ran_allowed in
         let live = invariant_live s a w (λ _. any_manager) st represented in
-        let f = fewer s a r.list st r.state level live r.leads (allowed conservative (program_of s) st level ran_allowed).1.0 r.no_manager_lem in
+        let f = fewer s a r.list st r.state l live r.leads (allowed conservative (program_of s) st l ran_allowed).1.0 r.no_manager_lem in
         omega (arith, f, counted w st g.quiescent, counted w' r.state r.quiescent)
 
   -- where none may step all managers have ended
@@ -233,34 +235,40 @@ module _ {s masks : List ℕ} (y : Leveled s masks) {w₀ w : Words} {level : �
   pub plain_done : length masks ≤ level → Done s w
   plain_done h = ran_end s masks a y.masks_are long w level i.ran h
 
-  module _ (h : level < length masks) where
-    -- a level that may not step
-    module _ (z : lowest_of masks w.tallies level ≡ false) where
-      pub plain_skip : PlainLoop s masks w₀ w (level + 1)
-      plain_skip =
-          record {
-            ran = ran_skip s masks a y.masks_are long w level i.ran h z;
-            low = omega (arith, h);
-            rest = i.rest;
-          }
+  -- a level that may step
+  module _ {l : ℕ} (h : l < length masks) where
+    module _ (z : lowest_of masks w.tallies l ≡ true) where
+      pub plain_ready : LevelReady s w l
+      plain_ready = ran_ready s masks a y.masks_are long w level i.ran l h z
 
-      pub plain_skip_less : plain_left masks w.tallies (level + 1) < plain_left masks w.tallies level
-      plain_skip_less = omega (arith, h)
-
-    -- one that may
-    module _ (z : lowest_of masks w.tallies level ≡ true) where
-      pub plain_ready : LevelReady s w level
-      plain_ready = ran_ready s masks a y.masks_are long w level i.ran h z
-
-      module _ {w' : Words} (d : LevelDone s w w' level) where
+      module _ {w' : Words} (d : LevelDone s w w' l) where
         pub plain_less : plain_left masks w'.tallies 0 < plain_left masks w.tallies level
         plain_less =
-            omega (arith, h, long, few, ran_less s masks a y.masks_are long w level i.ran h z w' d)
+            omega (arith, h, long, few, ran_less s masks a y.masks_are long w level i.ran l h z w' d)
 
         pub plain_again : PlainLoop s masks w₀ w' 0
         plain_again =
             record {
-              ran = ran_level s masks a y.masks_are long w level i.ran h z w' d;
+              ran = ran_level s masks a y.masks_are long w level i.ran l h z w' d;
               low = omega arith;
               rest = d.rest ∙ i.rest;
             }
+
+-- where none may step all managers have ended
+module _ {s masks : List ℕ} (y : Leveled s masks) {w₀ w : Words} (i : PlainLoop s masks w₀ w 0) (z : NoneLowest masks w.tallies) where
+  skipped : (n : ℕ) → n ≤ length masks → Ran s w n
+  skipped zero h = i.ran
+  skipped (suc n) h =
+      let e : n + 1 ≡ suc n = omega arith in
+      subst (Ran s w) e (ran_skip s masks y.accepted y.masks_are (ap length y.masks_are ∙ masks_length s y.accepted) w n (skipped n (omega (arith, h))) (omega (arith, h)) (z n (omega (arith, h))))
+
+  pub plain_over : Done s w
+  plain_over =
+      ran_end s masks y.accepted y.masks_are (ap length y.masks_are ∙ masks_length s y.accepted) w (length masks) (skipped (length masks) (omega arith)) (omega arith)
+
+-- what a search of the levels finds
+pub found_lowest : (masks tallies : List ℕ) (r : Option ℕ)
+    → MatchOption r ((k : ℕ) → 0 ≤ k → k < length masks → lowest_of masks tallies k ≡ false) (λ i. (0 ≤ i) × (i < length masks) × (lowest_of masks tallies i ≡ true) × ((k : ℕ) → 0 ≤ k → k < i → lowest_of masks tallies k ≡ false))
+    → MatchOption r (NoneLowest masks tallies) (λ l. (l < length masks) × (lowest_of masks tallies l ≡ true))
+found_lowest masks tallies None h = λ k l. h k (omega arith) l
+found_lowest masks tallies (Some i) h = (h.1, h.2)
