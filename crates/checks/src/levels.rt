@@ -8,7 +8,7 @@ ghost use Rattle.session.specs.Questions.{kinds_rise, question3};
 ghost use Rattle.session_records.specs.Counting.{Counted};
 
 use session::limits::{MAX_LEVELS, MAX_OBJECTS, MAX_STEPS};
-use session_records::{masks, places, record};
+use session_records::{Layout, masks, places, record};
 
 // Whether `count` records from `first` on are numbered 0, 1, 2 .. in order.
 fn is_numbered(session: &[u8], first: usize, count: usize) -> bool
@@ -28,11 +28,16 @@ fn is_padded(session: &[u8], count: usize) -> bool
 
 // Question 3, of a session whose kinds never fall.
 #[tactic(auto, using(crate::proofs::Laws::Counted::question3_is))]
-pub fn are_numbered(session: &[u8], levels: usize, objects: usize, steps: usize) -> bool
+pub fn are_numbered(session: &[u8], layout: Layout) -> bool
     requires session_value { kinds_rise session.now ≡ true }
-    requires counted { Counted session.now levels objects steps }
+    requires counted { Counted session.now layout.levels layout.objects layout.steps }
     ensures { result ≡ question3 session.now }
 {
+    let Layout {
+        levels,
+        objects,
+        steps,
+    } = layout;
     levels <= MAX_LEVELS
         && objects <= MAX_OBJECTS
         && steps <= MAX_STEPS

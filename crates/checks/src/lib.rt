@@ -15,20 +15,20 @@ ghost use Rattle.checks.specs.Checking.{question_of, Checks};
 use dominance::Fault;
 use session::Question;
 use session::limits::{MAX_LEVELS, MAX_RECORDS, RECORD_BYTES};
-use session_records::kinds;
+use session_records::{Layout, kinds};
 
 // Questions 6 to 8, of a session of which questions 2 and 3 said yes.
-fn check_contents(
-    session: &[u8],
-    levels: usize,
-    objects: usize,
-    steps: usize,
-) -> Result<(), Question>
+fn check_contents(session: &[u8], layout: Layout) -> Result<(), Question>
     requires session_value { question2 session.now ≡ true }
-    requires counted { Counted session.now levels objects steps }
+    requires counted { Counted session.now layout.levels layout.objects layout.steps }
     requires session_value_2 { question3 session.now ≡ true }
     ensures { result ≡ first_no (drop 6 (asked session.now)) }
 {
+    let Layout {
+        levels,
+        objects,
+        steps,
+    } = layout;
     let first = levels + objects;
     let root = first + steps;
     if !objects::are_valid(session, levels, objects, levels) {
@@ -57,21 +57,20 @@ fn of_table(fault: Fault) -> Question
 
 // Questions 4, 5, 17 and 6 to 8, of a session of which questions 2 and 3 said yes. The masks of its levels are
 // written to the front of `masks`.
-fn check_levels(
-    session: &[u8],
-    levels: usize,
-    objects: usize,
-    steps: usize,
-    masks: &mut [u16],
-) -> Result<(), Question>
+fn check_levels(session: &[u8], layout: Layout, masks: &mut [u16]) -> Result<(), Question>
     requires session_value { (question2 session.now ≡ true) × (question3 session.now ≡ true) }
-    requires counted { Counted session.now levels objects steps }
+    requires counted { Counted session.now layout.levels layout.objects layout.steps }
     requires max_levels_in_bounds { max_levels ≤ length masks.old }
     ensures { (result ≡ first_no (drop 3 (asked session.now))) × (masks.new ≡ masks_of session.now ++ drop (level_count session.now) masks.old) }
 {
+    let Layout {
+        levels,
+        objects,
+        ..
+    } = layout;
     levels::fill_masks(session, levels, masks);
     lattice::check(&masks[..levels]).map_err(of_table)?;
-    check_contents(session, levels, objects, steps)
+    check_contents(session, layout)
 }
 
 // Question 1.
@@ -102,17 +101,14 @@ pub fn check_into(session: &[u8], masks: &mut [u16]) -> Result<usize, Question>
         return Err(Question::Kinds);
     }
     let layout = kinds::count_kinds(session);
-    let levels = layout.levels;
-    let objects = layout.objects;
-    let steps = layout.steps;
-    if !kinds::are_present(session, levels, objects, steps) {
+    if !kinds::are_present(session, layout) {
         return Err(Question::Kinds);
     }
-    if !levels::are_numbered(session, levels, objects, steps) {
+    if !levels::are_numbered(session, layout) {
         return Err(Question::Numbering);
     }
-    check_levels(session, levels, objects, steps, masks)?;
-    Ok(levels)
+    check_levels(session, layout, masks)?;
+    Ok(layout.levels)
 }
 
 // Checks a session, for a caller that needs no level table: what questions 1 to 8 and 17 say of any

@@ -51,10 +51,15 @@ pub fn count_kinds(session: &[u8]) -> Layout
 
 // The rest of question 2: whether there is a level, an object, and exactly one root message.
 #[tactic(auto, using(session::proofs::Laws::Parts::question2_is))]
-pub fn are_present(session: &[u8], levels: usize, objects: usize, steps: usize) -> bool
+pub fn are_present(session: &[u8], layout: Layout) -> bool
     requires session_value { kinds_rise session.now ≡ true }
-    requires counted { Counted session.now levels objects steps }
+    requires counted { Counted session.now layout.levels layout.objects layout.steps }
     ensures { result ≡ question2 session.now }
 {
+    let Layout {
+        levels,
+        objects,
+        steps,
+    } = layout;
     levels >= 1 && objects >= 1 && levels + objects + steps + 1 == session.len() / RECORD_BYTES
 }

@@ -24,18 +24,18 @@ pub slice_bounds-check-end-2 : goal.slice_bounds-check-end-2
 slice_bounds-check-end-2 c =
     let t = c.args.session.now in
     let masks = c.fill_masks.new.masks in
-    let l : c.args.levels ≤ length masks = omega (arith, few_levels t c.requires.session_value.1, c.requires.counted.levels_are, c.requires.max_levels_in_bounds, c.fill_masks.auto.masks) in
-    sym (length-take-le c.args.levels masks l)
+    let l : c.args.layout.levels ≤ length masks = omega (arith, few_levels t c.requires.session_value.1, c.requires.counted.levels_are, c.requires.max_levels_in_bounds, c.fill_masks.auto.masks) in
+    sym (length-take-le c.args.layout.levels masks l)
 
 pub returns-in_err-map_err : goal.returns-in_err-map_err
 returns-in_err-map_err c =
     let t = c.args.session.now in
     let p = err_from_is_err_and c.from_residual.result c.from_residual.ensures.1 in
     let (f, e, q) = told_no _ _ _ c.map_err.ensures.cases c.in_err-map_err.was in
-    rw (p.1, p.2, q) (table_refused t c.args.masks.now _ c.args.levels (kinds_rise_lem t c.requires.session_value.0) c.requires.counted.levels_are c.fill_masks.ensures f (sym c.check.ensures ∙ e))
+    rw (p.1, p.2, q) (table_refused t c.args.masks.now _ c.args.layout.levels (kinds_rise_lem t c.requires.session_value.0) c.requires.counted.levels_are c.fill_masks.ensures f (sym c.check.ensures ∙ e))
 
 pub returns : goal.returns
 returns c =
     let t = c.args.session.now in
-    table_passed t c.args.masks.now _ c.args.levels (kinds_rise_lem t c.requires.session_value.0) c.requires.counted.levels_are c.fill_masks.ensures
+    table_passed t c.args.masks.now _ c.args.layout.levels (kinds_rise_lem t c.requires.session_value.0) c.requires.counted.levels_are c.fill_masks.ensures
     (sym c.check.ensures ∙ told_yes _ _ c.map_err.ensures.cases c.in_ok-map_err.was) _ c.check_contents.ensures
