@@ -17,6 +17,14 @@ use session::Question;
 use session::limits::{MAX_LEVELS, MAX_RECORDS, RECORD_BYTES};
 use session_records::{Layout, kinds};
 
+// Why a session is not accepted: the first question that says no; and how many levels its level table has, 0 where
+// the table is not made.
+#[derive(Clone, Copy)]
+pub struct Refused {
+    pub question: Question,
+    pub levels: usize,
+}
+
 // Questions 6 to 8, of a session of which questions 2 and 3 said yes.
 fn check_contents(session: &[u8], layout: Layout) -> Result<(), Question>
     requires session_value { question2 session.now ≡ true }
@@ -87,28 +95,41 @@ fn is_whole(session: &[u8]) -> bool
     n / RECORD_BYTES <= MAX_RECORDS
 }
 
-// Checks a session: what questions 1 to 8 and 17 say of any bytes, of any length and content, and how many levels there
-// are where all say yes. Where 1 to 3 say yes the level table stands at the front of `masks` afterwards, whatever the
-// later ones say. Nothing else in `masks` changes.
-pub fn check_into(session: &[u8], masks: &mut [u16]) -> Result<usize, Question>
+// What refuses a session whose level table is not made.
+fn untabled(question: Question) -> Refused
+    ensures { (result.question ≡ question) × (result.levels ≡ 0) }
+{
+    Refused {
+        question,
+        levels: 0,
+    }
+}
+
+// Checks a session: what questions 1 to 8 and 17 say of any bytes, of any length and content, and how many levels its
+// level table has. Where 1 to 3 say yes the table stands at the front of `masks` afterwards, whatever the later ones
+// say. Nothing else in `masks` changes.
+pub fn check_into(session: &[u8], masks: &mut [u16]) -> Result<usize, Refused>
     requires { max_levels ≤ length masks.old }
     ensures { Checks session.now masks.old masks.new result }
 {
     if !is_whole(session) {
-        return Err(Question::Length);
+        return Err(untabled(Question::Length));
     }
     if !kinds::kinds_rise(session) {
-        return Err(Question::Kinds);
+        return Err(untabled(Question::Kinds));
     }
     let layout = kinds::count_kinds(session);
     if !kinds::are_present(session, layout) {
-        return Err(Question::Kinds);
+        return Err(untabled(Question::Kinds));
     }
     if !levels::are_numbered(session, layout) {
-        return Err(Question::Numbering);
+        return Err(untabled(Question::Numbering));
     }
-    check_levels(session, layout, masks)?;
-    Ok(layout.levels)
+    let levels = layout.levels;
+    match check_levels(session, layout, masks) {
+        Ok(()) => Ok(levels),
+        Err(question) => Err(Refused { question, levels }),
+    }
 }
 
 // Checks a session, for a caller that needs no level table: what questions 1 to 8 and 17 say of any
@@ -117,8 +138,10 @@ pub fn check(session: &[u8]) -> Result<(), Question>
     ensures { result ≡ verdict_of session.now }
 {
     let mut masks = [0u16; MAX_LEVELS];
-    check_into(session, &mut masks)?;
-    Ok(())
+    match check_into(session, &mut masks) {
+        Ok(_) => Ok(()),
+        Err(refused) => Err(refused.question),
+    }
 }
 
 // The documents' number of a question.

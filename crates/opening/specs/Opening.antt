@@ -1,18 +1,23 @@
 -- What every entry does before a run. Assumes nothing.
-use Rattle.std.specs.Prelude.{ℕ, ◌≡◌, Bool, List, ◌++◌, Result, length, drop}
-use Rattle.std.specs.Result.{result_map_both}
+use Rattle.std.specs.Prelude.{ℕ, ◌≡◌, Bool, List, ◌++◌, Result, Ok, Err, length, drop}
 use Rattle.session.specs.Parts.{level_count}
-use Rattle.session.specs.Questions.{verdict_of, Accepted}
+use Rattle.session.specs.Questions.{Verdict, verdict_of, Accepted}
 use Rattle.checks.specs.Checking.{table_made}
 use Rattle.calls.specs.Entries.{Request, entry_refusal}
 use Rattle.calls.specs.Refusals.{number_told, place_told}
 use Rattle.calls.specs.declared.Refusal.{Refusal}
+use Rattle.opening.specs.declared.Unopened.{Unopened}
 use Rattle.calls.specs.declared.Refusal.TheVariants.{Session}
 
--- Check's questions: what they say, with the count of levels where all say yes, and the table that the check makes in front of what was there. Law
+-- a verdict as that of an entry, with a count beside it
+abbrev pub opened_as : ℕ → Verdict → Result ℕ Unopened
+opened_as n (Ok u) = Ok n
+opened_as n (Err q) = Err (record { refusal = Session q; levels = n })
+
+-- Check's questions: what they say, with the count of levels of the table, and the table that the check makes in front of what was there. Law
 -- (`proofs/Laws/Opening`): where all say yes it is the session's level table (`opened`)
-pub record Opens (s before after : List ℕ) (r : Result ℕ Refusal) : Type 0 where
-  pub verdict : r ≡ result_map_both (λ u. length (table_made s)) Session (verdict_of s)
+pub record Opens (s before after : List ℕ) (r : Result ℕ Unopened) : Type 0 where
+  pub verdict : r ≡ opened_as (length (table_made s)) (verdict_of s)
   pub table : after ≡ table_made s ++ drop (length (table_made s)) before
 
 -- the first of Check's questions and 9 to 11 that says no, at place 0, or that all say yes, of any request of an accepted session with so many

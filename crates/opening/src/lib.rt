@@ -11,6 +11,22 @@ ghost use Rattle.opening.specs.Opening.{Opens, LentRefusal};
 use calls::Refusal;
 use model::{RESULT_BYTES, WORK_NUMBERS};
 
+// Why a session is not opened: what refuses the call; and how many levels its level table has, 0 where the table is
+// not made.
+#[derive(Clone, Copy)]
+pub struct Unopened {
+    pub refusal: Refusal,
+    pub levels: usize,
+}
+
+impl From<Unopened> for Refusal {
+    ghost from_gives = { λ unopened refusal. refusal ≡ unopened.refusal };
+
+    fn from(unopened: Unopened) -> Refusal {
+        unopened.refusal
+    }
+}
+
 // The documents' number of a refusal: that of the question that says no.
 pub fn number_of(refusal: Refusal) -> u32
     ensures { result ≡ number_of_refusal refusal }
@@ -38,14 +54,19 @@ pub fn place_of(refusal: Refusal) -> u32
     }
 }
 
-// Puts Check's questions of any bytes, and tells how many levels there are where all say yes. The session's level
-// table then stands at the front of `masks`.
-pub fn open(session: &[u8], masks: &mut [u16]) -> Result<usize, Refusal>
+// Puts Check's questions of any bytes, and tells how many levels the session's level table has. Where all say yes the
+// table stands at the front of `masks`.
+pub fn open(session: &[u8], masks: &mut [u16]) -> Result<usize, Unopened>
     requires { max_levels ≤ length masks.old }
     ensures { Opens session.now masks.old masks.new result }
 {
-    let levels = checks::check_into(session, masks).map_err(Refusal::Session)?;
-    Ok(levels)
+    match checks::check_into(session, masks) {
+        Ok(levels) => Ok(levels),
+        Err(refused) => Err(Unopened {
+            refusal: Refusal::Session(refused.question),
+            levels: refused.levels,
+        }),
+    }
 }
 
 // Question 10, of a work slice of so many numbers.

@@ -17,6 +17,7 @@ use Rattle.checks.specs.Checking.{table_made, question_of, counted, Checks}
 use Rattle.std.specs.Prelude.{Ok, Err, MatchResult}
 use Rattle.std.specs.Result.{IsErrAnd}
 use Rattle.session.specs.declared.Question.{Question}
+use Rattle.checks.specs.declared.Refused.{Refused}
 use Rattle.session.specs.declared.Question.TheVariants.{Length, Kinds, Numbering}
 use Rattle.session.proofs.Laws.Numbering.{masks_are}
 use Rattle.session.proofs.Laws.Verdict.{accepted}
@@ -66,20 +67,22 @@ told_no (Err f) (Err d) q t e = (f, refl, cc)
 
 -- no table is made where one of questions 1 to 3 says no, which then refuses
 module _ (s masks : List ℕ) where
-  unmade : (q : Question) → verdict_of s ≡ Err q → table_made s ≡ [] → Checks s masks masks (Err q)
-  unmade q i t = record { verdict = rw i refl; table = rw t refl }
+  unmade : (q : Question) (r : Refused) → verdict_of s ≡ Err q → table_made s ≡ [] → (r.question ≡ q) × (r.levels ≡ 0) → Checks s masks masks (Err r)
+  unmade q r i t e =
+      let is : r ≡ record { question = q; levels = 0 } = λ k. record { question = e.0 k; levels = e.1 k } in
+      record { verdict = rw (i, t) (ap Err is); table = rw t refl }
 
-  pub not_whole : question1 s ≡ false → Checks s masks masks (Err Length)
+  pub not_whole : question1 s ≡ false → (r : Refused) → (r.question ≡ Length) × (r.levels ≡ 0) → Checks s masks masks (Err r)
   unfolding table_made verdict_of first_no
-  not_whole q = unmade Length (rw q) (rw q)
+  not_whole q r = unmade Length r (rw q) (rw q)
 
-  pub not_kinds : question1 s ≡ true → question2 s ≡ false → Checks s masks masks (Err Kinds)
+  pub not_kinds : question1 s ≡ true → question2 s ≡ false → (r : Refused) → (r.question ≡ Kinds) × (r.levels ≡ 0) → Checks s masks masks (Err r)
   unfolding table_made verdict_of first_no
-  not_kinds p q = unmade Kinds (rw (p, q)) (rw (p, q))
+  not_kinds p q r = unmade Kinds r (rw (p, q)) (rw (p, q))
 
-  pub not_numbered : question1 s ≡ true → question2 s ≡ true → question3 s ≡ false → Checks s masks masks (Err Numbering)
+  pub not_numbered : question1 s ≡ true → question2 s ≡ true → question3 s ≡ false → (r : Refused) → (r.question ≡ Numbering) × (r.levels ≡ 0) → Checks s masks masks (Err r)
   unfolding table_made verdict_of first_no
-  not_numbered o p q = unmade Numbering (rw (o, p, q)) (rw (o, p, q))
+  not_numbered o p q r = unmade Numbering r (rw (o, p, q)) (rw (o, p, q))
 
 -- it is made where they say yes
 module _ (s : List ℕ) (o : question1 s ≡ true) (p : question2 s ≡ true) (q : question3 s ≡ true) where

@@ -13,7 +13,6 @@ use Rattle.session.specs.Program.{program_of}
 use Rattle.session.specs.Questions.{verdict_of, Verdict, Accepted, number_of_question, number_of_verdict}
 use Rattle.session.specs.declared.Question.{Question}
 use Rattle.session.specs.declared.Question.TheVariants.{Length, Kinds, Numbering, NotOrdered, NoJoin, NoMeet, Object, Script, Root}
-use Rattle.std.specs.Result.{result_map_both}
 use Rattle.checks.specs.Checking.{table_made}
 use Rattle.checks.proofs.Laws.Checked.{accepted_table, accepted_count}
 use Rattle.scripts.specs.Valid.{Leveled}
@@ -25,7 +24,8 @@ use Rattle.calls.specs.Refusals.{number_of_refusal, place_of_refusal}
 use Rattle.calls.specs.declared.Refusal.{Refusal}
 use Rattle.calls.specs.declared.Refusal.TheVariants.{Session, Clearance, ShortWork, ShortResult, Absent, Idle, Blocked, Unended, ShortPage}
 use Rattle.std.specs.Prelude.{Ok, Err}
-use Rattle.opening.specs.Opening.{Opens, LentRefusal}
+use Rattle.opening.specs.Opening.{opened_as, Opens, LentRefusal}
+use Rattle.opening.specs.declared.Unopened.{Unopened}
 
 -- questions 9 to 11 of a session with so many levels
 module _ (levels clearance : ℕ) (ten : Bool) (bytes : ℕ) where
@@ -58,14 +58,14 @@ pub record Table (s masks : List ℕ) (levels : ℕ) : Type 0 where
   pub leveled : Leveled s (take levels masks)
 
 -- a check that gave a count accepted the session
-counted_accepted : (v : Verdict) (n levels : ℕ) → Ok levels ≡ result_map_both {D = Refusal} (λ u. n) Session v → (v ≡ Accepted) × (levels ≡ n)
+counted_accepted : (v : Verdict) (n levels : ℕ) → Ok levels ≡ opened_as n v → (v ≡ Accepted) × (levels ≡ n)
 counted_accepted (Ok tt) n levels e = (refl, cc)
 counted_accepted (Err q) n levels e = cc
 
 -- and one that refused it gave the number and the place of the question
-refused_by : (v : Verdict) (n : ℕ) (r : Refusal) → Err r ≡ result_map_both (λ u. n) Session v → (number_of_verdict v ≡ number_of_refusal r) × (place_of_refusal r ≡ 0)
+refused_by : (v : Verdict) (n : ℕ) (r : Unopened) → Err r ≡ opened_as n v → (number_of_verdict v ≡ number_of_refusal r.refusal) × (place_of_refusal r.refusal ≡ 0)
 refused_by (Ok u) n r e = cc
-refused_by (Err q) n r e = let is : r ≡ Session q = cc in rw is (refl, refl)
+refused_by (Err q) n r e = let is : r ≡ record { refusal = Session q; levels = n } = cc in rw is (refl, refl)
 
 -- no question has the number 0
 question_some : (q : Question) → number_of_question q ≡ 0 → ⊥
@@ -110,11 +110,11 @@ module _ {s before after : List ℕ} where
       }
 
 -- one of them says no
-pub unopened : {before after : List ℕ} (ten : Bool) (q : Request) (r : Refusal) → Opens q.session before after (Err r) → (entry_refusal ten q ≡ number_of_refusal r) × (place_of_refusal r ≡ 0)
+pub unopened : {before after : List ℕ} (ten : Bool) (q : Request) (r : Unopened) → Opens q.session before after (Err r) → (entry_refusal ten q ≡ number_of_refusal r.refusal) × (place_of_refusal r.refusal ≡ 0)
 unfolding entry_refusal
 unopened ten q r o =
     let (i, p) = refused_by (verdict_of q.session) (length (table_made q.session)) r o.verdict in
-    (rw (i, ne_eqb (number_of_refusal r) 0 (number_some r)) refl, p)
+    (rw (i, ne_eqb (number_of_refusal r.refusal) 0 (number_some r.refusal)) refl, p)
 
 -- a run is not made where a question, 1 to 11, says no: nothing is touched
 pub record Refuses (ten : Bool) (q : Request) (of : model.Answer) : Type 0 where
@@ -138,5 +138,5 @@ module _ {ten : Bool} {q : Request} {of : model.Answer} (refuses : Refuses ten q
   answers_refusal r e p = rw p (sym (refuses.no (number_of_refusal r) e (number_some r)))
 
   -- 1 to 8
-  pub answers_unopened : {before after : List ℕ} (r : Refusal) → Opens q.session before after (Err r) → Answers of (number_of_refusal r) (place_of_refusal r) 0 q.work q.buffer
-  answers_unopened r o = let (e, p) = unopened ten q r o in answers_refusal r e p
+  pub answers_unopened : {before after : List ℕ} (r : Unopened) → Opens q.session before after (Err r) → Answers of (number_of_refusal r.refusal) (place_of_refusal r.refusal) 0 q.work q.buffer
+  answers_unopened r o = let (e, p) = unopened ten q r o in answers_refusal r.refusal e p

@@ -16,6 +16,7 @@ use Rattle.calls.specs.Refusals.{number_of_refusal, place_of_refusal}
 use Rattle.calls.specs.declared.Refusal.{Refusal}
 use Rattle.calls.specs.declared.Refusal.TheVariants.{ShortPage}
 use Rattle.opening.specs.Opening.{Opens}
+use Rattle.opening.specs.declared.Unopened.{Unopened}
 use Rattle.opening.proofs.Laws.Opening.{number_some, unopened}
 use Rattle.depth_first.specs.Runs.{bytes_shown, Shown}
 use Rattle.text.specs.Text.{page_of}
@@ -39,8 +40,8 @@ module _ (q : Request) (page : List ℕ) where
   answers_refusal r e = answers-no r (unfold page_refusal in rw (e, ne_eqb (number_of_refusal r) 0 (number_some r)) refl)
 
   -- 1 to 8
-  pub answers_unopened : {before after : List ℕ} (r : Refusal) → Opens q.session before after (Err r) → PageAnswers (paged q page) (Err r) q.buffer page
-  answers_unopened r o = let (e, p) = unopened true q r o in answers_refusal r e p
+  pub answers_unopened : {before after : List ℕ} (r : Unopened) → Opens q.session before after (Err r) → PageAnswers (paged q page) (Err r.refusal) q.buffer page
+  answers_unopened r o = let (e, p) = unopened true q r o in answers_refusal r.refusal e p
 
   module _ (yes : entry_refusal true q ≡ 0) where
     -- 16
