@@ -1,7 +1,7 @@
 // What an accepted session says: its objects, its methods and its root message.
 //
 // The check makes the level table, and `index_methods` the method index. With them each method below costs a few
-// reads: no record is searched for.
+// reads; only the count of objects is found by halving.
 #![tactic(auto)]
 
 ghost use Rattle.std.specs.Prelude.{◌≡◌, ◌++◌, ℕ, ◌+◌, ◌/◌, ◌%◌, ◌≤◌, ◌<◌, length, drop};

@@ -16,7 +16,7 @@ use session::Step;
 use session::limits::{FIELDS, FIRST_MADE, MADE_OBJECTS, MAX_METHOD, NAME_COUNT, REGISTERS};
 use session_records::{masks, places, record};
 
-// The objects of a session, and those that its levels can make: so many of each.
+// How many levels and objects a session has: its objects, and those that a level can make, have numbers.
 #[derive(Clone, Copy)]
 struct Numbers {
     levels: usize,

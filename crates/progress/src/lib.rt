@@ -1,4 +1,4 @@
-// How far a depth-first run has come, and what changes it: a CREATE or WITHDRAW, and the start of a manager.
+// How far a depth-first run has come: the start of a manager, and what a CREATE or WITHDRAW changes.
 #![tactic(auto)]
 
 mod writes;
