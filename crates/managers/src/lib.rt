@@ -39,7 +39,9 @@ pub struct Changed {
     pub change: Option<Change>,
 }
 
-// The core above the frames that wait, once no frame above the first is at its script's end.
+// The core above the frames that wait, once no frame above the first is at its script's end. Compiled into its
+// callers: a core that is handed on by its address would be stored whole after each script step.
+#[inline(always)]
 fn settled(core: Core, session: &Session, waiting: &[Waiting; MAX_WAITING]) -> Core
     requires { Lowering session.now.bytes.now session.now.index.now waiting.now core core }
     ensures { Settled session.now.bytes.now session.now.index.now waiting.now core result }

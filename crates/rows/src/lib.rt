@@ -27,7 +27,10 @@ fn put(words: &mut [u32], base: usize, count: usize, row: &[u32])
     let width = row.len();
     let at = base + width * place(words, base, width, count, row[0]);
     words.copy_within(at..base + width * count, at + width);
-    words[at..at + width].copy_from_slice(row);
+    // One word a turn: for `copy_from_slice` an archive for C would need `memmove` from outside.
+    for i in 0..width {
+        words[at + i] = row[i];
+    }
 }
 
 // Puts a row among `count` rows from `base` on, by its key, behind those of the same key, and keeps

@@ -1,11 +1,12 @@
--- Words moved up, and a row stored at a place: what the slice's own methods leave, said of the words. Assumes nothing.
-use Rattle.std.proofs.Common.{◌≡◌, ℕ, ◌+◌, ◌-◌, ◌≤◌, ◌<◌, List, ◌++◌, length, get_or, take, drop, ap, ◌∙◌, arith, length-drop}
+-- Words moved up, as the slice's own method leaves them, and a row stored at a place, one word a turn. Assumes nothing.
+use Rattle.std.proofs.Common.{◌≡◌, ℕ, ◌+◌, ◌-◌, ◌≤◌, ◌<◌, List, length, get_or, set, ap, ◌∙◌, arith}
+use lib.Seq.{get_or-set_same, get_or-set_other}
 use Rattle.std.specs.List.{CopiedTo, SameBelow, SameFrom}
-use Rattle.std.proofs.Math.Seq.{ext_get_or, length-take-le}
-use Rattle.std.proofs.lemmas.List.{get_or_append_left, get_or-append_right, get_or-drop, get_or-take}
-use borrow.Rule.Slice.PartMut.{post_of, put_mid, same_len_mid}
+use Rattle.std.proofs.Math.Seq.{ext_get_or}
 use Rattle.lists.specs.Outside.{Outside}
 use Rattle.lists.proofs.Laws.Lists.{length-tab, get_d_tab}
+use Rattle.lists.proofs.Laws.Outside.{outside_none, outside_set}
+use Rattle.lists.proofs.Laws.Rising.{less, same, more, order}
 use Rattle.rows.specs.Rows.{row_at}
 
 -- the words from a up to e stand `by` places higher
@@ -28,35 +29,34 @@ shifted_is ws ws' a e by h s c b f =
       outside = record { length_same = s; below = λ k l. b k 0 l; above = λ k l. f k 0 (omega arith) };
     }
 
--- n words from a place on are replaced by a row of as many
-pub stored_is : (ws : List ℕ) (at n : ℕ) (row : List ℕ) → n ≡ length row → at + length row ≤ length ws → Stored ws (put_mid at n ws row) at row
+-- the first i words of a row stand at a place
+pub record Storing (ws ws' : List ℕ) (at : ℕ) (row : List ℕ) (i : ℕ) : Type 0 where
+  pub stored : (k : ℕ) → k < i → get_or ws' (at + k) 0 ≡ get_or row k 0
+  pub outside : Outside ws ws' at (at + length row)
+
+pub store_none : (ws : List ℕ) (at : ℕ) (row : List ℕ) → Storing ws ws at row 0
+store_none ws at row = record { stored = λ k h. absurd (omega arith); outside = outside_none ws at (at + length row) }
+
+pub store_more : (ws ws' : List ℕ) (at : ℕ) (row : List ℕ) (i : ℕ) → i < length row → at + length row ≤ length ws
+    → Storing ws ws' at row i → Storing ws (set ws' (at + i) (get_or row i 0)) at row (i + 1)
+store_more ws ws' at row i l f s =
+    record {
+      stored = λ k h. elim (order k i) [
+        | less g ↦ get_or-set_other ws' (at + i) (at + k) (get_or row i 0) 0 (omega arith) ∙ s.stored k g
+        | same q ↦ rw q (get_or-set_same ws' (at + i) (get_or row i 0) 0 (omega (arith, s.outside.length_same)))
+        | more g ↦ absurd (omega arith)
+      ];
+      outside = outside_set ws ws' at (at + length row) (at + i) (get_or row i 0) (omega arith) (omega arith) s.outside;
+    }
+
+pub store_all : (ws ws' : List ℕ) (at : ℕ) (row : List ℕ) (i : ℕ) → i ≡ length row → Storing ws ws' at row i → Stored ws ws' at row
 unfolding row_at
-stored_is ws at n row e f =
-    let front = take at ws in
-    let back = post_of at n ws in
-    let ws' = put_mid at n ws row in
-    let r = length row in
-    let a : length front ≡ at = length-take-le at ws (omega arith) in
-    let m : length (take n (drop at ws)) ≡ n = length-take-le n (drop at ws) (omega (arith, length-drop at ws)) in
+store_all ws ws' at row i e s =
     record {
       stored =
-          ext_get_or 0 (row_at ws' at r) row (length-tab r (λ k. get_or ws' (at + k) 0))
+          ext_get_or 0 (row_at ws' at (length row)) row (length-tab (length row) (λ k. get_or ws' (at + k) 0))
           (λ k h.
-          let l : k < r = omega (arith, length-tab r (λ k. get_or ws' (at + k) 0)) in
-          let z : at + k - at ≡ k = omega arith in
-          get_d_tab 0 r (λ k. get_or ws' (at + k) 0) k l
-          ∙ get_or-append_right front (row ++ back) at (at + k) 0 a (omega arith)
-          ∙ ap (λ j. get_or (row ++ back) j 0) z
-          ∙ get_or_append_left row back 0 k l);
-      outside = record {
-        length_same = same_len_mid at n ws row (omega arith);
-        below = λ k h. get_or_append_left front (row ++ back) 0 k (omega arith) ∙ get_or-take at ws k 0 h;
-        above = λ k h.
-            let z : at + (n + (k - at - n)) ≡ k = omega arith in
-            get_or-append_right front (row ++ back) at k 0 a (omega arith)
-            ∙ get_or-append_right row back n (k - at) 0 (omega arith) (omega arith)
-            ∙ get_or-drop n (drop at ws) (k - at - n) 0
-            ∙ get_or-drop at ws (n + (k - at - n)) 0
-            ∙ ap (λ j. get_or ws j 0) z;
-      };
+          let l : k < length row = omega (arith, length-tab (length row) (λ k. get_or ws' (at + k) 0)) in
+          get_d_tab 0 (length row) (λ k. get_or ws' (at + k) 0) k l ∙ s.stored k (omega arith));
+      outside = s.outside;
     }
