@@ -1,6 +1,6 @@
 // What an accepted session says: its objects, its methods and its root message.
 //
-// The check makes the level table, and `index_methods` the method index. With them each method below costs a few
+// The check makes the level table, and `index_methods` the method index. With them each function below costs a few
 // reads; only the count of objects is found by halving.
 #![tactic(auto)]
 
@@ -70,6 +70,33 @@ pub fn index_methods(session: &[u8], index: &mut [u16])
     }
 }
 
+// The level of an object: one of the session's has it in its record, one that a level can make in its number.
+pub fn level_of(session: &[u8], masks: &[u16], object: usize) -> usize
+    requires { (verdict_of session.now ≡ Accepted) × (masks.now ≡ masks_of session.now) × Numbered session.now object }
+    ensures { result ≡ level_of session.now object }
+{
+    if object < FIRST_MADE {
+        record::byte_at(session, masks.len() + object, places::LEVEL) as usize
+    } else {
+        (object - FIRST_MADE) / MADE_OBJECTS
+    }
+}
+
+// What field `k` of an object of the session holds at first.
+pub fn field_of(session: &[u8], masks: &[u16], object: usize, k: usize) -> Value
+    requires { (verdict_of session.now ≡ Accepted) × (masks.now ≡ masks_of session.now) × (object < object_count session.now) × (k < fields) }
+    ensures { result ≡ field_of session.now object k }
+{
+    let r = masks.len() + object;
+    let mask = record::byte_at(session, r, places::FIELD_MASK);
+    if (mask >> k) % 2 == 1 {
+        let at = places::FIRST_FIELD + places::WORD_BYTES * k;
+        Some(record::word_at(session, r, at))
+    } else {
+        None
+    }
+}
+
 impl<'a> Session<'a> {
     // An accepted session with its level table, whose method index is written to the front of `index`.
     pub fn new(bytes: &'a [u8], masks: &'a [u16], index: &'a mut [u16]) -> Session<'a>
@@ -95,16 +122,12 @@ impl Session<'_> {
         kinds::count_kinds(self.bytes).objects
     }
 
-    // The level of an object: one of the session's has it in its record, one that a level can make in its number.
+    // The level of an object.
     pub fn level_of(&self, object: usize) -> usize
         requires { Numbered self.now.bytes.now object }
         ensures { result ≡ level_of self.now.bytes.now object }
     {
-        if object < FIRST_MADE {
-            record::byte_at(self.bytes, self.masks.len() + object, places::LEVEL) as usize
-        } else {
-            (object - FIRST_MADE) / MADE_OBJECTS
-        }
+        level_of(self.bytes, self.masks, object)
     }
 
     // What field `k` of an object of the session holds at first.
@@ -112,14 +135,7 @@ impl Session<'_> {
         requires { (object < object_count self.now.bytes.now) × (k < fields) }
         ensures { result ≡ field_of self.now.bytes.now object k }
     {
-        let r = self.masks.len() + object;
-        let mask = record::byte_at(self.bytes, r, places::FIELD_MASK);
-        if (mask >> k) % 2 == 1 {
-            let at = places::FIRST_FIELD + places::WORD_BYTES * k;
-            Some(record::word_at(self.bytes, r, at))
-        } else {
-            None
-        }
+        field_of(self.bytes, self.masks, object, k)
     }
 
     // Where the steps of a method stand, by its number: 16 times that of its object, and its name. A run that

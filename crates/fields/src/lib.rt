@@ -11,6 +11,7 @@ ghost use Rattle.session.specs.Meaning.{Numbered};
 ghost use Rattle.session.specs.Parts.{object_count};
 ghost use Rattle.session.specs.Program.{program_of};
 ghost use Rattle.scripts.specs.Existence.{existence, initially, is_there, is_unmade, used_of};
+ghost use Rattle.scripts.specs.Valid.{Leveled};
 ghost use Rattle.fields.specs.Limits.{field_words};
 ghost use Rattle.fields.specs.Fields.{field_at, script_in, existence_at_first, known_at, stored_in, FieldThere, FieldSet, Remembered, Forgotten, Filled};
 
@@ -140,12 +141,12 @@ pub fn first_existence(object: usize) -> Value
 }
 
 // What field `k` of an object holds at first: NIL, if it is none of the session's.
-pub fn first_field(session: &Session, object: usize, k: usize) -> Value
-    requires { Numbered session.now.bytes.now object × (k < fieldCount) }
-    ensures { result ≡ initially (program_of session.now.bytes.now) object k }
+pub fn first_field(session: &[u8], masks: &[u16], object: usize, k: usize) -> Value
+    requires { Leveled session.now masks.now × Numbered session.now object × (k < fieldCount) }
+    ensures { result ≡ initially (program_of session.now) object k }
 {
     if object < FIRST_MADE {
-        session.field_of(object, k)
+        contents::field_of(session, masks, object, k)
     } else {
         None
     }

@@ -6,6 +6,7 @@ ghost use Rattle.std.specs.Prelude.{ℕ, ◌≤◌, ◌<◌, ◌≡◌};
 ghost use Rattle.session.specs.Limits.{fields};
 ghost use Rattle.session.specs.Parts.{object_count};
 ghost use Rattle.scripts.specs.Existence.{existence};
+ghost use Rattle.scripts.specs.Valid.{Leveled};
 ghost use Rattle.level_state.specs.Representation.{words_of};
 ghost use Rattle.level_state.specs.Steps.{BoundReady, bound_in, ReadIs, ScriptIs, Readable, Named, ReadReady, Answered};
 
@@ -13,76 +14,79 @@ use contents::Session;
 use fields::values;
 use level_state::RunState;
 use session::Value;
+use tallies::Tallies;
 
 // The write stamp up to which the manager that runs at a level reads at level `j`, below: the one that it
 // carries from an ancestor there, or the end stamp of the largest smaller fork stamp there, or 0.
-fn bound_of(state: &RunState, level: usize, j: usize) -> u16
-    requires { BoundReady state.now.ended state.now.tallies state.now.queue level j }
-    ensures { (n : ℕ) → j < n → bound_in n state.now.ended state.now.tallies state.now.queue level j ≡ result }
+fn bound_of(ended: &[u32], tallies: &Tallies, queue: &[u32], level: usize, j: usize) -> u16
+    requires { BoundReady ended.now tallies.now queue.now level j }
+    ensures { (n : ℕ) → j < n → bound_in n ended.now tallies.now queue.now level j ≡ result }
 {
-    let i = state.tallies.ended(level);
-    let carried = queues::carried_at(&state.queue, level, i, j);
+    let i = tallies.ended(level);
+    let carried = queues::carried_at(queue, level, i, j);
     if carried != 0 {
         return carried;
     }
-    let stamp = queues::stamp_at(&state.queue, level, i);
-    histories::end_before(&state.ended, j, state.tallies.ended(j), stamp) as u16
+    let stamp = queues::stamp_at(queue, level, i);
+    histories::end_before(ended, j, tallies.ended(j), stamp) as u16
 }
 
 // What the manager that runs at a level reads of a field: at its level the newest version, which is the
 // current field; below the newest one up to its bound there.
 pub fn field_of(
-    session: &Session,
-    state: &RunState,
+    session: &[u8],
+    masks: &[u16],
+    current: &[u32],
+    ended: &[u32],
+    tallies: &Tallies,
+    queue: &[u32],
     work: &[u32],
     level: usize,
     object: u8,
     field: u8,
 ) -> Value
-    requires readable { Readable session.now.bytes.now (words_of state.now work.now) level }
-    requires named { Named session.now.bytes.now object field × (field < fields) }
-    ensures { ReadIs session.now.bytes.now (words_of state.now work.now) level object field result }
+    requires leveled { Leveled session.now masks.now }
+    requires readable { Readable session.now (record { current = current.now; ended = ended.now; tallies = tallies.now; queue = queue.now; work = work.now }) level }
+    requires named { Named session.now object field × (field < fields) }
+    ensures { ReadIs session.now (record { current = current.entry.now; ended = ended.now; tallies = tallies.now; queue = queue.now; work = work.now }) level object field result }
 {
-    let j = session.level_of(object as usize);
+    let j = contents::level_of(session, masks, object as usize);
     if j == level {
-        return fields::get(&state.current, object as usize, field as usize);
+        return fields::get(current, object as usize, field as usize);
     }
-    let initial = fields::first_field(session, object as usize, field as usize);
-    let bound = bound_of(state, level, j);
-    versions::newest_to(
-        work,
-        j,
-        state.tallies.versions(j),
-        bound,
-        object,
-        field,
-        initial,
-    )
+    let initial = fields::first_field(session, masks, object as usize, field as usize);
+    let bound = bound_of(ended, tallies, queue, level, j);
+    versions::newest_to(work, j, tallies.versions(j), bound, object, field, initial)
 }
 
 // What the manager that runs, or is about to start, at a level reads of the existence of an object. Where none was
 // written at the object's level it is still the first one.
 pub fn existence_of(
-    session: &Session,
-    state: &RunState,
+    session: &[u8],
+    masks: &[u16],
+    current: &[u32],
+    ended: &[u32],
+    tallies: &Tallies,
+    queue: &[u32],
     work: &[u32],
     level: usize,
     object: u8,
 ) -> Value
-    requires readable { Readable session.now.bytes.now (words_of state.now work.now) level }
-    requires named { Named session.now.bytes.now object existence }
-    ensures { ReadIs session.now.bytes.now (words_of state.now work.now) level object existence result }
+    requires leveled { Leveled session.now masks.now }
+    requires readable { Readable session.now (record { current = current.now; ended = ended.now; tallies = tallies.now; queue = queue.now; work = work.now }) level }
+    requires named { Named session.now object existence }
+    ensures { ReadIs session.now (record { current = current.entry.now; ended = ended.now; tallies = tallies.now; queue = queue.now; work = work.now }) level object existence result }
 {
-    let j = session.level_of(object as usize);
-    if j == level || state.tallies.is_level_unchanged(j) {
-        return fields::get(&state.current, object as usize, fields::EXISTENCE as usize);
+    let j = contents::level_of(session, masks, object as usize);
+    if j == level || tallies.is_level_unchanged(j) {
+        return fields::get(current, object as usize, fields::EXISTENCE as usize);
     }
     let initial = fields::first_existence(object as usize);
-    let bound = bound_of(state, level, j);
+    let bound = bound_of(ended, tallies, queue, level, j);
     versions::newest_to(
         work,
         j,
-        state.tallies.versions(j),
+        tallies.versions(j),
         bound,
         object,
         fields::EXISTENCE,
@@ -100,7 +104,17 @@ pub fn script_of(session: &Session, state: &RunState, work: &[u32], level: usize
     if state.tallies.is_unchanged() {
         return fields::reads::own_script(object as usize);
     }
-    let existence = existence_of(session, state, work, level, object);
+    let existence = existence_of(
+        session.bytes,
+        session.masks,
+        &state.current,
+        &state.ended,
+        &state.tallies,
+        &state.queue,
+        work,
+        level,
+        object,
+    );
     values::number_in(existence) as u8
 }
 
@@ -118,7 +132,18 @@ pub fn answer_read(
     requires read_ready { ReadReady session.now.bytes.now cache.old object field × (field < fields) }
     ensures { Answered session.now.bytes.now (words_of state.now work.now) cache.old cache.new level object field }
 {
-    let value = field_of(session, state, work, level, object, field);
+    let value = field_of(
+        session.bytes,
+        session.masks,
+        &state.current,
+        &state.ended,
+        &state.tallies,
+        &state.queue,
+        work,
+        level,
+        object,
+        field,
+    );
     fields::remember(cache, object as usize, field as usize, value);
 }
 
@@ -135,6 +160,16 @@ pub fn answer_existence(
     requires read_ready { ReadReady session.now.bytes.now cache.old object existence }
     ensures { Answered session.now.bytes.now (words_of state.now work.now) cache.old cache.new level object existence }
 {
-    let value = existence_of(session, state, work, level, object);
+    let value = existence_of(
+        session.bytes,
+        session.masks,
+        &state.current,
+        &state.ended,
+        &state.tallies,
+        &state.queue,
+        work,
+        level,
+        object,
+    );
     fields::remember(cache, object as usize, fields::EXISTENCE as usize, value);
 }

@@ -14,33 +14,34 @@ use cores::{Core, Effect};
 use level_state::RunState;
 use managers::Manager;
 use session::Message;
+use tallies::Tallies;
 
 // The manager that runs at a level, with this write stamp and so many forks made, forks a message at
 // level `above`.
 pub fn fork(
-    state: &mut RunState,
+    tallies: &mut Tallies,
+    queue: &mut [u32],
     level: usize,
     stamp: u16,
     forks: u8,
     above: usize,
     message: Message,
 )
-    requires { ForkReady state.old.tallies state.old.queue level forks above }
-    ensures forked { Forked state.old.tallies state.new.tallies state.old.queue state.new.queue level stamp forks above message }
-    ensures rest { (state.new.current ≡ state.old.current) × (state.new.ended ≡ state.old.ended) }
+    requires { ForkReady tallies.old queue.old level forks above }
+    ensures { Forked tallies.old tallies.new queue.old queue.new level stamp forks above message }
 {
-    let i = state.tallies.ended(level);
-    let depth = queues::depth_at(&state.queue, level, i);
-    let child = queues::child_stamp(queues::stamp_at(&state.queue, level, i), depth, forks);
-    let started = state.tallies.started(above);
-    let waiting = state.tallies.waiting(above);
+    let i = tallies.ended(level);
+    let depth = queues::depth_at(queue, level, i);
+    let child = queues::child_stamp(queues::stamp_at(queue, level, i), depth, forks);
+    let started = tallies.started(above);
+    let waiting = tallies.waiting(above);
     // A fork that is dropped changes nothing, and no row is made of it.
-    if queues::drops(&state.queue, above, started, waiting, child) {
+    if queues::drops(queue, above, started, waiting, child) {
         return;
     }
-    let row = queues::child_row(&state.queue, level, i, child, depth + 1, stamp, message);
-    let waiting = queues::arrive(&mut state.queue, above, started, waiting, &row);
-    state.tallies.set_waiting(above, waiting);
+    let row = queues::child_row(queue, level, i, child, depth + 1, stamp, message);
+    let waiting = queues::arrive(queue, above, started, waiting, &row);
+    tallies.set_waiting(above, waiting);
 }
 
 // What a script step of the manager that runs at a level did outside it. The manager started with write
@@ -79,7 +80,15 @@ pub fn perform(
             };
             let made = forks - 1;
             let stamp = first + made as u16;
-            fork(state, level, stamp, made, above as usize, message);
+            fork(
+                &mut state.tallies,
+                &mut state.queue,
+                level,
+                stamp,
+                made,
+                above as usize,
+                message,
+            );
         }
         _ => {}
     }

@@ -6,9 +6,9 @@ use Rattle.calls.specs.declared.Refusal.TheVariants.{Absent, Idle, Blocked, Unen
 use Rattle.permits.specs.declared.Permit.{Permit}
 use Rattle.permits.specs.declared.Permit.TheVariants as permit
 
--- a step that is not permitted ends a run, at its place
-abbrev pub refusal_at : Permit → ℕ → Result Unit Refusal
-refusal_at permit.Given place = Ok tt
+-- the place of a step that is permitted; one that is not ends a run, at its place
+abbrev pub refusal_at : Permit → ℕ → Result ℕ Refusal
+refusal_at permit.Given place = Ok place
 refusal_at permit.Absent place = Err (Absent place)
 refusal_at permit.Idle place = Err (Idle place)
 refusal_at permit.Blocked place = Err (Blocked place)

@@ -15,12 +15,12 @@ use level_state::RunState;
 use managers::Manager;
 use permits::Permit;
 
-// What questions 12 to 14 say of the step at a place.
-pub fn refused_at(permit: Permit, place: u32) -> Result<(), Refusal>
+// What questions 12 to 14 say of the step at a place. Where they permit it, the answer is its place.
+pub fn refused_at(permit: Permit, place: u32) -> Result<u32, Refusal>
     ensures { result ≡ refusal_at permit place }
 {
     match permit {
-        Permit::Given => Ok(()),
+        Permit::Given => Ok(place),
         Permit::Absent => Err(Refusal::Absent { place }),
         Permit::Idle => Err(Refusal::Idle { place }),
         Permit::Blocked => Err(Refusal::Blocked { place }),

@@ -34,7 +34,7 @@ pub fn run(
         let level = timetable[i] as usize;
         let permit = permits::ask(session.masks, &state.tallies, &state.queue, level);
         let Permit::Given = permit else {
-            return timetable_steps::refused_at(permit, i as u32);
+            return timetable_steps::refused_at(permit, i as u32).map(|_| ());
         };
         if !state.tallies.is_busy(level) {
             managers[level] = level_steps::start(session, state, work, level);

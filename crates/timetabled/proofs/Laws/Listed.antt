@@ -35,7 +35,7 @@ use Rattle.theorems.proofs.Laws.Order.Accepted.{sound}
 use Rattle.theorems.proofs.Laws.Order.PlainRun.{read_in_total}
 use Rattle.theorems.proofs.Laws.Invariant.Bounded.{total, step_less}
 use Rattle.theorems.proofs.Laws.Code.Progress.{allowed, run_made, run_stops, run_ends, run_unended}
-use Rattle.tallies.specs.Places.{busy_place, tally_numbers, unchanged, busy_in}
+use Rattle.tallies.specs.Places.{busy_place, unchanged, busy_in}
 use Rattle.level_state.specs.Representation.{Words, RunInvariant, placed}
 use Rattle.permits.specs.Permits.{number_of_permit, ended_of, permit_of, Askable}
 use Rattle.level_state.specs.Steps.{Tables, Readable, ReadReady, Answered, PerformReady, SettleReady, CoreSettled, Changing, ChangedBy, StepDone, StartReady, Started}
@@ -44,6 +44,7 @@ use Rattle.timetable_steps.specs.Refusals.{refusal_at, end_of}
 use Rattle.std.specs.Prelude.{Result, Ok, Err}
 use Rattle.calls.specs.declared.Refusal.{Refusal}
 use Rattle.calls.specs.declared.Refusal.TheVariants.{Unended}
+use Rattle.calls.specs.declared.Refusal.TheVariants as refusal
 use Rattle.permits.specs.declared.Permit.{Permit}
 use Rattle.permits.specs.declared.Permit.TheVariants.{Given, Absent, Idle, Blocked}
 use Rattle.level_state.proofs.Laws.Settle.{placed_own, placed_other}
@@ -219,16 +220,16 @@ module _ {s masks : List ℕ} (y : Leveled s masks) {ls : List ℕ} {d : code.Ma
       ]
 
   module _ (h : i < length ls) {p : Permit} (e : p ≡ permit_of masks w.tallies w.queue (get_or ls i 0)) where
-    -- the step is not permitted
-    pub list_refused : (p ≡ Given → ⊥) → (w' : Words) {r : Result Unit Refusal} → r ≡ refusal_at p i → Ends s ls w' r
-    list_refused z w' q =
-        rw q (at_place p z (steps_made_stops s y.accepted few ls i w (held_in managers d) g.steps_made masks y.masks_are long h p e z))
+    -- the step is not permitted, and the run ends with the refusal of its place
+    pub list_refused : (p ≡ Given → ⊥) → (w' : Words) {a : Result ℕ Refusal} {r : Result Unit Refusal} → a ≡ refusal_at p i → ((x : Refusal) → a ≡ Err x → r ≡ Err x) → Ends s ls w' r
+    list_refused z w' {a} {r} q same =
+        at_place p z (λ x n. same x (q ∙ n)) (steps_made_stops s y.accepted few ls i w (held_in managers d) g.steps_made masks y.masks_are long h p e z)
       where
-        at_place : (p : Permit) → (p ≡ Given → ⊥) → run_of (program_of s) (root_of s) ls ≡ refused (number_of_permit p) i → Ends s ls w' (refusal_at p i)
-        at_place Given z e = absurd (z refl)
-        at_place Absent z e = e
-        at_place Idle z e = e
-        at_place Blocked z e = e
+        at_place : (p : Permit) → (p ≡ Given → ⊥) → ((x : Refusal) → refusal_at p i ≡ Err x → r ≡ Err x) → run_of (program_of s) (root_of s) ls ≡ refused (number_of_permit p) i → Ends s ls w' r
+        at_place Given z same e = absurd (z refl)
+        at_place Absent z same e = rw (same (refusal.Absent i) refl) e
+        at_place Idle z same e = rw (same (refusal.Idle i) refl) e
+        at_place Blocked z same e = rw (same (refusal.Blocked i) refl) e
 
 -- the next step is permitted
 pub record Permitted (s masks index ls : List ℕ) (d : code.Manager) (w₀ w : Words) (managers : List code.Manager) (cache : List ℕ) (i : ℕ) : Type 0 where

@@ -36,7 +36,7 @@ pub returns-in_default : goal.returns-in_default
 returns-in_default c =
     let a = c.ask-permit in
     let l = c.loop-i in
-    (list_refused (leveled c.args.session.now) l.invariant c.loop-i-test.true a.ensures c.in_default.not-Given (words_of l.state l.work) c.refused_at.ensures, l.invariant.rest)
+    (list_refused (leveled c.args.session.now) l.invariant c.loop-i-test.true a.ensures c.in_default.not-Given (words_of l.state l.work) c.refused_at.ensures (λ x n. rw n at c.map.ensures.cases), l.invariant.rest)
 
 pub is_busy-requires : goal.is_busy-requires
 is_busy-requires c =
