@@ -12,6 +12,7 @@ pub fn nil() -> Value
 }
 
 // The sum of two values: NIL if either is NIL, or where it passes the greatest number, which is that of 32 bits.
+#[tactic(auto, using(crate::proofs::Laws::Values::checked_sum), unfolding(scripts::specs::Value::sum))]
 pub fn sum(x: Value, y: Value) -> Value
     ensures { result ≡ sum x y }
 {
