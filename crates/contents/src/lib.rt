@@ -97,6 +97,26 @@ pub fn field_of(session: &[u8], masks: &[u16], object: usize, k: usize) -> Value
     }
 }
 
+// The root message.
+pub fn root(session: &[u8]) -> Message
+    requires { verdict_of session.now ≡ Accepted }
+    ensures { result ≡ root_of session.now }
+{
+    let r = session.len() / RECORD_BYTES - 1;
+    let object = record::byte_at(session, r, places::OBJECT);
+    let name = record::byte_at(session, r, places::NAME);
+    let parameter = if record::byte_at(session, r, places::TAG) == places::NUMBER_TAG {
+        Some(record::word_at(session, r, places::PARAMETER))
+    } else {
+        None
+    };
+    Message {
+        object,
+        name,
+        parameter,
+    }
+}
+
 impl<'a> Session<'a> {
     // An accepted session with its level table, whose method index is written to the front of `index`.
     pub fn new(bytes: &'a [u8], masks: &'a [u16], index: &'a mut [u16]) -> Session<'a>
@@ -166,18 +186,6 @@ impl Session<'_> {
     pub fn root(&self) -> Message
         ensures { result ≡ root_of self.now.bytes.now }
     {
-        let r = self.bytes.len() / RECORD_BYTES - 1;
-        let object = record::byte_at(self.bytes, r, places::OBJECT);
-        let name = record::byte_at(self.bytes, r, places::NAME);
-        let parameter = if record::byte_at(self.bytes, r, places::TAG) == places::NUMBER_TAG {
-            Some(record::word_at(self.bytes, r, places::PARAMETER))
-        } else {
-            None
-        };
-        Message {
-            object,
-            name,
-            parameter,
-        }
+        root(self.bytes)
     }
 }

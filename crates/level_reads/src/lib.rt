@@ -96,24 +96,27 @@ pub fn existence_of(
 
 // Whose methods the manager that is about to start at a level runs: those of its message's object, by number. As
 // long as no existence was written it is the object's own.
-pub fn script_of(session: &Session, state: &RunState, work: &[u32], level: usize, object: u8) -> u8
-    requires readable { Readable session.now.bytes.now (words_of state.now work.now) level }
-    requires named { Named session.now.bytes.now object existence }
-    ensures { ScriptIs session.now.bytes.now (words_of state.now work.now) level object result × (result ≤ object_count session.now.bytes.now) }
+pub fn script_of(
+    session: &[u8],
+    masks: &[u16],
+    current: &[u32],
+    ended: &[u32],
+    tallies: &Tallies,
+    queue: &[u32],
+    work: &[u32],
+    level: usize,
+    object: u8,
+) -> u8
+    requires leveled { Leveled session.now masks.now }
+    requires readable { Readable session.now (record { current = current.now; ended = ended.now; tallies = tallies.now; queue = queue.now; work = work.now }) level }
+    requires named { Named session.now object existence }
+    ensures { ScriptIs session.now (record { current = current.entry.now; ended = ended.now; tallies = tallies.now; queue = queue.now; work = work.now }) level object result × (result ≤ object_count session.now) }
 {
-    if state.tallies.is_unchanged() {
+    if tallies.is_unchanged() {
         return fields::reads::own_script(object as usize);
     }
     let existence = existence_of(
-        session.bytes,
-        session.masks,
-        &state.current,
-        &state.ended,
-        &state.tallies,
-        &state.queue,
-        work,
-        level,
-        object,
+        session, masks, current, ended, tallies, queue, work, level, object,
     );
     values::number_in(existence) as u8
 }

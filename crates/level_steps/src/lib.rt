@@ -65,7 +65,16 @@ pub fn perform(
             value,
         } => {
             let stamp = first + forks as u16;
-            level_writes::write(state, work, level, stamp, object, field, value);
+            level_writes::write(
+                &mut state.current,
+                &mut state.tallies,
+                work,
+                level,
+                stamp,
+                object,
+                field,
+                value,
+            );
         }
         Effect::Fork {
             level: above,
@@ -138,7 +147,17 @@ pub fn start(session: &Session, state: &mut RunState, work: &[u32], level: usize
 {
     let message = queues::message_at(&state.queue, level, state.tallies.ended(level));
     let next = state.tallies.next(level) as u16;
-    let script = level_reads::script_of(session, state, work, level, message.object);
+    let script = level_reads::script_of(
+        session.bytes,
+        session.masks,
+        &state.current,
+        &state.ended,
+        &state.tallies,
+        &state.queue,
+        work,
+        level,
+        message.object,
+    );
     let m = Manager::start(session, level as u8, next, message, script);
     state.tallies.start(level);
     let core = m.core;

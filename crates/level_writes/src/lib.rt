@@ -14,10 +14,12 @@ use frames::Frame;
 use level_state::RunState;
 use managers::Manager;
 use session::Value;
+use tallies::Tallies;
 
 // A write takes effect.
 pub fn write(
-    state: &mut RunState,
+    current: &mut [u32],
+    tallies: &mut Tallies,
     work: &mut [u32],
     level: usize,
     stamp: u16,
@@ -25,14 +27,13 @@ pub fn write(
     field: u8,
     value: Value,
 )
-    requires { WriteReady state.old.current state.old.tallies work.old level object field }
-    ensures wrote { Wrote state.old.current state.new.current state.old.tallies state.new.tallies work.old work.new level stamp object field value }
-    ensures rest { (state.new.ended ≡ state.old.ended) × (state.new.queue ≡ state.old.queue) }
+    requires { WriteReady current.old tallies.old work.old level object field }
+    ensures { Wrote current.old current.new tallies.old tallies.new work.old work.new level stamp object field value }
 {
-    let count = state.tallies.versions(level);
-    fields::set(&mut state.current, object as usize, field as usize, value);
+    let count = tallies.versions(level);
+    fields::set(current, object as usize, field as usize, value);
     versions::append(work, level, count, stamp, object, field, value);
-    state.tallies.set_versions(level, count + 1);
+    tallies.set_versions(level, count + 1);
 }
 
 // The writes of a CREATE: the three fields of the made object, then that it is there, with the methods of a script.
@@ -52,12 +53,15 @@ fn write_made(
     ensures rest { (state.new.ended ≡ state.old.ended) × (state.new.queue ≡ state.old.queue) }
 {
     let existence = Some(script as u32);
-    state.tallies.change(level);
-    write(state, work, level, stamp, object, 0, first);
-    write(state, work, level, stamp, object, 1, second);
-    write(state, work, level, stamp, object, 2, third);
+    let current = &mut state.current;
+    let tallies = &mut state.tallies;
+    tallies.change(level);
+    write(current, tallies, work, level, stamp, object, 0, first);
+    write(current, tallies, work, level, stamp, object, 1, second);
+    write(current, tallies, work, level, stamp, object, 2, third);
     write(
-        state,
+        current,
+        tallies,
         work,
         level,
         stamp,
@@ -74,9 +78,12 @@ fn write_withdrawn(state: &mut RunState, work: &mut [u32], level: usize, stamp: 
     ensures rest { (state.new.ended ≡ state.old.ended) × (state.new.queue ≡ state.old.queue) }
 {
     let existence = Some(0);
-    state.tallies.change(level);
+    let current = &mut state.current;
+    let tallies = &mut state.tallies;
+    tallies.change(level);
     write(
-        state,
+        current,
+        tallies,
         work,
         level,
         stamp,

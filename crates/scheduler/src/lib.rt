@@ -3,6 +3,7 @@
 
 ghost use Rattle.std.specs.Prelude.{◌≡◌, option_copied};
 ghost use Rattle.session.specs.Meaning.{level_of, root_object};
+ghost use Rattle.scripts.specs.Valid.{Leveled};
 ghost use Rattle.calls.specs.Entries.{timetabled, plain as plainly, Answers};
 ghost use Rattle.calls.specs.Refusals.{number_told, place_told, count_told};
 ghost use Rattle.model.specs.Schedule.{initial_state};
@@ -97,19 +98,24 @@ fn run_accepted(
     Ok(show(session, &state, clearance, level, res))
 }
 
-// Runs a session that is opened: questions 9 to 15.
+// Runs a session that is opened, with its level table: questions 9 to 15. The method index is made after 9 to 11, so
+// a call that they refuse does not pay for it.
 fn run_opened(
-    session: &Session,
+    bytes: &[u8],
+    masks: &[u16],
     timetable: Option<&[u8]>,
     clearance: usize,
     work: &mut [u32],
     res: &mut [u8],
 ) -> Result<u32, Refusal>
-    ensures { Answers (timetabled (record { session = session.now.bytes.now; clearance = clearance; work = work.old; buffer = res.old }) (list_of session.now.bytes.now (option_copied timetable.entry))) (number_told result) (place_told result) (count_told result) work.new res.new }
+    requires { Leveled bytes.now masks.now }
+    ensures { Answers (timetabled (record { session = bytes.entry.now; clearance = clearance; work = work.old; buffer = res.old }) (list_of bytes.entry.now (option_copied timetable.entry))) (number_told result) (place_told result) (count_told result) work.new res.new }
 {
     let ten = opening::is_work(work.len());
-    opening::lent_refusal(session.masks.len(), clearance, ten, res.len())?;
-    run_accepted(session, timetable, clearance, work, res)
+    opening::lent_refusal(masks.len(), clearance, ten, res.len())?;
+    let mut index = [0u16; MAX_METHODS + 1];
+    let session = Session::new(bytes, masks, &mut index);
+    run_accepted(&session, timetable, clearance, work, res)
 }
 
 // Runs a session, by a timetable or plainly, and writes what a clearance is shown of it: Check's questions and
@@ -124,10 +130,8 @@ fn run_session(
     ensures { Answers (timetabled (record { session = bytes.entry.now; clearance = clearance; work = work.old; buffer = res.old }) (list_of bytes.entry.now (option_copied timetable.entry))) (number_told result) (place_told result) (count_told result) work.new res.new }
 {
     let mut masks = [0u16; MAX_LEVELS];
-    let mut index = [0u16; MAX_METHODS + 1];
     let levels = opening::open(bytes, &mut masks)?;
-    let session = Session::new(bytes, &masks[..levels], &mut index);
-    run_opened(&session, timetable, clearance, work, res)
+    run_opened(bytes, &masks[..levels], timetable, clearance, work, res)
 }
 
 // Runs a session by a timetable and writes what a clearance is shown of it: Check's questions and 9 to 15 of any
@@ -162,9 +166,8 @@ pub fn run_for_root(bytes: &[u8], work: &mut [u32], res: &mut [u8]) -> Result<u3
     ensures { Answers (plainly (record { session = bytes.entry.now; clearance = level_of bytes.entry.now (root_object bytes.entry.now); work = work.old; buffer = res.old })) (number_told result) (place_told result) (count_told result) work.new res.new }
 {
     let mut masks = [0u16; MAX_LEVELS];
-    let mut index = [0u16; MAX_METHODS + 1];
     let levels = opening::open(bytes, &mut masks)?;
-    let session = Session::new(bytes, &masks[..levels], &mut index);
-    let clearance = session.level_of(session.root().object as usize);
-    run_opened(&session, None, clearance, work, res)
+    let root = contents::root(bytes);
+    let clearance = contents::level_of(bytes, &masks[..levels], root.object as usize);
+    run_opened(bytes, &masks[..levels], None, clearance, work, res)
 }

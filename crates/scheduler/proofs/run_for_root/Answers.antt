@@ -13,19 +13,20 @@ returns-in_err-levels c =
     let o = rw c.in_err-levels.was at c.open.ensures in
     rw (p.1, p.2) (answers_unopened (plain_refuses (request c.args.bytes.now (level_of c.args.bytes.now (root_object c.args.bytes.now)) c.args.work.now c.args.res.now)) _ o)
 
-pub new-session-requires-clause-accepted : goal.new-session-requires-clause-accepted
-new-session-requires-clause-accepted c = (opened (rw c.in_ok-levels.was at c.open.ensures)).leveled.accepted
-
-pub new-session-requires-clause-masks_are : goal.new-session-requires-clause-masks_are
-new-session-requires-clause-masks_are c = (opened (rw c.in_ok-levels.was at c.open.ensures)).leveled.masks_are
+pub root-root-requires : goal.root-root-requires
+root-root-requires c = (opened (rw c.in_ok-levels.was at c.open.ensures)).leveled.accepted
 
 pub level_of-clearance-requires : goal.level_of-clearance-requires
-level_of-clearance-requires c = root_there c.new-session.result.bytes.now c.new-session.result.accepted c.root.result c.root.ensures
+level_of-clearance-requires c =
+    let t = (opened (rw c.in_ok-levels.was at c.open.ensures)).leveled in
+    (t.accepted, t.masks_are, root_there c.args.bytes.now t.accepted c.root-root.result c.root-root.ensures)
+
+pub run_opened-requires : goal.run_opened-requires
+run_opened-requires c = (opened (rw c.in_ok-levels.was at c.open.ensures)).leveled
 
 pub returns : goal.returns
 returns c =
     let r = c.run_opened in
     let s = c.args.bytes.now in
-    let cleared = c.level_of-clearance.ensures ∙ ap (λ m. level_of c.new-session.result.bytes.now m.object) c.root.ensures in
-    answered-root s c.level_of-clearance.result (level_of s (root_object s)) c.args.work.now c.args.res.now (number_told r.result) (place_told r.result) (count_told r.result) r.new.work r.new.res (rw c.new-session.ensures at cleared)
-    (answered-plain s c.level_of-clearance.result c.args.work.now c.args.res.now _ _ _ _ _ (rw c.new-session.ensures at r.ensures))
+    answered-root s c.level_of-clearance.result (level_of s (root_object s)) c.args.work.now c.args.res.now (number_told r.result) (place_told r.result) (count_told r.result) r.new.work r.new.res (c.level_of-clearance.ensures ∙ ap (λ m. level_of s m.object) c.root-root.ensures)
+    (answered-plain s c.level_of-clearance.result c.args.work.now c.args.res.now _ _ _ _ _ r.ensures)

@@ -11,8 +11,5 @@ returns-in_err-levels c =
     let o = rw c.in_err-levels.was at c.open.ensures in
     rw (p.1, p.2) (answers_unopened (timetabled_refuses (request c.args.bytes.now c.args.clearance c.args.work.now c.args.res.now) (list_of c.args.bytes.now (option_copied c.args.timetable))) _ o)
 
-pub new-session-requires-clause-accepted : goal.new-session-requires-clause-accepted
-new-session-requires-clause-accepted c = (opened (rw c.in_ok-levels.was at c.open.ensures)).leveled.accepted
-
-pub new-session-requires-clause-masks_are : goal.new-session-requires-clause-masks_are
-new-session-requires-clause-masks_are c = (opened (rw c.in_ok-levels.was at c.open.ensures)).leveled.masks_are
+pub run_opened-requires : goal.run_opened-requires
+run_opened-requires c = (opened (rw c.in_ok-levels.was at c.open.ensures)).leveled

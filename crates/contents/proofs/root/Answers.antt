@@ -4,27 +4,27 @@ use native.Mathlib.Omega.{arith}
 use Rattle.session.specs.Record.{record_at, record_count, number_of, name_of, parameter_of}
 use Rattle.session.proofs.Laws.Record.{parameter_number, parameter_nil}
 use Rattle.session.proofs.Laws.Contents.{counts, root_record_lem}
-use Rattle.contents.proofs.Session.root.Goals as goal
+use Rattle.contents.proofs.root.Goals as goal
 
 pub overflow_sub-r : goal.overflow_sub-r
-overflow_sub-r c = omega (arith, counts c.args.self.now.bytes.now c.args.self.now.accepted)
+overflow_sub-r c = omega (arith, counts c.args.session.now c.requires)
 
 pub byte_at-object-requires : goal.byte_at-object-requires
-byte_at-object-requires c = omega (arith, counts c.args.self.now.bytes.now c.args.self.now.accepted)
+byte_at-object-requires c = omega (arith, counts c.args.session.now c.requires)
 
 pub byte_at-name-requires : goal.byte_at-name-requires
-byte_at-name-requires c = omega (arith, counts c.args.self.now.bytes.now c.args.self.now.accepted)
+byte_at-name-requires c = omega (arith, counts c.args.session.now c.requires)
 
 pub byte_at-requires : goal.byte_at-requires
-byte_at-requires c = omega (arith, counts c.args.self.now.bytes.now c.args.self.now.accepted)
+byte_at-requires c = omega (arith, counts c.args.session.now c.requires)
 
 pub word_at-requires : goal.word_at-requires
-word_at-requires c = omega (arith, counts c.args.self.now.bytes.now c.args.self.now.accepted)
+word_at-requires c = omega (arith, counts c.args.session.now c.requires)
 
 pub returns-then-byte_at-eq-NUMBER_TAG : goal.returns-then-byte_at-eq-NUMBER_TAG
 returns-then-byte_at-eq-NUMBER_TAG c =
-    let t = c.args.self.now.bytes.now in
-    let there = sym (root_record_lem t c.args.self.now.accepted) in
+    let t = c.args.session.now in
+    let there = sym (root_record_lem t c.requires) in
     let object = c.byte_at-object.ensures ∙ ap number_of there in
     let name = c.byte_at-name.ensures ∙ ap name_of there in
     let parameter =
@@ -34,8 +34,8 @@ returns-then-byte_at-eq-NUMBER_TAG c =
 
 pub returns-else-byte_at-eq-NUMBER_TAG : goal.returns-else-byte_at-eq-NUMBER_TAG
 returns-else-byte_at-eq-NUMBER_TAG c =
-    let t = c.args.self.now.bytes.now in
-    let there = sym (root_record_lem t c.args.self.now.accepted) in
+    let t = c.args.session.now in
+    let there = sym (root_record_lem t c.requires) in
     let object = c.byte_at-object.ensures ∙ ap number_of there in
     let name = c.byte_at-name.ensures ∙ ap name_of there in
     let parameter = parameter_nil (record_at t (record_count t - 1)) (λ e. c.if-byte_at-eq-NUMBER_TAG.false (c.byte_at.ensures ∙ e)) ∙ ap parameter_of there in
