@@ -11,34 +11,35 @@ ghost use Rattle.level_state.specs.Representation.{words_of};
 ghost use Rattle.level_state.specs.Steps.{BoundReady, bound_in, ReadIs, ScriptIs, Readable, Named, ReadReady, Answered};
 
 use contents::Session;
+use counts::Counts;
 use fields::values;
 use level_state::RunState;
 use session::Value;
-use tallies::Tallies;
+use std::slice;
 
 // The write stamp up to which the manager that runs at a level reads at level `j`, below: the one that it
 // carries from an ancestor there, or the end stamp of the largest smaller fork stamp there, or 0.
-fn bound_of(ended: &[u32], tallies: &Tallies, queue: &[u32], level: usize, j: usize) -> u16
-    requires { BoundReady ended.now tallies.now queue.now level j }
-    ensures { (n : ℕ) → j < n → bound_in n ended.now tallies.now queue.now level j ≡ result }
+fn bound_of<C: Counts>(ended: &[u32], tallies: &[C], queue: &[u32], level: usize, j: usize) -> u16
+    requires { BoundReady ended.now (C.numbers tallies.now) queue.now level j }
+    ensures { (n : ℕ) → j < n → bound_in n ended.now (C.numbers tallies.now) queue.now level j ≡ result }
 {
-    let i = tallies.ended(level);
+    let i = C::ended(tallies, level);
     let carried = queues::carried_at(queue, level, i, j);
     if carried != 0 {
         return carried;
     }
     let stamp = queues::stamp_at(queue, level, i);
-    histories::end_before(ended, j, tallies.ended(j), stamp) as u16
+    histories::end_before(ended, j, C::ended(tallies, j), stamp) as u16
 }
 
 // What the manager that runs at a level reads of a field: at its level the newest version, which is the
 // current field; below the newest one up to its bound there.
-pub fn field_of(
+pub fn field_of<C: Counts>(
     session: &[u8],
     masks: &[u16],
     current: &[u32],
     ended: &[u32],
-    tallies: &Tallies,
+    tallies: &[C],
     queue: &[u32],
     work: &[u32],
     level: usize,
@@ -46,9 +47,9 @@ pub fn field_of(
     field: u8,
 ) -> Value
     requires leveled { Leveled session.now masks.now }
-    requires readable { Readable session.now (record { current = current.now; ended = ended.now; tallies = tallies.now; queue = queue.now; work = work.now }) level }
+    requires readable { Readable session.now (record { current = current.now; ended = ended.now; tallies = C.numbers tallies.now; queue = queue.now; work = work.now }) level }
     requires named { Named session.now object field × (field < fields) }
-    ensures { ReadIs session.now (record { current = current.entry.now; ended = ended.now; tallies = tallies.now; queue = queue.now; work = work.now }) level object field result }
+    ensures { ReadIs session.now (record { current = current.entry.now; ended = ended.now; tallies = C.numbers tallies.now; queue = queue.now; work = work.now }) level object field result }
 {
     let j = contents::level_of(session, masks, object as usize);
     if j == level {
@@ -56,29 +57,37 @@ pub fn field_of(
     }
     let initial = fields::first_field(session, masks, object as usize, field as usize);
     let bound = bound_of(ended, tallies, queue, level, j);
-    versions::newest_to(work, j, tallies.versions(j), bound, object, field, initial)
+    versions::newest_to(
+        work,
+        j,
+        C::versions(tallies, j),
+        bound,
+        object,
+        field,
+        initial,
+    )
 }
 
 // What the manager that runs, or is about to start, at a level reads of the existence of an object. Where none was
 // written at the object's level it is still the first one.
-pub fn existence_of(
+pub fn existence_of<C: Counts>(
     session: &[u8],
     masks: &[u16],
     current: &[u32],
     ended: &[u32],
-    tallies: &Tallies,
+    tallies: &[C],
     queue: &[u32],
     work: &[u32],
     level: usize,
     object: u8,
 ) -> Value
     requires leveled { Leveled session.now masks.now }
-    requires readable { Readable session.now (record { current = current.now; ended = ended.now; tallies = tallies.now; queue = queue.now; work = work.now }) level }
+    requires readable { Readable session.now (record { current = current.now; ended = ended.now; tallies = C.numbers tallies.now; queue = queue.now; work = work.now }) level }
     requires named { Named session.now object existence }
-    ensures { ReadIs session.now (record { current = current.entry.now; ended = ended.now; tallies = tallies.now; queue = queue.now; work = work.now }) level object existence result }
+    ensures { ReadIs session.now (record { current = current.entry.now; ended = ended.now; tallies = C.numbers tallies.now; queue = queue.now; work = work.now }) level object existence result }
 {
     let j = contents::level_of(session, masks, object as usize);
-    if j == level || tallies.is_level_unchanged(j) {
+    if j == level || C::is_level_unchanged(tallies, j) {
         return fields::get(current, object as usize, fields::EXISTENCE as usize);
     }
     let initial = fields::first_existence(object as usize);
@@ -86,7 +95,7 @@ pub fn existence_of(
     versions::newest_to(
         work,
         j,
-        tallies.versions(j),
+        C::versions(tallies, j),
         bound,
         object,
         fields::EXISTENCE,
@@ -96,23 +105,23 @@ pub fn existence_of(
 
 // Whose methods the manager that is about to start at a level runs: those of its message's object, by number. As
 // long as no existence was written it is the object's own.
-pub fn script_of(
+pub fn script_of<C: Counts>(
     session: &[u8],
     masks: &[u16],
     current: &[u32],
     ended: &[u32],
-    tallies: &Tallies,
+    tallies: &[C],
     queue: &[u32],
     work: &[u32],
     level: usize,
     object: u8,
 ) -> u8
     requires leveled { Leveled session.now masks.now }
-    requires readable { Readable session.now (record { current = current.now; ended = ended.now; tallies = tallies.now; queue = queue.now; work = work.now }) level }
+    requires readable { Readable session.now (record { current = current.now; ended = ended.now; tallies = C.numbers tallies.now; queue = queue.now; work = work.now }) level }
     requires named { Named session.now object existence }
-    ensures { ScriptIs session.now (record { current = current.entry.now; ended = ended.now; tallies = tallies.now; queue = queue.now; work = work.now }) level object result × (result ≤ object_count session.now) }
+    ensures { ScriptIs session.now (record { current = current.entry.now; ended = ended.now; tallies = C.numbers tallies.now; queue = queue.now; work = work.now }) level object result × (result ≤ object_count session.now) }
 {
-    if tallies.is_unchanged() {
+    if C::is_unchanged(tallies) {
         return fields::reads::own_script(object as usize);
     }
     let existence = existence_of(
@@ -140,7 +149,7 @@ pub fn answer_read(
         session.masks,
         &state.current,
         &state.ended,
-        &state.tallies,
+        slice::from_ref(&state.tallies),
         &state.queue,
         work,
         level,
@@ -168,7 +177,7 @@ pub fn answer_existence(
         session.masks,
         &state.current,
         &state.ended,
-        &state.tallies,
+        slice::from_ref(&state.tallies),
         &state.queue,
         work,
         level,

@@ -11,15 +11,16 @@ ghost use Rattle.level_state.specs.Steps.{parts_of, ForkReady, Forked, PerformRe
 
 use contents::Session;
 use cores::{Core, Effect};
+use counts::Counts;
 use level_state::RunState;
 use managers::Manager;
 use session::Message;
-use tallies::Tallies;
+use std::slice;
 
 // The manager that runs at a level, with this write stamp and so many forks made, forks a message at
 // level `above`.
-pub fn fork(
-    tallies: &mut Tallies,
+pub fn fork<C: Counts>(
+    tallies: &mut [C],
     queue: &mut [u32],
     level: usize,
     stamp: u16,
@@ -27,21 +28,21 @@ pub fn fork(
     above: usize,
     message: Message,
 )
-    requires { ForkReady tallies.old queue.old level forks above }
-    ensures { Forked tallies.old tallies.new queue.old queue.new level stamp forks above message }
+    requires { ForkReady (C.numbers tallies.old) queue.old level forks above }
+    ensures { Forked (C.numbers tallies.old) (C.numbers tallies.new) queue.old queue.new level stamp forks above message }
 {
-    let i = tallies.ended(level);
+    let i = C::ended(tallies, level);
     let depth = queues::depth_at(queue, level, i);
     let child = queues::child_stamp(queues::stamp_at(queue, level, i), depth, forks);
-    let started = tallies.started(above);
-    let waiting = tallies.waiting(above);
+    let started = C::started(tallies, above);
+    let waiting = C::waiting(tallies, above);
     // A fork that is dropped changes nothing, and no row is made of it.
     if queues::drops(queue, above, started, waiting, child) {
         return;
     }
     let row = queues::child_row(queue, level, i, child, depth + 1, stamp, message);
     let waiting = queues::arrive(queue, above, started, waiting, &row);
-    tallies.set_waiting(above, waiting);
+    C::set_waiting(tallies, above, waiting);
 }
 
 // What a script step of the manager that runs at a level did outside it. The manager started with write
@@ -67,7 +68,7 @@ pub fn perform(
             let stamp = first + forks as u16;
             level_writes::write(
                 &mut state.current,
-                &mut state.tallies,
+                slice::from_mut(&mut state.tallies),
                 work,
                 level,
                 stamp,
@@ -90,7 +91,7 @@ pub fn perform(
             let made = forks - 1;
             let stamp = first + made as u16;
             fork(
-                &mut state.tallies,
+                slice::from_mut(&mut state.tallies),
                 &mut state.queue,
                 level,
                 stamp,
@@ -152,7 +153,7 @@ pub fn start(session: &Session, state: &mut RunState, work: &[u32], level: usize
         session.masks,
         &state.current,
         &state.ended,
-        &state.tallies,
+        slice::from_ref(&state.tallies),
         &state.queue,
         work,
         level,

@@ -10,16 +10,17 @@ ghost use Rattle.level_state.specs.Steps.{WriteReady, Wrote, withdrawing, Change
 
 use changes::Change;
 use contents::Session;
+use counts::Counts;
 use frames::Frame;
 use level_state::RunState;
 use managers::Manager;
 use session::Value;
-use tallies::Tallies;
+use std::slice;
 
 // A write takes effect.
-pub fn write(
+pub fn write<C: Counts>(
     current: &mut [u32],
-    tallies: &mut Tallies,
+    tallies: &mut [C],
     work: &mut [u32],
     level: usize,
     stamp: u16,
@@ -27,13 +28,13 @@ pub fn write(
     field: u8,
     value: Value,
 )
-    requires { WriteReady current.old tallies.old work.old level object field }
-    ensures { Wrote current.old current.new tallies.old tallies.new work.old work.new level stamp object field value }
+    requires { WriteReady current.old (C.numbers tallies.old) work.old level object field }
+    ensures { Wrote current.old current.new (C.numbers tallies.old) (C.numbers tallies.new) work.old work.new level stamp object field value }
 {
-    let count = tallies.versions(level);
+    let count = C::versions(tallies, level);
     fields::set(current, object as usize, field as usize, value);
     versions::append(work, level, count, stamp, object, field, value);
-    tallies.set_versions(level, count + 1);
+    C::set_versions(tallies, level, count + 1);
 }
 
 // The writes of a CREATE: the three fields of the made object, then that it is there, with the methods of a script.
@@ -54,8 +55,8 @@ fn write_made(
 {
     let existence = Some(script as u32);
     let current = &mut state.current;
-    let tallies = &mut state.tallies;
-    tallies.change(level);
+    state.tallies.change(level);
+    let tallies = slice::from_mut(&mut state.tallies);
     write(current, tallies, work, level, stamp, object, 0, first);
     write(current, tallies, work, level, stamp, object, 1, second);
     write(current, tallies, work, level, stamp, object, 2, third);
@@ -79,8 +80,8 @@ fn write_withdrawn(state: &mut RunState, work: &mut [u32], level: usize, stamp: 
 {
     let existence = Some(0);
     let current = &mut state.current;
-    let tallies = &mut state.tallies;
-    tallies.change(level);
+    state.tallies.change(level);
+    let tallies = slice::from_mut(&mut state.tallies);
     write(
         current,
         tallies,
@@ -141,4 +142,25 @@ pub fn change(
     let change = made.change;
     write_change(state, work, level, stamp, top, change);
     made.manager
+}
+
+#[cfg(test)]
+mod tests {
+    use super::*;
+
+    // A caller may lend numbers of its own. Those of level 2 stand at 2 in each part of eight, and the versions
+    // are the fourth part.
+    #[test]
+    fn counts_in_numbers(rt: HostRuntime) {
+        let mut current = [0u32; 2080];
+        let mut tallies = [0usize; 49];
+        let mut work = [0u32; 8192];
+        tallies[26] = 4;
+        let stamp = 5;
+        let value = Some(7);
+        write(&mut current, &mut tallies, &mut work, 2, stamp, 3, 1, value);
+        let mut counted = [0usize; 49];
+        counted[26] = 5;
+        assert!(rt; tallies == counted);
+    }
 }

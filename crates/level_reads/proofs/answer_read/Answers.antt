@@ -5,3 +5,7 @@ use Rattle.level_reads.proofs.answer_read.Goals as goal
 pub remember-requires : goal.remember-requires
 remember-requires c =
     field_there c.args.session.now.accepted c.requires.read_ready.0
+
+pub returns : goal.returns
+returns c =
+    record { value = c.field_of-value.result; is = rw c.from_ref.ensures.value at c.field_of-value.ensures; kept = c.remember.ensures }
