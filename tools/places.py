@@ -69,7 +69,7 @@ show("1a types of the shape of Option or Result, or a flag with a value",
      matches(r"\b(enum|struct) (Value|Verdict|Found|Permit|RunEnd|Input|Change|Opened|Checked|Answer|PageAnswer)\b"))
 show("1b functions whose answer is a number that stands for a kind or a refusal, or for none",
      matches(r"\bfn (number_of\w*|ending_byte|lent_refusal|refused|untabled|tag_of|known_tag|answer_of|way_of|slot_of"
-             r"|join|least_below|least_upper|script_of)\("))
+             r"|join|least_below|least_upper|script_of)(?:<[^>]*>)?\("))
 show("1c a flag with a value beside it as parameters", named(("timetable", "listed"), ("into", "returns")))
 show("3a loops that count by hand (while)", matches(r"\bwhile\b"))
 show("3b loops over a range of numbers", matches(r"\bfor \w+ in .*\.\."))
