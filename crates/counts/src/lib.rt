@@ -4,6 +4,7 @@
 ghost use Rattle.std.specs.Prelude.{◌≡◌, ◌+◌, ◌≤◌, ◌<◌, ℕ, List, [], length, get_or, set};
 ghost use Rattle.session.specs.Limits.{max_levels};
 ghost use Rattle.model.specs.Limits.{max_managers};
+ghost use Rattle.counts.specs.Only.{only};
 ghost use Rattle.tallies.specs.Places.{tally_numbers, waiting_place, versions_place, busy_place, unchanged_at, unchanged};
 
 use session::limits::MAX_LEVELS;
@@ -109,9 +110,9 @@ impl Counts for usize {
     }
 }
 
-// What a run keeps is lent as a slice of one.
+// What a run keeps is lent as a slice of one: another has no numbers, so none of these may be asked of it.
 impl Counts for Tallies {
-    ghost numbers = { λ counts. get_or counts 0 [] };
+    ghost numbers = { only };
 
     fn ended(counts: &[Tallies], level: usize) -> usize {
         counts[0].ended(level)

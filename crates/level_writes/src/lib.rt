@@ -147,20 +147,39 @@ pub fn change(
 #[cfg(test)]
 mod tests {
     use super::*;
+    use fields::FIELD_WORDS;
+    use model::WORK_NUMBERS;
+    use session::limits::MAX_LEVELS;
 
-    // A caller may lend numbers of its own. Those of level 2 stand at 2 in each part of eight, and the versions
-    // are the fourth part.
+    // How many numbers a caller lends of its own: six for each level, and one.
+    const NUMBERS: usize = 6 * MAX_LEVELS + 1;
+
+    const LEVEL: usize = 2;
+
+    // Where the count of its versions stands, which is the fourth of them.
+    const AT: usize = 3 * MAX_LEVELS + LEVEL;
+
+    // A write counts one version more in a caller's numbers, and changes no other.
     #[test]
     fn counts_in_numbers(rt: HostRuntime) {
-        let mut current = [0u32; 2080];
-        let mut tallies = [0usize; 49];
-        let mut work = [0u32; 8192];
-        tallies[26] = 4;
+        let mut current = [0u32; FIELD_WORDS];
+        let mut tallies = [0usize; NUMBERS];
+        let mut work = [0u32; WORK_NUMBERS];
+        tallies[AT] = 4;
         let stamp = 5;
         let value = Some(7);
-        write(&mut current, &mut tallies, &mut work, 2, stamp, 3, 1, value);
-        let mut counted = [0usize; 49];
-        counted[26] = 5;
+        write(
+            &mut current,
+            &mut tallies,
+            &mut work,
+            LEVEL,
+            stamp,
+            3,
+            1,
+            value,
+        );
+        let mut counted = [0usize; NUMBERS];
+        counted[AT] = 5;
         assert!(rt; tallies == counted);
     }
 }
